@@ -1,0 +1,13 @@
+pub mod Access
+pub mod Buffers
+pub mod Equal
+pub mod Kinds
+pub mod Layout
+pub mod Memory
+pub mod Paths
+pub mod Refusals
+pub mod Same
+pub mod Size
+pub mod Types
+pub mod Values
+pub mod View

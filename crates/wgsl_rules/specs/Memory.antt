@@ -1,0 +1,116 @@
+-- The memory of a shader: cells with values, references to parts of them, and what each call on a
+-- reference answers and changes (WGSL: memory views; load rule; assignment statement).
+use Rattle.std.specs.Prelude.{◌≡◌, ℕ, zero, suc, List, [], ◌∷◌, ◌++◌, length, slice_get, Option, Some, None, Result, Ok, Err, if◌then◌else◌, IsOkAnd}
+use Rattle.wgsl_rules.specs.Access.{can_read, can_write}
+use Rattle.wgsl_rules.specs.Types.{Ty}
+use Rattle.wgsl_rules.specs.Values as values
+use Rattle.wgsl_rules.specs.Values.{Step, Reference, Val, type_of, IsStorable}
+use Rattle.wgsl_rules.specs.Refusals.{Refusal, not_read, not_write, write_ref_type, Outcome, and_then}
+use Rattle.wgsl_rules.specs.Paths.{or_refused, stepped, viewed, put_viewed, fits}
+use Rattle.wgsl_rules.specs.Layout.{HasLayout}
+use Rattle.wgsl_rules.specs.declared.syntax.AddressSpace.{AddressSpace}
+use Rattle.wgsl_rules.specs.declared.syntax.AccessMode.{AccessMode}
+
+-- the value that a reference names; a cell that is not there cannot be read
+abbrev pub held : List Val → Reference → Outcome Val
+held cells r = and_then (or_refused (slice_get cells r.cell) not_read) (viewed r.view)
+
+-- the cell of the reference is there, and its view leads to a value of its type
+abbrev pub IsKept : List Val → Reference → Type 0
+IsKept cells r = IsOkAnd (held cells r) (λ v. type_of v ≡ r.ty)
+
+-- what a cell may hold so far: a storable value of a type that has a layout
+abbrev pub IsCell : Val → Type 0
+IsCell v = IsStorable v × HasLayout (type_of v)
+
+-- each cell holds such a value
+abbrev pub IsSound : List Val → Type 0
+IsSound [] = Unit {0}
+IsSound (v ∷ vs) = IsCell v × IsSound vs
+
+abbrev pub AllKept : List Val → List Reference → Type 0
+AllKept cells [] = Unit {0}
+AllKept cells (r ∷ rs) = IsKept cells r × AllKept cells rs
+
+-- ---- the calls on a reference
+
+-- a reference to the whole of a new last cell
+abbrev pub whole_of_new : List Val → Val → AddressSpace → AccessMode → Reference
+whole_of_new cells v space access = record { cell = length cells; view = []; ty = type_of v; space = space; access = access }
+
+-- the value read
+abbrev pub read : List Val → Reference → Outcome Val
+read cells r = if can_read r.access then held cells r else Err not_read
+
+abbrev pub one_deeper : Reference → Step → Ty → Reference
+one_deeper r s t = record { cell = r.cell; view = r.view ++ s ∷ []; ty = t; space = r.space; access = r.access }
+
+-- a reference one step deeper, with the type of what is there
+abbrev pub deeper : List Val → Reference → Step → Outcome Reference
+deeper cells r s = and_then (read cells r) (λ v. and_then (stepped s v) (λ p. Ok (one_deeper r s (type_of p.1))))
+
+-- the cells with w in the place that the reference names
+abbrev pub put_cells : List Val → ℕ → List Step → Val → List Val
+put_cells [] cell steps w = []
+put_cells (v ∷ vs) zero steps w = put_viewed steps w v ∷ vs
+put_cells (v ∷ vs) (suc cell) steps w = v ∷ put_cells vs cell steps w
+
+-- the cells after a write, which is accepted where w fits the value that is there
+abbrev pub written : List Val → Reference → Val → Outcome (List Val)
+written cells r w =
+    if can_write r.access
+    then and_then (held cells r) (λ v. if fits w v then Ok (put_cells cells r.cell r.view w) else Err (write_ref_type (type_of w) r.ty))
+    else Err not_write
+
+-- ---- calls by handles
+
+-- the cells, and the reference of each handle
+pub record State : Type 0 where
+  pub cells : List Val
+  pub handles : List Reference
+
+pub data Call : Type 0 where
+  new : Val → AddressSpace → AccessMode → Call
+  member : ℕ → List ℕ → Call
+  index : ℕ → ℕ → Call
+  read_of : ℕ → Call
+  write : ℕ → Val → Call
+
+pub data Answer : Type 0 where
+  handle : ℕ → Answer
+  value : Val → Answer
+  done : Answer
+  no_handle : Answer
+  refused : Refusal → Answer
+
+pub record After : Type 0 where
+  pub state : State
+  pub answer : Answer
+
+-- a refusal changes nothing
+abbrev pub unchanged : State → Answer → After
+unchanged s a = record { state = s; answer = a }
+
+-- where the handle is there
+abbrev pub at_handle : State → ℕ → (Reference → After) → After
+at_handle s h f = elim (slice_get s.handles h) [ None ↦ unchanged s no_handle | Some r ↦ f r ]
+
+abbrev pub with_handle : State → List Val → Reference → After
+with_handle s cells r = record { state = record { cells = cells; handles = s.handles ++ r ∷ [] }; answer = handle (length s.handles) }
+
+abbrev pub or_unchanged : {A : Type 0} → State → Outcome A → (A → After) → After
+or_unchanged s (Ok x) f = f x
+or_unchanged s (Err e) f = unchanged s (refused e)
+
+-- one step of the memory
+abbrev pub step : State → Call → After
+step s (new v space access) = with_handle s (s.cells ++ v ∷ []) (whole_of_new s.cells v space access)
+step s (member h n) = at_handle s h (λ r. or_unchanged s (deeper s.cells r (values.member n)) (with_handle s s.cells))
+step s (index h i) = at_handle s h (λ r. or_unchanged s (deeper s.cells r (values.index i)) (with_handle s s.cells))
+step s (read_of h) = at_handle s h (λ r. or_unchanged s (read s.cells r) (λ v. unchanged s (value v)))
+step s (write h v) = at_handle s h (λ r. or_unchanged s (written s.cells r v) (λ cells. record { state = record { cells = cells; handles = s.handles }; answer = done }))
+
+-- the step, with its answer; or want of memory, which is no answer and changes nothing
+abbrev pub IsStep : State → Call → State → Option Answer → Type 0
+IsStep before call after None = after ≡ before
+IsStep before call after (Some a) = step before call ≡ record { state = after; answer = a }
