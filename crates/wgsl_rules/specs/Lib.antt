@@ -1,5 +1,6 @@
 pub mod Access
 pub mod Buffers
+pub mod Codes
 pub mod Equal
 pub mod Kinds
 pub mod Layout

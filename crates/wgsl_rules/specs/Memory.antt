@@ -6,14 +6,18 @@ use Rattle.wgsl_rules.specs.Types.{Ty}
 use Rattle.wgsl_rules.specs.Values as values
 use Rattle.wgsl_rules.specs.Values.{Step, Reference, Val, type_of, IsStorable}
 use Rattle.wgsl_rules.specs.Refusals.{Refusal, not_read, not_write, write_ref_type, Outcome, and_then}
-use Rattle.wgsl_rules.specs.Paths.{or_refused, stepped, viewed, put_viewed, fits}
+use Rattle.wgsl_rules.specs.Paths.{or_refused, viewed, put_viewed, fits}
 use Rattle.wgsl_rules.specs.Layout.{HasLayout}
 use Rattle.wgsl_rules.specs.declared.syntax.AddressSpace.{AddressSpace}
 use Rattle.wgsl_rules.specs.declared.syntax.AccessMode.{AccessMode}
 
--- the value that a reference names; a cell that is not there cannot be read
+-- what a view into a cell leads to; a cell that is not there cannot be read
+abbrev pub held_at : List Val → ℕ → List Step → Outcome Val
+held_at cells cell steps = and_then (or_refused (slice_get cells cell) not_read) (viewed steps)
+
+-- the value that a reference names
 abbrev pub held : List Val → Reference → Outcome Val
-held cells r = and_then (or_refused (slice_get cells r.cell) not_read) (viewed r.view)
+held cells r = held_at cells r.cell r.view
 
 -- the cell of the reference is there, and its view leads to a value of its type
 abbrev pub IsKept : List Val → Reference → Type 0
@@ -42,12 +46,16 @@ whole_of_new cells v space access = record { cell = length cells; view = []; ty 
 abbrev pub read : List Val → Reference → Outcome Val
 read cells r = if can_read r.access then held cells r else Err not_read
 
-abbrev pub one_deeper : Reference → Step → Ty → Reference
-one_deeper r s t = record { cell = r.cell; view = r.view ++ s ∷ []; ty = t; space = r.space; access = r.access }
+-- a reference that goes on by these steps, to what is of this type
+abbrev pub going_on : Reference → List Step → Ty → Reference
+going_on r steps t = record { cell = r.cell; view = r.view ++ steps; ty = t; space = r.space; access = r.access }
+
+abbrev pub deeper_by : List Val → Reference → List Step → Outcome Reference
+deeper_by cells r steps = and_then (read cells r) (λ v. and_then (viewed steps v) (λ x. Ok (going_on r steps (type_of x))))
 
 -- a reference one step deeper, with the type of what is there
 abbrev pub deeper : List Val → Reference → Step → Outcome Reference
-deeper cells r s = and_then (read cells r) (λ v. and_then (stepped s v) (λ p. Ok (one_deeper r s (type_of p.1))))
+deeper cells r s = deeper_by cells r (s ∷ [])
 
 -- the cells with w in the place that the reference names
 abbrev pub put_cells : List Val → ℕ → List Step → Val → List Val

@@ -1,0 +1,6 @@
+pub mod Calls
+pub mod Errors
+pub mod Parts
+pub mod References
+pub mod Rows
+pub mod View

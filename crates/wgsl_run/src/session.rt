@@ -1,0 +1,138 @@
+//! A shader's memory behind handles.
+
+use crate::call::{Call, Fault, Reply};
+use crate::error::Error;
+use crate::inst::Instance;
+use crate::reference::RefInstance;
+use crate::store::Store;
+use std::alloc::Global;
+use std::marker::Model;
+use wgsl_rules::{AccessMode, AddressSpace};
+
+/// A store, and the references that handles name, counted from 0.
+#[derive(Drop)]
+pub struct Session {
+    alloc: Global,
+    store: Store,
+    handles: Vec<RefInstance>,
+}
+
+impl Model for Session {
+    ghost use Rattle.std.specs.Prelude.{map};
+    ghost use Rattle.wgsl_rules.specs.Memory.{State, AllKept};
+    ghost use Rattle.wgsl_rules.specs.Codes.{state_code};
+    ghost use Rattle.wgsl_run.specs.References.{reference_of};
+
+    ghost Value = { State };
+
+    ghost coded = { state_code };
+
+    ghost view = { λ s. record { cells = s.store; handles = map reference_of s.handles.items } };
+
+    ghost invariant = { λ s. AllKept s.store (map reference_of s.handles.items) };
+}
+
+impl Session {
+    ghost use Rattle.std.specs.Prelude.{◌≡◌, [], option_map, slice_get, string_bytes};
+    ghost use Rattle.wgsl_rules.specs.Memory as memory;
+    ghost use Rattle.wgsl_rules.specs.Memory.{IsStep, IsCell};
+    ghost use Rattle.wgsl_rules.specs.Values.{IsStorable};
+    ghost use Rattle.wgsl_run.specs.View.{value_of};
+    ghost use Rattle.wgsl_run.specs.Calls.{IsSoundCall, call_of, answer_of};
+    ghost use Rattle.wgsl_run.specs.References.{reference_of};
+
+    /// A session without cells and handles; it takes no memory.
+    pub fn new(alloc: Global) -> Self
+        ensures { result ≡ record { cells = []; handles = [] } }
+    {
+        Session {
+            alloc,
+            store: Store::new(alloc),
+            handles: Vec::new(alloc),
+        }
+    }
+
+    /// The reference of a handle.
+    pub fn reference(&self, handle: usize) -> Option<&RefInstance>
+        ensures { option_map (λ r. reference_of r.now) result ≡ slice_get self.now.handles handle }
+    {
+        self.handles.get(handle)
+    }
+
+    /// Makes one call. The refusal `NoHandle` comes before all others. After a refusal, want of
+    /// memory too, nothing has changed.
+    pub fn call(&mut self, call: Call) -> Result<Reply, Fault>
+        requires { IsSoundCall (call_of call) }
+        ensures { IsStep self.old (call_of call) self.new (answer_of result) }
+    {
+        match call {
+            Call::New(value, space, access) => self.make(value, space, access),
+            Call::Member(handle, name) => self.member(handle, name),
+            Call::Index(handle, i) => self.index(handle, i),
+            Call::Read(handle) => self.read(handle),
+            Call::Write(handle, value) => self.write(handle, value),
+        }
+    }
+
+    // A cell with the value, and its handle.
+    fn make(
+        &mut self,
+        value: Instance,
+        space: AddressSpace,
+        access: AccessMode,
+    ) -> Result<Reply, Fault>
+        requires { IsCell (value_of value) }
+        ensures { IsStep self.old (memory.new (value_of value) space access) self.new (answer_of result) }
+    {
+        let handle = self.handles.len();
+        self.handles.reserve(1)?;
+        let reference = RefInstance::new(self.alloc, &mut self.store, value, space, access)?;
+        self.handles.push(reference).unwrap();
+        Ok(Reply::Handle(handle))
+    }
+
+    fn member(&mut self, handle: usize, name: String) -> Result<Reply, Fault>
+        ensures { IsStep self.old (memory.member handle (string_bytes name)) self.new (answer_of result) }
+    {
+        let made = self.handles.len();
+        let Some(reference) = self.handles.get(handle) else {
+            return Err(Fault::NoHandle);
+        };
+        let reference = reference.view_member(self.alloc, &self.store, name)?;
+        self.handles.push(reference)?;
+        Ok(Reply::Handle(made))
+    }
+
+    fn index(&mut self, handle: usize, i: usize) -> Result<Reply, Fault>
+        ensures { IsStep self.old (memory.index handle i) self.new (answer_of result) }
+    {
+        let made = self.handles.len();
+        let Some(reference) = self.handles.get(handle) else {
+            return Err(Fault::NoHandle);
+        };
+        let reference = reference.view_index(self.alloc, &self.store, i)?;
+        self.handles.push(reference)?;
+        Ok(Reply::Handle(made))
+    }
+
+    fn read(&self, handle: usize) -> Result<Reply, Fault>
+        ensures { IsStep self.now (memory.read_of handle) self.now (answer_of result) }
+    {
+        let Some(reference) = self.handles.get(handle) else {
+            return Err(Fault::NoHandle);
+        };
+        let value = reference.read(self.alloc, &self.store)?;
+        Ok(Reply::Value(value))
+    }
+
+    fn write(&mut self, handle: usize, value: Instance) -> Result<Reply, Fault>
+        requires { IsStorable (value_of value) }
+        ensures { IsStep self.old (memory.write handle (value_of value)) self.new (answer_of result) }
+    {
+        let Some(reference) = self.handles.get(handle) else {
+            return Err(Fault::NoHandle);
+        };
+        reference.write(self.alloc, &mut self.store, value)?;
+        Ok(Reply::Done)
+    }
+}
