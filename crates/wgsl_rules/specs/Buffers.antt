@@ -2,7 +2,7 @@
 -- (WGSL: internal layout of values).
 use Rattle.std.specs.Prelude.{◌≡◌, ℕ, zero, suc, ◌+◌, ◌-◌, ◌*◌, ◌^◌, ◌≤◌, ℤ, pos, List, [], ◌∷◌, map, length, slice_index, Option, Some, None, Bool, false, ◌&&◌, ◌||◌, nat_le, nat_lt, if◌then◌else◌}
 use Rattle.std.specs.List.{range_with_len}
-use Rattle.wgsl_rules.specs.Kinds.{Kind, bytes_of, modulo, floor_div, wrap}
+use Rattle.wgsl_rules.specs.Kinds.{bytes_of, modulo, floor_div, wrap}
 use Rattle.wgsl_rules.specs.Types.{Ty}
 use Rattle.wgsl_rules.specs.Values.{Val, number, atomic_of, deferred, type_of, IsStorable}
 use Rattle.wgsl_rules.specs.Paths.{value_at}

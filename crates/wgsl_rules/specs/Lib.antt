@@ -1,6 +1,7 @@
 pub mod Access
 pub mod Buffers
 pub mod Codes
+pub mod Conversion
 pub mod Equal
 pub mod Kinds
 pub mod Layout
@@ -9,6 +10,7 @@ pub mod Paths
 pub mod Refusals
 pub mod Same
 pub mod Size
+pub mod Text
 pub mod Types
 pub mod Values
 pub mod View

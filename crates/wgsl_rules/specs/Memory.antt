@@ -118,7 +118,11 @@ step s (index h i) = at_handle s h (λ r. or_unchanged s (deeper s.cells r (valu
 step s (read_of h) = at_handle s h (λ r. or_unchanged s (read s.cells r) (λ v. unchanged s (value v)))
 step s (write h v) = at_handle s h (λ r. or_unchanged s (written s.cells r v) (λ cells. record { state = record { cells = cells; handles = s.handles }; answer = done }))
 
--- the step, with its answer; or want of memory, which is no answer and changes nothing
+-- the state after a call and its answer are these; or memory could not be had, which is no answer and
+-- changes nothing
+abbrev pub IsReached : After → State → State → Option Answer → Type 0
+IsReached reached before after None = after ≡ before
+IsReached reached before after (Some a) = reached ≡ record { state = after; answer = a }
+
 abbrev pub IsStep : State → Call → State → Option Answer → Type 0
-IsStep before call after None = after ≡ before
-IsStep before call after (Some a) = step before call ≡ record { state = after; answer = a }
+IsStep before call after answer = IsReached (step before call) before after answer

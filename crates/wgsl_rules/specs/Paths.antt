@@ -1,6 +1,6 @@
 -- Where a part of a value is, and how a view leads there (WGSL: memory views; composite value
 -- decomposition expressions).
-use Rattle.std.specs.Prelude.{◌≡◌, ℕ, zero, suc, List, [], ◌∷◌, Bool, true, false, ◌&&◌, Option, Some, None, is_some, Result, Ok, Err, option_and_then, option_map, bytes_eq, if◌then◌else◌}
+use Rattle.std.specs.Prelude.{◌≡◌, ℕ, zero, suc, List, [], ◌∷◌, Bool, true, false, ◌&&◌, Option, Some, None, is_some, Ok, Err, option_and_then, option_map, bytes_eq, if◌then◌else◌}
 use Rattle.wgsl_rules.specs.Same.{same}
 use Rattle.wgsl_rules.specs.Types.{Ty, struct, Fields, no_fields, field}
 use Rattle.wgsl_rules.specs.Values.{Step, member, index, Val, record_of, array_of, vector, matrix, Vals, no_vals, val, count, item, type_of}

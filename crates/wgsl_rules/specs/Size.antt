@@ -1,7 +1,7 @@
 -- The size and the alignment of a type, and where the members of a struct stand
 -- (WGSL: alignment and size; structure member layout). Known so far: u32, its vectors, and structs
 -- of these without attributes; of any other type there is none.
-use Rattle.std.specs.Prelude.{ℕ, ◌+◌, ◌*◌, ◌^◌, max, Option, Some, None, List, [], ◌∷◌, Bool, true, false, nat_lt, nat_le, ◌==◌, ◌&&◌, if◌then◌else◌, is_none}
+use Rattle.std.specs.Prelude.{ℕ, ◌+◌, ◌*◌, ◌^◌, max, Option, Some, None, List, [], ◌∷◌, Bool, true, false, nat_lt, nat_le, ◌==◌, ◌&&◌, if◌then◌else◌}
 use Rattle.std.specs.Int.{next_multiple_of}
 use Rattle.wgsl_rules.specs.Types.{Ty, u32, struct, vec, Fields, no_fields, field}
 use Rattle.wgsl_rules.specs.View.{Field}

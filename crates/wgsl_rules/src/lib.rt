@@ -2,14 +2,19 @@
 #![tactic(auto)]
 
 mod clone;
+mod conv;
+mod display;
 mod eq;
 mod number;
 mod size;
 mod syntax;
+#[cfg(test)]
+mod tests;
 mod ty;
 
+pub use conv::{common_type_is_symmetric, conversion_rank, convert_all_ty, convert_ty};
 pub use syntax::{
-    AccessMode, AddressSpace, BinaryOperator, SampledType, SamplerType, ShaderStage, TexelFormat,
-    TextureType, UnaryOperator,
+    AccessMode, AddressSpace, BinaryOperator, Enumerant, SampledType, SamplerType, ShaderStage,
+    TexelFormat, TextureType, UnaryOperator,
 };
 pub use ty::{StructMemberType, StructType, Type};

@@ -112,6 +112,14 @@ pub enum SamplerType {
     SamplerComparison,
 }
 
+/// A word of the language that names a value of one of these (WGSL: enumeration types).
+#[derive(Clone, Copy, Debug, PartialEq, Eq)]
+pub enum Enumerant {
+    AccessMode(AccessMode),
+    AddressSpace(AddressSpace),
+    TexelFormat(TexelFormat),
+}
+
 /// An operator before its one operand.
 #[derive(Clone, Copy, Debug, PartialEq, Eq)]
 pub enum UnaryOperator {

@@ -1,6 +1,7 @@
 -- What values and lists of values of the program stand for.
-use Rattle.std.proofs.Common.{◌≡◌, ℕ, zero, suc, ◌<◌, ◌≤◌, List, [], ◌∷◌, length, get_or, Option, Some, None, refl, ap, arith, rules, String, Global, Box, string_bytes}
-use Rattle.wgsl_rules.specs.Values.{Step, member, index, record_of, vector, item, count}
+use Rattle.std.proofs.Common.{◌≡◌, ℕ, zero, suc, ◌<◌, ◌≤◌, List, [], ◌∷◌, length, get_or, set, Option, Some, None, refl, ap, subst, arith, rules, String, Global, Box, string_bytes}
+use Rattle.wgsl_rules.specs.Values.{Step, member, index, record_of, vector, item, count, type_of, first_type, Val, Vals, no_vals, val, IsStorable, AreStorable}
+use Rattle.wgsl_rules.specs.Paths.{replace_item}
 use Rattle.wgsl_rules.specs.View.{struct_view as struct_type_view}
 use Rattle.wgsl_run.specs.View.{vec_view, struct_view, value_of, vals_view, steps_of}
 use Rattle.wgsl_run.specs.declared.inst.Instance.{Instance, Struct, Vec, the_lemmas}
@@ -39,3 +40,24 @@ steps_of-Member n rest = search (rules, mem_lemmas)
 
 pub steps_of-Index : (i : ℕ) (rest : Box MemView Global) → steps_of (Index i rest) ≡ index i ∷ steps_of rest.value
 steps_of-Index i rest = search (rules, mem_lemmas)
+
+-- ---- the first part, and each
+
+pub first_type-at : (vs : List Instance) (d : Instance) → 1 ≤ length vs → first_type (vals_view vs) ≡ type_of (value_of (get_or vs 0 d))
+first_type-at [] d l = absurd (omega arith)
+first_type-at (v ∷ vs) d l = refl
+
+pub item-storable : (i : ℕ) (vs : Vals) (v : Val) → AreStorable vs → Some v ≡ item i vs → IsStorable v
+item-storable i no_vals v h e = absurd (cc)
+item-storable zero (val w ws) v h e = let same : w ≡ v = cc in subst IsStorable same h.0
+item-storable (suc i) (val w ws) v h e = item-storable i ws v h.1 e
+
+pub storable-at : (vs : List Instance) (i : ℕ) (d : Instance) → i < length vs → AreStorable (vals_view vs) → IsStorable (value_of (get_or vs i d))
+storable-at vs i d l h = item-storable i (vals_view vs) _ h (item_within vs i d l)
+
+-- ---- parts written in place
+
+pub vals_view-set : (vs : List Instance) (i : ℕ) (w : Instance) → vals_view (set vs i w) ≡ replace_item i (λ _. value_of w) (vals_view vs)
+vals_view-set [] i w = refl
+vals_view-set (v ∷ vs) zero w = refl
+vals_view-set (v ∷ vs) (suc i) w = ap (val (value_of v)) (vals_view-set vs i w)

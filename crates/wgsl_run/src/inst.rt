@@ -52,8 +52,8 @@ impl Instance {
                 Ok(Type::Struct(Box::new(alloc, ty)?))
             }
             Instance::Vec(v) => {
-                let component = Box::new(alloc, Type::U32)?;
-                Ok(Type::Vec(v.components.len() as u8, component))
+                let component = v.components[0].ty(alloc)?;
+                Ok(Type::Vec(v.components.len() as u8, Box::new(alloc, component)?))
             }
         }
     }
@@ -64,14 +64,14 @@ impl Instance {
         ensures { result ≡ same (type_of (value_of self.now)) (type_view ty.now) }
     {
         match self {
-            Instance::Literal(LiteralInstance::U32(_)) => matches!(ty, Type::U32),
+            Instance::Literal(LiteralInstance::U32(_)) => Type::U32.eq(ty),
             Instance::Struct(s) => match ty {
                 Type::Struct(other) => s.ty == **other,
                 _ => false,
             },
             Instance::Vec(v) => match ty {
                 Type::Vec(n, component) => {
-                    v.components.len() == usize::from(*n) && matches!(**component, Type::U32)
+                    v.components.len() == usize::from(*n) && v.components[0].has_ty(component)
                 }
                 _ => false,
             },

@@ -4,6 +4,7 @@
 mod buffer;
 mod call;
 mod clone;
+mod display;
 mod error;
 mod inst;
 mod mem;

@@ -35,7 +35,7 @@ impl Model for Session {
 impl Session {
     ghost use Rattle.std.specs.Prelude.{◌≡◌, [], option_map, slice_get, string_bytes};
     ghost use Rattle.wgsl_rules.specs.Memory as memory;
-    ghost use Rattle.wgsl_rules.specs.Memory.{IsStep, IsCell};
+    ghost use Rattle.wgsl_rules.specs.Memory.{IsStep, IsReached, IsCell, IsKept, with_handle};
     ghost use Rattle.wgsl_rules.specs.Values.{IsStorable};
     ghost use Rattle.wgsl_run.specs.View.{value_of};
     ghost use Rattle.wgsl_run.specs.Calls.{IsSoundCall, call_of, answer_of};
@@ -56,7 +56,7 @@ impl Session {
     pub fn reference(&self, handle: usize) -> Option<&RefInstance>
         ensures { option_map (λ r. reference_of r.now) result ≡ slice_get self.now.handles handle }
     {
-        self.handles.get(handle)
+        reference_at(&self.handles, handle)
     }
 
     /// Makes one call. The refusal `NoHandle` comes before all others. After a refusal, want of
@@ -91,48 +91,71 @@ impl Session {
         Ok(Reply::Handle(handle))
     }
 
+    // A handle of the reference.
+    fn add_handle(&mut self, reference: RefInstance) -> Result<Reply, Fault>
+        requires { IsKept self.old.cells (reference_of reference) }
+        ensures { IsReached (with_handle self.old self.old.cells (reference_of reference)) self.old self.new (answer_of result) }
+    {
+        let handle = self.handles.len();
+        self.handles.push(reference)?;
+        Ok(Reply::Handle(handle))
+    }
+
     fn member(&mut self, handle: usize, name: String) -> Result<Reply, Fault>
         ensures { IsStep self.old (memory.member handle (string_bytes name)) self.new (answer_of result) }
     {
-        let made = self.handles.len();
-        let Some(reference) = self.handles.get(handle) else {
+        let Some(reference) = reference_at(&self.handles, handle) else {
             return Err(Fault::NoHandle);
         };
-        let reference = reference.view_member(self.alloc, &self.store, name)?;
-        self.handles.push(reference)?;
-        Ok(Reply::Handle(made))
+        match reference.view_member(self.alloc, &self.store, name) {
+            Ok(made) => self.add_handle(made),
+            Err(error) => Err(Fault::Of(error)),
+        }
     }
 
     fn index(&mut self, handle: usize, i: usize) -> Result<Reply, Fault>
         ensures { IsStep self.old (memory.index handle i) self.new (answer_of result) }
     {
-        let made = self.handles.len();
-        let Some(reference) = self.handles.get(handle) else {
+        let Some(reference) = reference_at(&self.handles, handle) else {
             return Err(Fault::NoHandle);
         };
-        let reference = reference.view_index(self.alloc, &self.store, i)?;
-        self.handles.push(reference)?;
-        Ok(Reply::Handle(made))
+        match reference.view_index(self.alloc, &self.store, i) {
+            Ok(made) => self.add_handle(made),
+            Err(error) => Err(Fault::Of(error)),
+        }
     }
 
     fn read(&self, handle: usize) -> Result<Reply, Fault>
         ensures { IsStep self.now (memory.read_of handle) self.now (answer_of result) }
     {
-        let Some(reference) = self.handles.get(handle) else {
+        let Some(reference) = reference_at(&self.handles, handle) else {
             return Err(Fault::NoHandle);
         };
-        let value = reference.read(self.alloc, &self.store)?;
-        Ok(Reply::Value(value))
+        match reference.read(self.alloc, &self.store) {
+            Ok(value) => Ok(Reply::Value(value)),
+            Err(error) => Err(Fault::Of(error)),
+        }
     }
 
     fn write(&mut self, handle: usize, value: Instance) -> Result<Reply, Fault>
         requires { IsStorable (value_of value) }
         ensures { IsStep self.old (memory.write handle (value_of value)) self.new (answer_of result) }
     {
-        let Some(reference) = self.handles.get(handle) else {
+        let Some(reference) = reference_at(&self.handles, handle) else {
             return Err(Fault::NoHandle);
         };
-        reference.write(self.alloc, &mut self.store, value)?;
-        Ok(Reply::Done)
+        match reference.write(self.alloc, &mut self.store, value) {
+            Ok(()) => Ok(Reply::Done),
+            Err(error) => Err(Fault::Of(error)),
+        }
     }
+}
+
+ghost use Rattle.std.specs.Prelude.{◌≡◌, map, option_map, slice_get};
+ghost use Rattle.wgsl_run.specs.References.{reference_of};
+
+fn reference_at(handles: &Vec<RefInstance>, handle: usize) -> Option<&RefInstance>
+    ensures { option_map (λ r. reference_of r.now) result ≡ slice_get (map reference_of handles.now.items) handle }
+{
+    handles.get(handle)
 }

@@ -1,0 +1,147 @@
+//! Which types convert to which (WGSL: conversion rank).
+
+ghost use Rattle.std.specs.Prelude.{◌≡◌, is_some, option_map, map};
+ghost use Rattle.wgsl_rules.specs.Conversion.{
+  rank,
+  rank_from_int,
+  rank_from_float,
+  struct_rank,
+  common_type,
+  common_type_of,
+  CommonTypeIsSymmetric,
+};
+ghost use Rattle.wgsl_rules.specs.View.{type_view};
+
+use crate::ty::Type;
+
+/// How far `a` is from `b`, the less the nearer: 0 where they are equal or where `a` is a readable
+/// reference to `b`. `None` where `a` does not convert to `b`.
+pub fn conversion_rank(a: &Type, b: &Type) -> Option<u32>
+    ensures { result ≡ rank (type_view a.now) (type_view b.now) }
+{
+    if *a == *b {
+        return Some(0);
+    }
+    match a {
+        Type::AbstractInt => b.rank_from_int(),
+        Type::AbstractFloat => b.rank_from_float(),
+        Type::Ref(_, t, access) => (access.is_read() && **t == *b).then_some(0),
+        Type::Struct(s) => match b {
+            Type::Struct(t) => struct_rank(s.name.as_str(), t.name.as_str()),
+            _ => None,
+        },
+        Type::Array(t, n) => match b {
+            Type::Array(u, m) => if *n == *m {
+                conversion_rank(t, u)
+            } else {
+                None
+            },
+            _ => None,
+        },
+        Type::Vec(n, t) => match b {
+            Type::Vec(m, u) => if *n == *m {
+                conversion_rank(t, u)
+            } else {
+                None
+            },
+            _ => None,
+        },
+        Type::Mat(c, r, t) => match b {
+            Type::Mat(d, s, u) => if *c == *d && *r == *s {
+                conversion_rank(t, u)
+            } else {
+                None
+            },
+            _ => None,
+        },
+        Type::Bool | Type::I32 | Type::U32 | Type::F32 | Type::F16 => None,
+        Type::I64 | Type::U64 | Type::F64 | Type::Atomic(_) | Type::Ptr(_, _, _) => None,
+        Type::Texture(_) | Type::Sampler(_) => None,
+    }
+}
+
+// The rank of the structure `from` to the structure `to`, by their names alone.
+fn struct_rank(from: &str, to: &str) -> Option<u32>
+    ensures { result ≡ struct_rank from.now to.now }
+{
+    let from = from.as_bytes();
+    let to = to.as_bytes();
+    if !(from.starts_with(b"__") && from.ends_with(b"abstract")) {
+        return None;
+    }
+    if to.ends_with(b"f32") {
+        Some(1)
+    } else if to.ends_with(b"f16") {
+        Some(2)
+    } else {
+        None
+    }
+}
+
+impl Type {
+    // The rank of `AbstractInt` to this type.
+    fn rank_from_int(&self) -> Option<u32>
+        ensures { result ≡ rank_from_int (type_view self.now) }
+    {
+        match self {
+            Type::I32 => Some(3),
+            Type::U32 => Some(4),
+            Type::AbstractFloat => Some(5),
+            Type::F32 => Some(6),
+            Type::F16 => Some(7),
+            _ => None,
+        }
+    }
+
+    // The rank of `AbstractFloat` to this type.
+    fn rank_from_float(&self) -> Option<u32>
+        ensures { result ≡ rank_from_float (type_view self.now) }
+    {
+        match self {
+            Type::F32 => Some(1),
+            Type::F16 => Some(2),
+            _ => None,
+        }
+    }
+
+    /// Whether the [`conversion_rank`] of this type to the other exists.
+    pub fn is_convertible_to(&self, other: &Type) -> bool
+        ensures { result ≡ is_some (rank (type_view self.now) (type_view other.now)) }
+    {
+        conversion_rank(self, other).is_some()
+    }
+}
+
+/// The type that both convert to: `b` where `a` converts to it, else `a` where `b` converts to it,
+/// else `None`.
+pub fn convert_ty<'a>(a: &'a Type, b: &'a Type) -> Option<&'a Type>
+    ensures { option_map (λ t. type_view t.now) result
+        ≡ common_type (type_view a.now) (type_view b.now) }
+{
+    if a.is_convertible_to(b) {
+        Some(b)
+    } else if b.is_convertible_to(a) {
+        Some(a)
+    } else {
+        None
+    }
+}
+
+/// All the types taken together by [`convert_ty`], from the left. `None` where it is `None` on the
+/// way, and for the empty list.
+pub fn convert_all_ty(types: &[Type]) -> Option<&Type>
+    ensures { option_map (λ t. type_view t.now) result ≡ common_type_of (map type_view types.now) }
+{
+    let (first, rest) = types.split_first()?;
+    let mut common = first;
+    for ty in rest {
+        common = convert_ty(common, ty)?;
+    }
+    Some(common)
+}
+
+/// A law: [`convert_ty`] of two types gives a type in both orders or in neither. The call does
+/// nothing.
+pub fn common_type_is_symmetric()
+    ensures { CommonTypeIsSymmetric }
+{}
