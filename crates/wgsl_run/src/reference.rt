@@ -1,7 +1,7 @@
 //! References to parts of cells (WGSL: memory views; reference and pointer types).
 
 ghost use Rattle.std.specs.Prelude.{◌≡◌, ◌++◌, ◌∷◌, [], IfOk, IfErr, OnOk, OnErr, string_bytes};
-ghost use Rattle.wgsl_rules.specs.Memory.{IsCell, IsKept, whole_of_new, held, deeper, deeper_by, read, written};
+ghost use Rattle.wgsl_rules.specs.Memory.{IsCell, IsKept, whole_of_new, deeper, deeper_by, read, written};
 ghost use Rattle.wgsl_rules.specs.Values.{Reference, IsStorable, member, index};
 ghost use Rattle.wgsl_rules.specs.View.{type_view};
 ghost use Rattle.wgsl_run.specs.Errors.{Gives};
@@ -94,19 +94,18 @@ impl RefInstance {
         requires { IsKept store.now (reference_of self.now) }
         ensures { Gives value_of result (read store.now (reference_of self.now)) }
     {
+        Ok(self.lent(alloc, store)?.clone(alloc)?)
+    }
+
+    // The part as it lies in its cell, where it may be read.
+    fn lent<'a>(&self, alloc: Global, store: &'a Store) -> Result<&'a Instance, Error>
+        requires { IsKept store.now (reference_of self.now) }
+        ensures outcome { Gives (λ v. value_of v.now) result (read store.now (reference_of self.now)) }
+        ensures storable { IfOk result (λ v. IsStorable (value_of v.now)) }
+    {
         if !self.access.is_read() {
             return Err(Error::NotRead);
         }
-        let value = self.held(alloc, store)?;
-        Ok(value.clone(alloc)?)
-    }
-
-    // The part, as it lies in its cell.
-    fn held<'a>(&self, alloc: Global, store: &'a Store) -> Result<&'a Instance, Error>
-        requires { IsKept store.now (reference_of self.now) }
-        ensures outcome { Gives (λ v. value_of v.now) result (held store.now (reference_of self.now)) }
-        ensures storable { IfOk result (λ v. IsStorable (value_of v.now)) }
-    {
         store.cell(self.cell).view(alloc, &self.view)
     }
 
@@ -115,10 +114,7 @@ impl RefInstance {
         requires { IsKept store.now (reference_of self.now) }
         ensures { Gives reference_of result (deeper_by store.now (reference_of self.now) (steps_of last)) }
     {
-        if !self.access.is_read() {
-            return Err(Error::NotRead);
-        }
-        let part = self.held(alloc, store)?.view(alloc, &last)?;
+        let part = self.lent(alloc, store)?.view(alloc, &last)?;
         Ok(RefInstance {
             cell: self.cell,
             ty: part.ty(alloc)?,

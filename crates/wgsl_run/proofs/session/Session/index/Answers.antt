@@ -10,5 +10,5 @@ view_index-requires c = handle-kept _ _ c.args.handle _ c.self.invariant c.in-So
 pub add_handle-requires : goal.add_handle-requires
 add_handle-requires c =
     let kept : IsKept c.self.inside.store (reference_of c.in-Ok.made) =
-      deeper-kept c.self.inside.store (reference_of c.in-Some.reference.now) (reference_of c.in-Ok.made) (index c.args.i) c.in-Ok.ensures in
+    deeper-kept c.self.inside.store (reference_of c.in-Some.reference.now) (reference_of c.in-Ok.made) (index c.args.i) c.in-Ok.ensures in
     rw (← c.self.view_is) kept

@@ -16,6 +16,6 @@ invariant_of-self-2 c =
     let items = rw c.unwrap.ensures at c.push.ensures.items in
     let others = all_kept-after old new handles c.self.invariant c.in_ok-reference.ensures.kept in
     let added = subst (λ (cells : List Val). IsKept cells (whole_of_new old value c.args.space c.args.access)) (sym c.in_ok-reference.ensures.added)
-      (whole-kept old value c.args.space c.args.access) in
+    (whole-kept old value c.args.space c.args.access) in
     let whole = subst (λ (r : Reference). IsKept new r) (sym c.in_ok-reference.ensures.ok) added in
     rw (items, c.in_ok-reserve.ensures.items, map-append) (all_kept-push new handles (reference_of c.in_ok-reference.reference) others whole)

@@ -11,5 +11,5 @@ view_member-requires c = handle-kept _ _ c.args.handle _ c.self.invariant c.in-S
 pub add_handle-requires : goal.add_handle-requires
 add_handle-requires c =
     let kept : IsKept c.self.inside.store (reference_of c.in-Ok.made) =
-      deeper-kept c.self.inside.store (reference_of c.in-Some.reference.now) (reference_of c.in-Ok.made) (member (string_bytes c.args.name)) c.in-Ok.ensures in
+    deeper-kept c.self.inside.store (reference_of c.in-Some.reference.now) (reference_of c.in-Ok.made) (member (string_bytes c.args.name)) c.in-Ok.ensures in
     rw (← c.self.view_is) kept

@@ -4,7 +4,7 @@ use Rattle.wgsl_run.specs.View.{value_of, steps_of}
 use Rattle.wgsl_run.proofs.Heap.{sound-at, kept-within}
 use Rattle.wgsl_run.proofs.Outcomes.{gives-fact}
 use Rattle.wgsl_run.proofs.Steps.{viewed-storable}
-use Rattle.wgsl_run.proofs.reference.RefInstance.held.Goals as goal
+use Rattle.wgsl_run.proofs.reference.RefInstance.lent.Goals as goal
 
 pub view-requires : goal.view-requires
 view-requires c = (sound-at _ _ _ c.cell.ensures.sound c.cell.ensures.value).0
