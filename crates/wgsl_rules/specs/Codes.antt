@@ -99,8 +99,8 @@ TypeParts =
 abbrev pub type_parts_code : Coded TypeParts
 type_parts_code =
     coded⊎ (coded_four coded_ℕ (coded_list coded_ℕ) (coded_option coded_ℕ) coded_ℕ)
-      (coded⊎ (coded_four (coded× coded_ℕ coded_ℕ) coded_unit place_code place_code)
-        (coded_four (texture_type.the_row).coded (sampler_type.the_row).coded coded_unit field_code))
+    (coded⊎ (coded_four (coded× coded_ℕ coded_ℕ) coded_unit place_code place_code)
+    (coded_four (texture_type.the_row).coded (sampler_type.the_row).coded coded_unit field_code))
 
 -- what the token holds
 abbrev pub type_parts : TypeToken → TypeParts
@@ -339,8 +339,8 @@ ValParts =
 abbrev pub val_parts_code : Coded ValParts
 val_parts_code =
     coded⊎ (coded_four coded_bool (coded× kind_code coded_ℤ) ty_code coded_bool)
-      (coded⊎ (coded_four coded_unit coded_unit coded_unit reference_code)
-        (coded_four reference_code ty_code coded_unit coded_unit))
+    (coded⊎ (coded_four coded_unit coded_unit coded_unit reference_code)
+    (coded_four reference_code ty_code coded_unit coded_unit))
 
 -- what the token holds
 abbrev pub val_parts : ValToken → ValParts
@@ -485,4 +485,4 @@ val_code =
 abbrev pub state_code : Coded State
 state_code =
     code_by (List Val × List Reference) (coded× (coded_list val_code) (coded_list reference_code))
-      (λ s. (s.cells, s.handles)) (λ p. record { cells = p.0; handles = p.1 }) (λ _. refl)
+    (λ s. (s.cells, s.handles)) (λ p. record { cells = p.0; handles = p.1 }) (λ _. refl)

@@ -4,6 +4,7 @@ pub mod Codes
 pub mod Conversion
 pub mod Equal
 pub mod Kinds
+pub mod Laws
 pub mod Layout
 pub mod Memory
 pub mod Paths

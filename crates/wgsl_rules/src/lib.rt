@@ -5,6 +5,7 @@ mod clone;
 mod conv;
 mod display;
 mod eq;
+pub mod laws;
 mod number;
 mod size;
 mod syntax;

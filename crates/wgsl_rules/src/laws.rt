@@ -1,0 +1,20 @@
+//! Laws of views, of paths and of what stands at them. The calls do nothing.
+
+ghost use Rattle.wgsl_rules.specs.Laws.{ViewsLeadAlongTheirPaths, FitsTestsThePlace, APutIsHeld};
+
+/// A law: a view leads to the value at its path, and is refused where it has no path.
+pub fn views_lead_along_their_paths()
+    ensures { ViewsLeadAlongTheirPaths }
+{}
+
+/// A law: the test of a write tells whether a value fits the place of another: whether the two have
+/// one type, and values at the same paths.
+pub fn fits_tests_the_place()
+    ensures { FitsTestsThePlace }
+{}
+
+/// A law: what is put at the path of a view stands there, and no value at a path apart from it is
+/// changed.
+pub fn a_put_is_held()
+    ensures { APutIsHeld }
+{}
