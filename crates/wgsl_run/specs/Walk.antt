@@ -1,14 +1,15 @@
 -- The bytes of a value and the value of bytes, part by part, for the functions that write and read.
-use Rattle.std.specs.Prelude.{ℕ, zero, suc, pos, ◌+◌, ◌*◌, ◌-◌, List, [], ◌++◌, replicate, Option, Some, is_some, IsTrue}
+use Rattle.std.specs.Prelude.{ℕ, zero, suc, pos, ◌+◌, ◌-◌, List, [], ◌++◌, replicate, Option, Some, is_some, IsTrue}
 use Rattle.std.specs.Int.{to_le_bytes, w32}
 use Rattle.wgsl_rules.specs.Kinds as kinds
 use Rattle.wgsl_rules.specs.Kinds.{wrap}
-use Rattle.wgsl_rules.specs.Types.{Ty, u32, struct, vec, Fields, no_fields, field}
+use Rattle.wgsl_rules.specs.Types.{Ty, struct, vec, Fields, no_fields, field}
 use Rattle.wgsl_rules.specs.Values.{Val, number, record_of, vector, Vals, no_vals, val, type_of, IsStorable}
 use Rattle.wgsl_rules.specs.Size.{end_of_members, extents}
 use Rattle.wgsl_rules.specs.Layout.{HasLayout, amount, size, place_after}
 use Rattle.wgsl_rules.specs.Buffers.{number_from}
 
+-- the bytes of a value of a type that has a layout
 abbrev mutual
   pub encode : Val → List ℕ
   encode (number k (pos n)) = to_le_bytes w32 n
@@ -16,6 +17,7 @@ abbrev mutual
   encode (vector vs) = encode_all vs
   encode v = []
 
+  -- of values one right after another
   pub encode_all : Vals → List ℕ
   encode_all no_vals = []
   encode_all (val v vs) = encode v ++ encode_all vs
@@ -31,10 +33,11 @@ abbrev mutual
   members_end end no_vals = end
   members_end end (val v vs) = members_end (place_after end (type_of v) + size (type_of v)) vs
 
--- what can be written
+-- a value that can be written
 abbrev pub IsLaid : Val → Type 0
 IsLaid v = HasLayout (type_of v) × IsStorable v
 
+-- each of these can
 abbrev pub AreLaid : Vals → Type 0
 AreLaid no_vals = Unit {0}
 AreLaid (val v vs) = IsLaid v × AreLaid vs
@@ -43,6 +46,7 @@ AreLaid (val v vs) = IsLaid v × AreLaid vs
 abbrev pub members_after : ℕ → Fields → Option ℕ
 members_after end fs = end_of_members (Some end) (extents fs)
 
+-- of members whose end is known
 abbrev pub fields_end : ℕ → Fields → ℕ
 fields_end end fs = amount (members_after end fs)
 
@@ -66,6 +70,7 @@ abbrev mutual
   decode (struct name fs) b o = record_of (struct name fs) (decode_members fs b o 0)
   decode t b o = word b o
 
+  -- the values of the members that follow what ends at `end`, in a struct that begins at `o`
   pub decode_members : Fields → List ℕ → ℕ → ℕ → Vals
   decode_members no_fields b o end = no_vals
   decode_members (field name t s a fs) b o end =

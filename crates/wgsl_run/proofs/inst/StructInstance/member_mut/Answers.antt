@@ -1,7 +1,7 @@
 use Rattle.std.proofs.Common.{rules, refl, ◌∙◌, Option, Some, None}
 use Rattle.std.specs.Option.{OnSome}
 use Rattle.wgsl_run.specs.declared.inst.Instance.{the_lemmas}
-use Rattle.wgsl_run.proofs.Written.{struct_view-with, named-value}
+use Rattle.wgsl_run.proofs.MemberWritten.{struct_view-with, named-value}
 use Rattle.wgsl_run.proofs.inst.StructInstance.member_mut.Goals as goal
 
 on_some : {T : Type 0} {P : Type 0} → (o : Option T) → P → OnSome o P
