@@ -1,6 +1,6 @@
 -- The memory of a shader: cells with values, references to parts of them, and what each call on a
 -- reference answers and changes (WGSL: memory views; load rule; assignment statement).
-use Rattle.std.specs.Prelude.{◌≡◌, ℕ, zero, suc, List, [], ◌∷◌, ◌++◌, length, slice_get, Option, Some, None, Result, Ok, Err, if◌then◌else◌, IsOkAnd}
+use Rattle.std.specs.Prelude.{◌≡◌, ℕ, zero, suc, List, [], ◌∷◌, ◌++◌, length, slice_get, Option, Some, None, Ok, Err, if◌then◌else◌, IsOkAnd}
 use Rattle.wgsl_rules.specs.Access.{can_read, can_write}
 use Rattle.wgsl_rules.specs.Types.{Ty}
 use Rattle.wgsl_rules.specs.Values as values

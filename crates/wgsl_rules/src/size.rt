@@ -31,6 +31,11 @@ pub(crate) struct Extent {
     pub(crate) align: Option<u32>,
 }
 
+const UNKNOWN: Extent = Extent {
+    size: None,
+    align: None,
+};
+
 fn is_component_count(n: u8) -> bool
     ensures { result ≡ is_component_count n }
 {
@@ -60,38 +65,41 @@ impl Type {
     /// the size, or the place of a part, passes 4294967295.
     ///
     /// Known are `u32`, vectors of 2 to 4 `u32`, and structures without attributes of these.
-    #[cycle(sizes)]
     pub fn size_of(&self) -> Option<u32>
         ensures { result ≡ size_of (type_view self.now) }
     {
-        match self {
-            Type::U32 => Some(4),
-            Type::Vec(n, ty) => ty.vec_size(*n),
-            Type::Struct(ty) => ty.size_of(),
-            Type::Bool | Type::AbstractInt | Type::AbstractFloat | Type::I32 => None,
-            Type::F32 | Type::F16 | Type::I64 | Type::U64 | Type::F64 => None,
-            Type::Array(_, _) | Type::Mat(_, _, _) | Type::Atomic(_) => None,
-            Type::Ptr(_, _, _) | Type::Ref(_, _, _) => None,
-            Type::Texture(_) | Type::Sampler(_) => None,
-        }
+        self.extent().size
     }
 
     /// The number that the address of a value of the type is a multiple of, in bytes; `None` where
     /// it is not known. Known for the types of [`Type::size_of`], those among them that are too
     /// large included.
-    #[cycle(sizes)]
     pub fn align_of(&self) -> Option<u32>
         ensures { result ≡ align_of (type_view self.now) }
     {
+        self.extent().align
+    }
+
+    // Size and alignment in one go down the type: each of them alone needs both of its parts.
+    #[cycle(sizes)]
+    fn extent(&self) -> Extent
+        ensures { result ≡ record { size = size_of (type_view self.now); align = align_of (type_view self.now) } }
+    {
         match self {
-            Type::U32 => Some(4),
-            Type::Vec(n, ty) => ty.vec_align(*n),
-            Type::Struct(ty) => ty.align_of(),
-            Type::Bool | Type::AbstractInt | Type::AbstractFloat | Type::I32 => None,
-            Type::F32 | Type::F16 | Type::I64 | Type::U64 | Type::F64 => None,
-            Type::Array(_, _) | Type::Mat(_, _, _) | Type::Atomic(_) => None,
-            Type::Ptr(_, _, _) | Type::Ref(_, _, _) => None,
-            Type::Texture(_) | Type::Sampler(_) => None,
+            Type::U32 => Extent {
+                size: Some(4),
+                align: Some(4),
+            },
+            Type::Vec(n, ty) => Extent {
+                size: ty.vec_size(*n),
+                align: ty.vec_align(*n),
+            },
+            Type::Struct(ty) => ty.extent(),
+            Type::Bool | Type::AbstractInt | Type::AbstractFloat | Type::I32 => UNKNOWN,
+            Type::F32 | Type::F16 | Type::I64 | Type::U64 | Type::F64 => UNKNOWN,
+            Type::Array(_, _) | Type::Mat(_, _, _) | Type::Atomic(_) => UNKNOWN,
+            Type::Ptr(_, _, _) | Type::Ref(_, _, _) => UNKNOWN,
+            Type::Texture(_) | Type::Sampler(_) => UNKNOWN,
         }
     }
 
@@ -127,46 +135,51 @@ impl Type {
 impl StructType {
     /// As [`Type::size_of`] of the structure: the end of the last member, rounded up to the
     /// alignment. `None` without members.
-    #[cycle(sizes)]
     pub fn size_of(&self) -> Option<u32>
         ensures { result ≡ size_of (struct_view self.now) }
     {
-        rounded_if_known(self.align_of(), members_end(self.members.as_slice()))
+        self.extent().size
     }
 
     /// As [`Type::align_of`] of the structure: the greatest alignment of a member. `None` without
     /// members.
-    #[cycle(sizes)]
     pub fn align_of(&self) -> Option<u32>
         ensures { result ≡ align_of (struct_view self.now) }
     {
+        self.extent().align
+    }
+
+    #[cycle(sizes)]
+    fn extent(&self) -> Extent
+        ensures { result ≡ record { size = size_of (struct_view self.now); align = align_of (struct_view self.now) } }
+    {
         match self.members.as_slice() {
-            [] => None,
-            members => greatest_align(members),
+            [] => UNKNOWN,
+            members => {
+                let (end, align) = members_extent(members);
+                Extent {
+                    size: rounded_if_known(align, end),
+                    align,
+                }
+            }
         }
     }
 }
 
+// The end of the last member, and the greatest alignment of a member.
 #[cycle(sizes)]
-fn greatest_align(members: &[StructMemberType]) -> Option<u32>
-    ensures { result ≡ greatest_align (Some 0) (extents (members_view members.now)) }
-{
-    let mut greatest = Some(0u32);
-    for member in members {
-        greatest = align_after(greatest, member.extent());
-    }
-    greatest
-}
-
-#[cycle(sizes)]
-fn members_end(members: &[StructMemberType]) -> Option<u32>
-    ensures { result ≡ end_of_members (Some 0) (extents (members_view members.now)) }
+fn members_extent(members: &[StructMemberType]) -> (Option<u32>, Option<u32>)
+    ensures end { result.0 ≡ end_of_members (Some 0) (extents (members_view members.now)) }
+    ensures greatest { result.1 ≡ greatest_align (Some 0) (extents (members_view members.now)) }
 {
     let mut end = Some(0u32);
+    let mut greatest = Some(0u32);
     for member in members {
-        end = end_after(end, member.extent());
+        let extent = member.extent();
+        end = end_after(end, extent);
+        greatest = align_after(greatest, extent);
     }
-    end
+    (end, greatest)
 }
 
 impl StructMemberType {
@@ -176,15 +189,9 @@ impl StructMemberType {
         ensures { result ≡ extent_of (member_view self.now) }
     {
         if self.size.is_none() && self.align.is_none() {
-            Extent {
-                size: self.ty.size_of(),
-                align: self.ty.align_of(),
-            }
+            self.ty.extent()
         } else {
-            Extent {
-                size: None,
-                align: None,
-            }
+            UNKNOWN
         }
     }
 }
