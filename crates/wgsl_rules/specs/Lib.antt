@@ -1,5 +1,6 @@
 pub mod Access
 pub mod Buffers
+pub mod Bytes
 pub mod Codes
 pub mod Conversion
 pub mod Equal

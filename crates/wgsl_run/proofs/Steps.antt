@@ -1,5 +1,5 @@
 -- Steps into values, and what is put behind them.
-use Rattle.std.proofs.Common.{◌≡◌, ℕ, zero, suc, List, [], ◌∷◌, Option, Some, None, option_map, option_and_then, Result, Ok, Err, refl, sym, ap, ◌∙◌, subst}
+use Rattle.std.proofs.Common.{◌≡◌, ℕ, zero, suc, List, [], ◌∷◌, Option, Some, None, option_map, option_and_then, Ok, Err, refl, sym, ap, ◌∙◌, subst}
 use Rattle.wgsl_rules.specs.Values.{Step, member, index, Val, record_of, vector, array_of, matrix, Vals, no_vals, val, item, count, type_of, IsStorable, AreStorable}
 use Rattle.wgsl_rules.specs.Refusals.{Refusal, component, out_of_bounds, Outcome, and_then}
 use Rattle.wgsl_rules.specs.Paths.{parts, placed, index_in, member_named, or_refused, part_at, stepped, viewed, path_of, replace_item, with_parts, put_tree, put_viewed}

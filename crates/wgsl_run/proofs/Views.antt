@@ -1,6 +1,6 @@
 -- What values and lists of values of the program stand for.
-use Rattle.std.proofs.Common.{◌≡◌, ℕ, zero, suc, ◌<◌, ◌≤◌, List, [], ◌∷◌, length, get_or, set, Option, Some, None, refl, ap, subst, arith, rules, String, Global, Box, string_bytes}
-use Rattle.wgsl_rules.specs.Values.{Step, member, index, record_of, vector, item, count, type_of, first_type, Val, Vals, no_vals, val, IsStorable, AreStorable}
+use Rattle.std.proofs.Common.{◌≡◌, ℕ, zero, suc, ◌<◌, ◌≤◌, List, [], ◌∷◌, length, get_or, set, Some, None, refl, ap, subst, arith, rules, String, Global, Box, string_bytes}
+use Rattle.wgsl_rules.specs.Values.{member, index, record_of, vector, item, count, type_of, first_type, Val, Vals, no_vals, val, IsStorable, AreStorable}
 use Rattle.wgsl_rules.specs.Paths.{replace_item}
 use Rattle.wgsl_rules.specs.View.{struct_view as struct_type_view}
 use Rattle.wgsl_run.specs.View.{vec_view, struct_view, value_of, vals_view, steps_of}

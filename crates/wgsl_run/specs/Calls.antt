@@ -1,5 +1,5 @@
 -- What calls and their answers stand for in the model.
-use Rattle.std.specs.Prelude.{ℕ, Option, Some, None, Result, Ok, Err, option_map, string_bytes}
+use Rattle.std.specs.Prelude.{Option, Some, Result, Ok, Err, option_map, string_bytes}
 use Rattle.wgsl_rules.specs.Memory as memory
 use Rattle.wgsl_rules.specs.Memory.{Call, Answer, IsCell}
 use Rattle.wgsl_rules.specs.Values.{IsStorable}
@@ -35,3 +35,8 @@ abbrev pub answer_of : Result Reply Fault → Option Answer
 answer_of (Ok reply) = Some (reply_of reply)
 answer_of (Err faults.NoHandle) = Some memory.no_handle
 answer_of (Err (faults.Of e)) = option_map memory.refused (refusal_of e)
+
+-- a value that is read may be stored
+abbrev pub IsStorableReply : Reply → Type 0
+IsStorableReply (replies.Value v) = IsStorable (value_of v)
+IsStorableReply reply = Unit {0}

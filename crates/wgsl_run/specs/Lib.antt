@@ -6,3 +6,4 @@ pub mod Rows
 pub mod Texts
 pub mod View
 pub mod Walk
+pub mod Words

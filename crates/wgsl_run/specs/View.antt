@@ -1,8 +1,8 @@
 -- What the values and views of the program stand for in the model.
-use Rattle.std.specs.Prelude.{ℕ, pos, List, [], ◌∷◌, map, string_bytes}
+use Rattle.std.specs.Prelude.{pos, List, [], ◌∷◌, map, string_bytes}
 use Rattle.wgsl_rules.specs.Kinds as kinds
-use Rattle.wgsl_rules.specs.Values.{Step, member, index, Reference, Val, number, record_of, vector, Vals, no_vals, val}
-use Rattle.wgsl_rules.specs.View.{type_view, struct_view as struct_type_view}
+use Rattle.wgsl_rules.specs.Values.{Step, member, index, Val, number, record_of, vector, Vals, no_vals, val}
+use Rattle.wgsl_rules.specs.View.{struct_view as struct_type_view}
 use Rattle.wgsl_run.specs.declared.inst.LiteralInstance.{LiteralInstance}
 use Rattle.wgsl_run.specs.declared.inst.LiteralInstance.TheVariants as literals
 use Rattle.wgsl_run.specs.declared.inst.Instance.{Instance}

@@ -92,7 +92,8 @@ impl RefInstance {
     /// rule).
     pub fn read(&self, alloc: Global, store: &Store) -> Result<Instance, Error>
         requires { IsKept store.now (reference_of self.now) }
-        ensures { Gives value_of result (read store.now (reference_of self.now)) }
+        ensures outcome { Gives value_of result (read store.now (reference_of self.now)) }
+        ensures storable { IfOk result (λ v. IsStorable (value_of v)) }
     {
         Ok(self.lent(alloc, store)?.clone(alloc)?)
     }

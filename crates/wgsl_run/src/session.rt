@@ -33,12 +33,12 @@ impl Model for Session {
 }
 
 impl Session {
-    ghost use Rattle.std.specs.Prelude.{◌≡◌, [], option_map, slice_get, string_bytes};
+    ghost use Rattle.std.specs.Prelude.{◌≡◌, [], IfOk, option_map, slice_get, string_bytes};
     ghost use Rattle.wgsl_rules.specs.Memory as memory;
     ghost use Rattle.wgsl_rules.specs.Memory.{IsStep, IsReached, IsCell, IsKept, with_handle};
     ghost use Rattle.wgsl_rules.specs.Values.{IsStorable};
     ghost use Rattle.wgsl_run.specs.View.{value_of};
-    ghost use Rattle.wgsl_run.specs.Calls.{IsSoundCall, call_of, answer_of};
+    ghost use Rattle.wgsl_run.specs.Calls.{IsSoundCall, IsStorableReply, call_of, answer_of};
     ghost use Rattle.wgsl_run.specs.References.{reference_of};
 
     /// A session without cells and handles; it takes no memory.
@@ -63,7 +63,9 @@ impl Session {
     /// memory too, nothing has changed.
     pub fn call(&mut self, call: Call) -> Result<Reply, Fault>
         requires { IsSoundCall (call_of call) }
-        ensures { IsStep self.old (call_of call) self.new (answer_of result) }
+        ensures step { IsStep self.old (call_of call) self.new (answer_of result) }
+        // What is read may be stored again.
+        ensures storable { IfOk result IsStorableReply }
     {
         match call {
             Call::New(value, space, access) => self.make(value, space, access),
@@ -82,7 +84,8 @@ impl Session {
         access: AccessMode,
     ) -> Result<Reply, Fault>
         requires { IsCell (value_of value) }
-        ensures { IsStep self.old (memory.new (value_of value) space access) self.new (answer_of result) }
+        ensures step { IsStep self.old (memory.new (value_of value) space access) self.new (answer_of result) }
+        ensures storable { IfOk result IsStorableReply }
     {
         let handle = self.handles.len();
         self.handles.reserve(1)?;
@@ -94,7 +97,8 @@ impl Session {
     // A handle of the reference.
     fn add_handle(&mut self, reference: RefInstance) -> Result<Reply, Fault>
         requires { IsKept self.old.cells (reference_of reference) }
-        ensures { IsReached (with_handle self.old self.old.cells (reference_of reference)) self.old self.new (answer_of result) }
+        ensures step { IsReached (with_handle self.old self.old.cells (reference_of reference)) self.old self.new (answer_of result) }
+        ensures storable { IfOk result IsStorableReply }
     {
         let handle = self.handles.len();
         self.handles.push(reference)?;
@@ -102,7 +106,8 @@ impl Session {
     }
 
     fn member(&mut self, handle: usize, name: String) -> Result<Reply, Fault>
-        ensures { IsStep self.old (memory.member handle (string_bytes name)) self.new (answer_of result) }
+        ensures step { IsStep self.old (memory.member handle (string_bytes name)) self.new (answer_of result) }
+        ensures storable { IfOk result IsStorableReply }
     {
         let Some(reference) = reference_at(&self.handles, handle) else {
             return Err(Fault::NoHandle);
@@ -114,7 +119,8 @@ impl Session {
     }
 
     fn index(&mut self, handle: usize, i: usize) -> Result<Reply, Fault>
-        ensures { IsStep self.old (memory.index handle i) self.new (answer_of result) }
+        ensures step { IsStep self.old (memory.index handle i) self.new (answer_of result) }
+        ensures storable { IfOk result IsStorableReply }
     {
         let Some(reference) = reference_at(&self.handles, handle) else {
             return Err(Fault::NoHandle);
@@ -126,7 +132,8 @@ impl Session {
     }
 
     fn read(&self, handle: usize) -> Result<Reply, Fault>
-        ensures { IsStep self.now (memory.read_of handle) self.now (answer_of result) }
+        ensures step { IsStep self.now (memory.read_of handle) self.now (answer_of result) }
+        ensures storable { IfOk result IsStorableReply }
     {
         let Some(reference) = reference_at(&self.handles, handle) else {
             return Err(Fault::NoHandle);
@@ -139,7 +146,8 @@ impl Session {
 
     fn write(&mut self, handle: usize, value: Instance) -> Result<Reply, Fault>
         requires { IsStorable (value_of value) }
-        ensures { IsStep self.old (memory.write handle (value_of value)) self.new (answer_of result) }
+        ensures step { IsStep self.old (memory.write handle (value_of value)) self.new (answer_of result) }
+        ensures storable { IfOk result IsStorableReply }
     {
         let Some(reference) = reference_at(&self.handles, handle) else {
             return Err(Fault::NoHandle);

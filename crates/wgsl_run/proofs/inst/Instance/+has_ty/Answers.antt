@@ -1,4 +1,4 @@
-use Rattle.std.proofs.Common.{◌≡◌, ◌≤◌, ◌∙◌, length, arith, sym, ap}
+use Rattle.std.proofs.Common.{◌≡◌, ◌≤◌, ◌∙◌, length, arith, ap}
 use Rattle.wgsl_rules.specs.Same.{same}
 use Rattle.wgsl_rules.specs.Values.{type_of}
 use Rattle.wgsl_rules.specs.View.{type_view}

@@ -1,4 +1,4 @@
-use Rattle.std.proofs.Common.{◌≡◌, ◌≤◌, ◌∙◌, length, arith, sym, ap}
+use Rattle.std.proofs.Common.{◌≡◌, ◌≤◌, ◌∙◌, length, arith, ap}
 use Rattle.wgsl_rules.specs.View.{type_view}
 use Rattle.wgsl_rules.proofs.Views.{view-Vec}
 use Rattle.wgsl_run.proofs.TypesOf.{vec-type}

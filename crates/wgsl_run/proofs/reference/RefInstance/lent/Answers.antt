@@ -1,7 +1,7 @@
 use Rattle.wgsl_rules.specs.Values.{IsStorable}
 use Rattle.wgsl_rules.specs.Paths.{viewed}
 use Rattle.wgsl_run.specs.View.{value_of, steps_of}
-use Rattle.wgsl_run.proofs.Heap.{sound-at, kept-within}
+use Rattle.wgsl_run.proofs.Heap.{sound-at}
 use Rattle.wgsl_run.proofs.Outcomes.{gives-fact}
 use Rattle.wgsl_run.proofs.Steps.{viewed-storable}
 use Rattle.wgsl_run.proofs.reference.RefInstance.lent.Goals as goal

@@ -1,4 +1,4 @@
-use Rattle.std.proofs.Common.{◌<◌, length, ap, ◌∙◌}
+use Rattle.std.proofs.Common.{ap, ◌∙◌}
 use Rattle.wgsl_rules.specs.Memory.{put_cells}
 use Rattle.wgsl_run.specs.View.{value_of, steps_of}
 use Rattle.wgsl_run.proofs.Heap.{map-set, within-cells, kept-within, sound-put, kept-put}

@@ -1,0 +1,52 @@
+-- The words of a line: names, numbers, handles, hexadecimal, address spaces and access modes.
+use Rattle.std.specs.Prelude.{◌≡◌, ℕ, ◌≤◌, ◌==◌, ◌&&◌, ◌||◌, Bool, false, List, [], ◌∷◌, length, drop, codes}
+use Rattle.std.specs.Char.{is_ascii_alphabetic, is_ascii_digit}
+use Rattle.std.specs.List.{list_all}
+use Rattle.std.specs.Str.Parse.{IsNumeral, digits_value}
+use Rattle.wgsl_rules.specs.declared.syntax.AddressSpace.{AddressSpace}
+use Rattle.wgsl_rules.specs.declared.syntax.AddressSpace.TheVariants as spaces
+use Rattle.wgsl_rules.specs.declared.syntax.AccessMode.{AccessMode}
+use Rattle.wgsl_rules.specs.declared.syntax.AccessMode.TheVariants as modes
+
+abbrev pub begins_name : ℕ → Bool
+begins_name c = is_ascii_alphabetic c || c == 95
+
+abbrev pub continues_name : ℕ → Bool
+continues_name c = begins_name c || is_ascii_digit c
+
+-- an ASCII letter or `_`, then letters, digits and `_`
+abbrev pub is_name : List ℕ → Bool
+is_name [] = false
+is_name (c ∷ cs) = begins_name c && list_all continues_name cs
+
+-- 1 to 10 decimal digits
+abbrev pub IsNumber : List ℕ → Type 0
+IsNumber word = IsNumeral 10 word × (length word ≤ 10)
+
+-- the number that they write
+abbrev pub number : List ℕ → ℕ
+number word = digits_value 10 word
+
+-- an `&`, then a number
+abbrev pub IsHandle : List ℕ → Type 0
+IsHandle [] = ⊥
+IsHandle (c ∷ word) = (c ≡ 38) × IsNumber word
+
+-- the number that stands behind the `&`
+abbrev pub handle : List ℕ → ℕ
+handle word = number (drop 1 word)
+
+-- the text of an address space
+abbrev pub space_text : AddressSpace → List ℕ
+space_text spaces.Function = codes "function"
+space_text spaces.Private = codes "private"
+space_text spaces.Workgroup = codes "workgroup"
+space_text spaces.Uniform = codes "uniform"
+space_text spaces.Storage = codes "storage"
+space_text spaces.Handle = codes "handle"
+
+-- the text of an access mode
+abbrev pub access_text : AccessMode → List ℕ
+access_text modes.Read = codes "read"
+access_text modes.Write = codes "write"
+access_text modes.ReadWrite = codes "read_write"

@@ -1,0 +1,152 @@
+//! Scripts: a line a call.
+
+ghost use Rattle.std.specs.Prelude.{IfOk};
+ghost use Rattle.wgsl_rules.specs.Buffers.{Lays};
+ghost use Rattle.wgsl_rules.specs.View.{type_view};
+ghost use Rattle.wgsl_run.specs.View.{value_of};
+
+use crate::answer::{Answer, Stop, write_answer};
+use crate::call::{Call, Reply};
+use crate::fault::RunFault;
+use crate::grammar::{
+    access_of, bytes_of, handle_of, is_name, number_of, space_of, without_end, words_of,
+};
+use crate::input::read_input;
+use crate::inst::Instance;
+use crate::output::write_bytes;
+use crate::session::Session;
+use crate::structs::Structs;
+use std::alloc::{AllocError, Global};
+use std::io::{Read, Write};
+use std::str;
+use wgsl_rules::Type;
+
+/// Runs the script that the reader gives, and writes a line for each line that has a word. All of
+/// the script is read before its first line is run; each line is written before the next one is
+/// run.
+pub fn run_script<R: Read, W: Write>(
+    alloc: Global,
+    reader: &mut R,
+    writer: &mut W,
+) -> Result<(), RunFault> {
+    let input = read_input(alloc, reader)?;
+    let mut script = Script::new(alloc);
+    let mut text = String::new(alloc);
+    for line in input.split_inclusive(|byte| *byte == b'\n') {
+        text.clear();
+        script.answer_line(without_end(line), &mut text)?;
+        write_bytes(writer, text.as_bytes())?;
+    }
+    Ok(())
+}
+
+/// The state that lines run on.
+#[derive(Drop)]
+struct Script {
+    alloc: Global,
+    session: Session,
+    structs: Structs,
+}
+
+impl Script {
+    fn new(alloc: Global) -> Self {
+        Script {
+            alloc,
+            session: Session::new(alloc),
+            structs: Structs::new(alloc),
+        }
+    }
+
+    // Adds the text of a line's answer; nothing for a line without words.
+    fn answer_line(&mut self, line: &[u8], text: &mut String) -> Result<(), AllocError> {
+        let answer = match str::from_utf8(line) {
+            Ok(line) => {
+                let words = words_of(self.alloc, line)?;
+                if words.is_empty() {
+                    return Ok(());
+                }
+                self.answer(words.as_slice())
+            }
+            Err(_) => Err(Stop::BadLine),
+        };
+        write_answer(self.alloc, text, answer)
+    }
+
+    fn answer(&mut self, words: &[&str]) -> Result<Answer, Stop> {
+        match words {
+            ["struct", name, members @ ..] => self.define(name, members),
+            ["new", ty, space, access, bytes] => self.make(ty, space, access, bytes),
+            ["member", handle, name] => self.member(handle, name),
+            ["index", handle, i] => self.index(handle, i),
+            ["read", handle] => self.read(handle),
+            ["write", handle, bytes] => self.write(handle, bytes),
+            ["dump", handle] => self.dump(handle),
+            _ => Err(Stop::BadLine),
+        }
+    }
+
+    fn define(&mut self, name: &str, members: &[&str]) -> Result<Answer, Stop> {
+        self.structs.define(name, members)?;
+        Ok(Answer::Done)
+    }
+
+    #[tactic(auto, using(crate::proofs::Scripts::laid_is_cell))]
+    fn make(&mut self, ty: &str, space: &str, access: &str, bytes: &str) -> Result<Answer, Stop> {
+        let space = space_of(space).ok_or(Stop::BadLine)?;
+        let access = access_of(access).ok_or(Stop::BadLine)?;
+        let bytes = bytes_of(self.alloc, bytes)?;
+        let ty = self.structs.type_of(ty)?.ok_or(Stop::BadLine)?;
+        let value = laid_out(self.alloc, bytes.as_slice(), &ty)?;
+        Ok(self.session.call(Call::New(value, space, access))?.into())
+    }
+
+    fn member(&mut self, handle: &str, name: &str) -> Result<Answer, Stop> {
+        let handle = handle_of(handle).ok_or(Stop::BadLine)?;
+        if !is_name(name) {
+            return Err(Stop::BadLine);
+        }
+        let name = String::from_str(self.alloc, name)?;
+        Ok(self.session.call(Call::Member(handle, name))?.into())
+    }
+
+    fn index(&mut self, handle: &str, i: &str) -> Result<Answer, Stop> {
+        let handle = handle_of(handle).ok_or(Stop::BadLine)?;
+        let i = number_of(i).ok_or(Stop::BadLine)?;
+        Ok(self.session.call(Call::Index(handle, i))?.into())
+    }
+
+    fn read(&mut self, handle: &str) -> Result<Answer, Stop> {
+        let handle = handle_of(handle).ok_or(Stop::BadLine)?;
+        Ok(self.session.call(Call::Read(handle))?.into())
+    }
+
+    fn write(&mut self, handle: &str, bytes: &str) -> Result<Answer, Stop> {
+        let handle = handle_of(handle).ok_or(Stop::BadLine)?;
+        let bytes = bytes_of(self.alloc, bytes)?;
+        let reference = self.session.reference(handle).ok_or(Stop::NoHandle)?;
+        let value = laid_out(self.alloc, bytes.as_slice(), reference.target_ty())?;
+        Ok(self.session.call(Call::Write(handle, value))?.into())
+    }
+
+    // The bytes of the value that the handle names.
+    fn dump(&mut self, handle: &str) -> Result<Answer, Stop> {
+        let handle = handle_of(handle).ok_or(Stop::BadLine)?;
+        match self.session.call(Call::Read(handle))? {
+            Reply::Value(value) => {
+                let bytes = value.to_buffer(self.alloc)?;
+                Ok(Answer::Bytes(bytes.ok_or(Stop::NoValue)?))
+            }
+            reply => Ok(reply.into()),
+        }
+    }
+}
+
+/// The value of the type that the bytes lay out.
+fn laid_out(alloc: Global, bytes: &[u8], ty: &Type) -> Result<Instance, Stop>
+    ensures { IfOk result (λ value. Lays bytes.now (type_view ty.now) (value_of value)) }
+{
+    match Instance::from_buffer(alloc, bytes, ty)? {
+        Some(value) => Ok(value),
+        None => Err(Stop::NoValue),
+    }
+}

@@ -1,0 +1,170 @@
+use crate::input::LIMIT;
+use crate::tests::{assert_prints, output_of};
+use crate::{RunFault, run_script};
+use std::alloc::{AllocError, Global};
+use std::fmt::Write;
+use std::test::Fail;
+
+/// A text of so many bytes.
+fn repeated(alloc: Global, byte: u8, count: usize) -> Result<Vec<u8>, AllocError> {
+    vec![in alloc; byte; count]
+}
+
+/// The text, then the byte so many times, then the other text.
+fn joined(
+    alloc: Global,
+    first: &[u8],
+    byte: u8,
+    count: usize,
+    last: &[u8],
+) -> Result<Vec<u8>, AllocError> {
+    let mut text = Vec::from_slice(alloc, first)?;
+    text.extend_from_slice(repeated(alloc, byte, count)?.as_slice())?;
+    text.extend_from_slice(last)?;
+    Ok(text)
+}
+
+#[test]
+fn a_script_of_the_greatest_length_is_run(rt: HostRuntime) -> Result<(), Fail> {
+    let first = b"new u32 storage read 05000000\nread &0\n";
+    let script = joined(rt.alloc(), first, b'\n', LIMIT - first.len(), b"")?;
+    assert_eq!(rt; script.len(), 1_048_576);
+    assert_prints(&rt, rt.alloc(), script.as_slice(), b"&0\n5u\n")
+}
+
+#[test]
+fn one_byte_more_is_too_long_and_runs_nothing(rt: HostRuntime) -> Result<(), Fail> {
+    let first = b"new u32 storage read 05000000\nread &0\n";
+    let script = joined(rt.alloc(), first, b'\n', LIMIT - first.len() + 1, b"")?;
+    assert_eq!(rt; script.len(), 1_048_577);
+    let mut reader = script.as_slice();
+    let mut output = Vec::new(rt.alloc());
+    let outcome = run_script(rt.alloc(), &mut reader, &mut output);
+    assert_eq!(rt; outcome, Err(RunFault::TooLong));
+    assert!(rt; output.is_empty());
+    Ok(())
+}
+
+#[test]
+fn a_line_of_a_megabyte_is_answered(rt: HostRuntime) -> Result<(), Fail> {
+    let word = repeated(rt.alloc(), b'x', 1_000_000)?;
+    assert_prints(&rt, rt.alloc(), word.as_slice(), b"refused BadLine\n")?;
+    let spaces = joined(
+        rt.alloc(),
+        b"new u32 storage read 05000000\nread",
+        b' ',
+        1_000_000,
+        b"&0",
+    )?;
+    assert_prints(&rt, rt.alloc(), spaces.as_slice(), b"&0\n5u\n")?;
+    let digits = joined(
+        rt.alloc(),
+        b"new u32 storage read 05",
+        b'0',
+        1_000_000,
+        b"\ndump &0",
+    )?;
+    assert_prints(&rt, rt.alloc(), digits.as_slice(), b"&0\n05000000\n")?;
+    let bytes = repeated(rt.alloc(), 0xff, 1_000_000)?;
+    assert_prints(&rt, rt.alloc(), bytes.as_slice(), b"refused BadLine\n")
+}
+
+#[test]
+fn a_name_may_be_long(rt: HostRuntime) -> Result<(), Fail> {
+    let script = joined(rt.alloc(), b"struct ", b'n', 500_000, b" a:u32\n")?;
+    assert_prints(&rt, rt.alloc(), script.as_slice(), b"done\n")
+}
+
+/// The line of a structure with so many members of a type, each a word.
+fn wide(alloc: Global, name: &str, member: &str, count: usize) -> Result<String, AllocError> {
+    let mut line = format!(in alloc; "struct {name}")?;
+    for _ in 0..count {
+        write!(line, " {member}")?;
+    }
+    line.push('\n')?;
+    Ok(line)
+}
+
+#[test]
+fn a_structure_has_at_most_4096_nodes(rt: HostRuntime) -> Result<(), Fail> {
+    let alloc = rt.alloc();
+    let mut script = wide(alloc, "A", "a:u32", 4095)?;
+    script.push_str(wide(alloc, "B", "a:u32", 4096)?.as_str())?;
+    script.push_str(wide(alloc, "C", "a:vec4<u32>", 2047)?.as_str())?;
+    script.push_str(wide(alloc, "D", "a:vec4<u32>", 2048)?.as_str())?;
+    script.push_str("struct E a:A\n")?;
+    script.push_str("struct F a:C\nstruct G a:F\nstruct H a:C b:u32\n")?;
+    let wanted = b"done
+refused BadLine
+done
+refused BadLine
+refused BadLine
+done
+refused BadLine
+refused BadLine
+";
+    assert_prints(&rt, alloc, script.as_bytes(), wanted)
+}
+
+#[test]
+fn nodes_of_structures_are_counted_with_their_members(rt: HostRuntime) -> Result<(), Fail> {
+    let alloc = rt.alloc();
+    // Each has two of the one before and itself: 2, 5, 11, 23, and so on to 3071; then one more
+    // would have 6143, and 1024 words of one node fit beside the last.
+    let mut script = String::from_str(alloc, "struct T0 a:u32\n")?;
+    for i in 0..10 {
+        let next = i + 1;
+        writeln!(script, "struct T{next} a:T{i} b:T{i}")?;
+    }
+    script.push_str("struct T11 a:T10 b:T10\n")?;
+    script.push_str(wide(alloc, "X a:T10", "b:u32", 1024)?.as_str())?;
+    script.push_str(wide(alloc, "Y a:T10", "b:u32", 1025)?.as_str())?;
+    let mut wanted = String::new(alloc);
+    for _ in 0..11 {
+        wanted.push_str("done\n")?;
+    }
+    wanted.push_str("refused BadLine\ndone\nrefused BadLine\n")?;
+    assert_prints(&rt, alloc, script.as_bytes(), wanted.as_bytes())
+}
+
+/// Structures `T0` of a u32, and `T1` to `Tn`, each of the one before.
+fn chain(alloc: Global, depth: usize) -> Result<String, AllocError> {
+    let mut script = String::from_str(alloc, "struct T0 a:u32\n")?;
+    for i in 0..depth {
+        let next = i.saturating_add(1);
+        writeln!(script, "struct T{next} a:T{i}")?;
+    }
+    Ok(script)
+}
+
+#[test]
+fn a_chain_of_structures_is_made_read_written_and_dumped(rt: HostRuntime) -> Result<(), Fail> {
+    let alloc = rt.alloc();
+    let depth = 300;
+    let mut script = chain(alloc, depth)?;
+    writeln!(script, "new T{depth} storage read_write 07000000")?;
+    script.push_str("read &0\nwrite &0 08000000\ndump &0\nmember &0 a\n")?;
+    let mut wanted = String::new(alloc);
+    let mut closed = String::new(alloc);
+    for _ in 0..depth + 1 {
+        wanted.push_str("done\n")?;
+        closed.push(')')?;
+    }
+    wanted.push_str("&0\n")?;
+    for i in (0..depth + 1).rev() {
+        write!(wanted, "T{i}(")?;
+    }
+    writeln!(wanted, "7u{closed}\ndone\n08000000\n&1")?;
+    assert_prints(&rt, alloc, script.as_bytes(), wanted.as_bytes())
+}
+
+#[test]
+fn many_definitions_cost_no_more_than_their_lines(rt: HostRuntime) -> Result<(), Fail> {
+    let script = chain(rt.alloc(), 4094)?;
+    let output = output_of(rt.alloc(), script.as_bytes())?;
+    assert_eq!(rt; output.len(), 5 * 4095);
+    let script = chain(rt.alloc(), 4095)?;
+    let output = output_of(rt.alloc(), script.as_bytes())?;
+    assert!(rt; output.ends_with(b"done\nrefused BadLine\n"));
+    Ok(())
+}
