@@ -1,0 +1,8 @@
+use Rattle.std.proofs.Common.{rules}
+use Rattle.std.proofs.lemmas.Int.{to_z-of_z}
+use Rattle.wgsl_scalar.specs.Literals.{kind_of}
+use Rattle.wgsl_scalar.proofs.BitLaws.{wrap-or}
+use Rattle.wgsl_scalar.proofs.kind.Kind.bits_or.Goals as goal
+
+pub returns : goal.returns
+returns c = search (rules, to_z-of_z, wrap-or (kind_of c.args.self) c.args.left c.args.right)

@@ -1,0 +1,13 @@
+pub mod Answers
+pub mod Arith
+pub mod Bits
+pub mod Builtins
+pub mod Conversions
+pub mod Counts
+pub mod Literals
+pub mod Laws
+pub mod Logic
+pub mod Operands
+pub mod Order
+pub mod Shifts
+pub mod Texts

@@ -1,0 +1,28 @@
+//! Laws of the definitions that the operators meet. The functions do nothing: their contracts are
+//! the laws.
+
+ghost use Rattle.std.specs.Prelude.{◌≡◌, ◌≢◌, ℤ, pos};
+ghost use Rattle.wgsl_rules.specs.Kinds as kinds;
+ghost use Rattle.wgsl_rules.specs.Kinds.{Kind};
+ghost use Rattle.wgsl_scalar.specs.Arith.{cut_quotient, cut_remainder};
+ghost use Rattle.wgsl_scalar.specs.Laws.{Divides, GivesWrapped, IsRing};
+
+/// Sums and products that wrap commute and associate, and products distribute over sums, whether
+/// parts are wrapped first or not (WGSL: arithmetic expressions).
+pub fn kinds_are_rings()
+    ensures { (k : Kind) → IsRing k }
+{}
+
+/// In each kind but the abstract one, `op_add` and `op_mul` give these sums and products.
+pub fn sums_and_products_wrap()
+    ensures { (k : Kind) → k ≢ kinds.abstract_int → GivesWrapped k }
+{}
+
+/// The quotient and the remainder by a number that is not 0 are the ones that divide: the whole is
+/// the divisor times the quotient and the remainder, and the remainder is nearer to 0 than the
+/// divisor, and is 0 or has the sign of the whole. No other numbers do so
+/// (WGSL: arithmetic expressions).
+pub fn quotients_and_remainders_divide()
+    ensures divides { (a b : ℤ) → b ≢ pos 0 → Divides a b (cut_quotient a b) (cut_remainder a b) }
+    ensures alone { (a b q r : ℤ) → b ≢ pos 0 → Divides a b q r → (q ≡ cut_quotient a b) × (r ≡ cut_remainder a b) }
+{}

@@ -1,0 +1,24 @@
+//! Literals of WGSL, the refusals of calls, and the operators on literals.
+#![tactic(auto)]
+
+mod arith;
+mod bits;
+mod builtin;
+mod counts;
+mod error;
+mod kind;
+mod laws;
+mod literal;
+mod logic;
+mod operands;
+mod order;
+mod shift;
+mod text;
+
+pub use builtin::{BuiltinName, BuiltinReason};
+pub use error::Error;
+pub use laws::{kinds_are_rings, quotients_and_remainders_divide, sums_and_products_wrap};
+pub use literal::LiteralInstance;
+
+#[cfg(test)]
+mod tests;
