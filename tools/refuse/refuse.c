@@ -1,0 +1,53 @@
+/* Preloaded into a program, refuses one growth of its memory: the one whose number, from 1, REFUSE_GROWTH
+   gives. Where REFUSE_REPORT names a file, the number of growths that were asked for is written there. */
+#define _GNU_SOURCE
+#include <dlfcn.h>
+#include <errno.h>
+#include <stddef.h>
+#include <stdio.h>
+#include <stdlib.h>
+
+static long asked;
+
+static int is_refused(void) {
+    static long number = -1;
+    if (number < 0) {
+        const char *text = getenv("REFUSE_GROWTH");
+        number = text ? atol(text) : 0;
+    }
+    asked += 1;
+    if (asked != number)
+        return 0;
+    errno = ENOMEM;
+    return 1;
+}
+
+void *malloc(size_t size) {
+    static void *(*real)(size_t);
+    if (!real)
+        real = (void *(*)(size_t))dlsym(RTLD_NEXT, "malloc");
+    return is_refused() ? NULL : real(size);
+}
+
+void *realloc(void *block, size_t size) {
+    static void *(*real)(void *, size_t);
+    if (!real)
+        real = (void *(*)(void *, size_t))dlsym(RTLD_NEXT, "realloc");
+    return is_refused() ? NULL : real(block, size);
+}
+
+void *aligned_alloc(size_t alignment, size_t size) {
+    static void *(*real)(size_t, size_t);
+    if (!real)
+        real = (void *(*)(size_t, size_t))dlsym(RTLD_NEXT, "aligned_alloc");
+    return is_refused() ? NULL : real(alignment, size);
+}
+
+__attribute__((destructor)) static void report(void) {
+    const char *name = getenv("REFUSE_REPORT");
+    FILE *file = name ? fopen(name, "w") : NULL;
+    if (file) {
+        fprintf(file, "%ld\n", asked);
+        fclose(file);
+    }
+}
