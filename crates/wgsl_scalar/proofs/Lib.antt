@@ -1,4 +1,5 @@
 pub mod BitLaws
+pub mod CommonKinds
 pub mod Quotients
 pub mod Ranges
 pub mod Words

@@ -1,8 +1,15 @@
--- The laws of the definitions: the ring of a kind, and what quotients and remainders are.
-use Rattle.std.specs.Prelude.{◌≡◌, ◌⊎◌, ◌<◌, ℤ, pos, ◌+ℤ◌, ◌*ℤ◌, int_lt, unsigned_abs, Ok}
+-- The laws of the definitions: the kind that two numbers have in common, the ring of a kind, and what
+-- quotients and remainders are.
+use Rattle.std.specs.Prelude.{◌≡◌, ◌⊎◌, ◌<◌, ℤ, pos, ◌+ℤ◌, ◌*ℤ◌, int_lt, unsigned_abs, Ok, option_map}
+use Rattle.wgsl_rules.specs.Conversion.{common_type}
 use Rattle.wgsl_rules.specs.Kinds.{Kind, wrap}
-use Rattle.wgsl_rules.specs.Values.{number}
+use Rattle.wgsl_rules.specs.Values.{number, type_of_kind}
 use Rattle.wgsl_scalar.specs.Arith.{sum_in, product_in}
+use Rattle.wgsl_scalar.specs.Conversions.{common_kind}
+
+-- the kind that numbers of two kinds have in common is the common type of the two
+abbrev pub CommonKindsAreCommonTypes : Type 0
+CommonKindsAreCommonTypes = (j k : Kind) → option_map type_of_kind (common_kind j k) ≡ common_type (type_of_kind j) (type_of_kind k)
 
 -- the sum and the product in a kind, as numbers: what the operators give in each kind but the abstract one
 pub record GivesWrapped (k : Kind) : Type 0 where

@@ -1,6 +1,7 @@
 //! Negation, sums, differences, products, quotients and remainders (WGSL: arithmetic expressions).
 
 ghost use Rattle.std.specs.Prelude.{◌≡◌, ◌≢◌, ◌*ℤ◌, true, false, IfSome, IsTrue, MatchOption, pos};
+ghost use Rattle.std.specs.Int.RustNames.{int_rem};
 ghost use Rattle.wgsl_rules.specs.Kinds as kinds;
 ghost use Rattle.wgsl_rules.specs.Kinds.{InKind, wrap};
 ghost use Rattle.wgsl_rules.specs.Values.{number};
@@ -115,11 +116,41 @@ impl Kind {
         if right == 0 {
             return None;
         }
-        let quotient = left.strict_div(right);
+        let quotient = self.cut_quotient(left, right);
         if self.takes_quotient(quotient) {
             Some(quotient)
         } else {
             None
+        }
+    }
+
+    /// The quotient cut toward zero. Two numbers of 64 bits are divided as such, which is quicker.
+    #[inline]
+    #[tactic(auto, using(crate::proofs::Ranges::narrow))]
+    fn cut_quotient(self, left: i128, right: i128) -> i128
+        requires left { InKind (kind_of self) left }
+        requires right { InKind (kind_of self) right }
+        requires nonzero { right ≢ pos 0 }
+        ensures { result ≡ cut_quotient left right }
+    {
+        match short_quotient(left, right) {
+            Some(quotient) => quotient,
+            None => left.strict_div(right),
+        }
+    }
+
+    /// What the quotient cut toward zero leaves, found as that quotient is.
+    #[inline]
+    #[tactic(auto, using(crate::proofs::Ranges::narrow))]
+    fn cut_remainder(self, left: i128, right: i128) -> i128
+        requires left { InKind (kind_of self) left }
+        requires right { InKind (kind_of self) right }
+        requires nonzero { right ≢ pos 0 }
+        ensures { result ≡ int_rem left right }
+    {
+        match short_remainder(left, right) {
+            Some(remainder) => remainder,
+            None => left.strict_rem(right),
         }
     }
 
@@ -142,7 +173,7 @@ impl Kind {
         ensures { Answers literal_of result (remainder_in stage (kind_of self) left right) }
     {
         if self.has_remainder(left, right) {
-            return Ok(self.literal(left.strict_rem(right)));
+            return Ok(self.literal(self.cut_remainder(left, right)));
         }
         match stage {
             ShaderStage::Const => Err(Error::RemZeroDiv),
@@ -158,8 +189,30 @@ impl Kind {
         ensures value { result ≡ has_remainder (kind_of self) left right }
         ensures nonzero { IsTrue result → right ≢ pos 0 }
     {
-        right != 0 && self.contains(left.strict_div(right))
+        right != 0 && self.contains(self.cut_quotient(left, right))
     }
+}
+
+/// The quotient cut toward zero of two numbers of 64 bits.
+#[inline]
+fn short_quotient(left: i128, right: i128) -> Option<i128>
+    ensures { IfSome result (λ q. q ≡ cut_quotient left right) }
+{
+    let left = i64::try_from(left).ok()?;
+    let right = i64::try_from(right).ok()?;
+    let quotient = left.checked_div(right)?;
+    Some(i128::from(quotient))
+}
+
+/// What the quotient of two numbers of 64 bits leaves.
+#[inline]
+fn short_remainder(left: i128, right: i128) -> Option<i128>
+    ensures { IfSome result (λ r. r ≡ int_rem left right) }
+{
+    let left = i64::try_from(left).ok()?;
+    let right = i64::try_from(right).ok()?;
+    let remainder = left.checked_rem(right)?;
+    Some(i128::from(remainder))
 }
 
 /// The product of two numbers of 64 bits, modulo 2 to the 64.

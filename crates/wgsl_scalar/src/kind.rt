@@ -39,6 +39,7 @@ impl Kind {
     }
 
     /// The literal of this kind whose number is that of `n`, modulo 2 to the width.
+    #[inline(always)]
     pub(crate) fn wrap(self, n: i128) -> LiteralInstance
         ensures { literal_of result ≡ number (kind_of self) (wrap (kind_of self) n) }
     {
@@ -52,6 +53,7 @@ impl Kind {
     }
 
     /// Whether `n` is a number of this kind.
+    #[inline(always)]
     pub(crate) fn contains(self, n: i128) -> bool
         ensures { result ≡ in_kind (kind_of self) n }
     {
@@ -64,6 +66,7 @@ impl Kind {
     }
 
     /// Whether numbers of this kind convert to the other.
+    #[inline(always)]
     pub(crate) fn converts(self, other: Kind) -> bool
         ensures { result ≡ converts (kind_of self) (kind_of other) }
     {
@@ -76,6 +79,7 @@ impl Kind {
     }
 
     /// The kind that numbers of both kinds convert to.
+    #[inline(always)]
     pub(crate) fn common(self, other: Kind) -> Option<Kind>
         ensures { MatchOption result (common_kind (kind_of self) (kind_of other) ≡ None) (λ k. common_kind (kind_of self) (kind_of other) ≡ Some (kind_of k)) }
     {
@@ -89,6 +93,7 @@ impl Kind {
     }
 
     /// The literal of this kind and number.
+    #[inline(always)]
     #[tactic(auto, using(crate::proofs::Ranges::wrap_same))]
     pub(crate) fn literal(self, n: i128) -> LiteralInstance
         requires { InKind (kind_of self) n }

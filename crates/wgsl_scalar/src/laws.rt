@@ -5,7 +5,13 @@ ghost use Rattle.std.specs.Prelude.{◌≡◌, ◌≢◌, ℤ, pos};
 ghost use Rattle.wgsl_rules.specs.Kinds as kinds;
 ghost use Rattle.wgsl_rules.specs.Kinds.{Kind};
 ghost use Rattle.wgsl_scalar.specs.Arith.{cut_quotient, cut_remainder};
-ghost use Rattle.wgsl_scalar.specs.Laws.{Divides, GivesWrapped, IsRing};
+ghost use Rattle.wgsl_scalar.specs.Laws.{CommonKindsAreCommonTypes, Divides, GivesWrapped, IsRing};
+
+/// The kind that an operator takes both of its numbers to is the common type of the two, as
+/// `convert_ty` finds it (WGSL: conversion rank).
+pub fn common_kinds_are_common_types()
+    ensures { CommonKindsAreCommonTypes }
+{}
 
 /// Sums and products that wrap commute and associate, and products distribute over sums, whether
 /// parts are wrapped first or not (WGSL: arithmetic expressions).

@@ -41,6 +41,7 @@ impl LiteralInstance {
     }
 
     /// The kind and the number, of a number.
+    #[inline(always)]
     pub(crate) fn parts(&self) -> Option<(Kind, i128)>
         ensures value { MatchOption result (number_of (literal_of self.now) ≡ None) (λ p. number_of (literal_of self.now) ≡ Some (number_view p)) }
         ensures in_kind { IfSome result (λ p. InKind (kind_of p.0) p.1) }

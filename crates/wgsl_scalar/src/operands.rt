@@ -23,6 +23,7 @@ impl LiteralInstance {
     }
 
     /// Both as numbers of their common kind.
+    #[inline(always)]
     pub(crate) fn common_operands(&self, rhs: &LiteralInstance) -> Option<(Kind, i128, i128)>
         ensures value { MatchOption result (common_operands (literal_of self.now) (literal_of rhs.now) ≡ None) (λ p. common_operands (literal_of self.now) (literal_of rhs.now) ≡ Some (operands_view p)) }
         ensures left { IfSome result (λ p. InKind (kind_of p.0) p.1) }
@@ -42,6 +43,7 @@ impl LiteralInstance {
     }
 
     /// The operands of a binary operator, or its refusal.
+    #[inline(always)]
     pub(crate) fn operands(
         &self,
         rhs: &LiteralInstance,
