@@ -1,5 +1,6 @@
 pub mod Calls
 pub mod Errors
+pub mod Faults
 pub mod Parts
 pub mod References
 pub mod Rows

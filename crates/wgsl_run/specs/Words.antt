@@ -1,12 +1,8 @@
--- The words of a line: names, numbers, handles, hexadecimal, address spaces and access modes.
-use Rattle.std.specs.Prelude.{◌≡◌, ℕ, ◌≤◌, ◌==◌, ◌&&◌, ◌||◌, Bool, false, List, [], ◌∷◌, length, drop, codes}
+-- The words of a line: names, numbers and handles.
+use Rattle.std.specs.Prelude.{◌≡◌, ℕ, ◌≤◌, ◌==◌, ◌&&◌, ◌||◌, Bool, false, List, [], ◌∷◌, length, drop}
 use Rattle.std.specs.Char.{is_ascii_alphabetic, is_ascii_digit}
 use Rattle.std.specs.List.{list_all}
 use Rattle.std.specs.Str.Parse.{IsNumeral, digits_value}
-use Rattle.wgsl_rules.specs.declared.syntax.AddressSpace.{AddressSpace}
-use Rattle.wgsl_rules.specs.declared.syntax.AddressSpace.TheVariants as spaces
-use Rattle.wgsl_rules.specs.declared.syntax.AccessMode.{AccessMode}
-use Rattle.wgsl_rules.specs.declared.syntax.AccessMode.TheVariants as modes
 
 abbrev pub begins_name : ℕ → Bool
 begins_name c = is_ascii_alphabetic c || c == 95
@@ -35,18 +31,3 @@ IsHandle (c ∷ word) = (c ≡ 38) × IsNumber word
 -- the number that stands behind the `&`
 abbrev pub handle : List ℕ → ℕ
 handle word = number (drop 1 word)
-
--- the text of an address space
-abbrev pub space_text : AddressSpace → List ℕ
-space_text spaces.Function = codes "function"
-space_text spaces.Private = codes "private"
-space_text spaces.Workgroup = codes "workgroup"
-space_text spaces.Uniform = codes "uniform"
-space_text spaces.Storage = codes "storage"
-space_text spaces.Handle = codes "handle"
-
--- the text of an access mode
-abbrev pub access_text : AccessMode → List ℕ
-access_text modes.Read = codes "read"
-access_text modes.Write = codes "write"
-access_text modes.ReadWrite = codes "read_write"

@@ -1,6 +1,7 @@
 //! Why a run ends early.
 
 ghost use Rattle.std.specs.Prelude.{◌≡◌};
+ghost use Rattle.wgsl_run.specs.Faults.{fault_status, fault_text};
 ghost use Rattle.wgsl_run.specs.declared.fault.RunFault.TheVariants.{Memory};
 
 use std::alloc::AllocError;
@@ -20,7 +21,9 @@ pub enum RunFault {
 
 impl RunFault {
     /// The status that the program ends with.
-    pub fn status(self) -> u8 {
+    pub fn status(self) -> u8
+        ensures { result ≡ fault_status self }
+    {
         match self {
             RunFault::Read | RunFault::Write => 1,
             RunFault::TooLong => 2,
@@ -29,7 +32,9 @@ impl RunFault {
     }
 
     /// What the program prints behind its name.
-    pub fn text(self) -> &'static str {
+    pub fn text(self) -> &'static str
+        ensures { result.now ≡ fault_text self }
+    {
         match self {
             RunFault::Read => "read fault",
             RunFault::Write => "write fault",

@@ -6,7 +6,8 @@ ghost use Rattle.std.specs.Option.{SomeIff};
 ghost use Rattle.hex.specs.Hex.{decode_of};
 ghost use Rattle.wgsl_rules.specs.declared.syntax.AddressSpace.{AddressSpace};
 ghost use Rattle.wgsl_rules.specs.declared.syntax.AccessMode.{AccessMode};
-ghost use Rattle.wgsl_run.specs.Words.{is_name, begins_name, continues_name, IsNumber, number, IsHandle, handle, space_text, access_text};
+ghost use Rattle.wgsl_rules.specs.Text.{space_text, access_text};
+ghost use Rattle.wgsl_run.specs.Words.{is_name, begins_name, continues_name, IsNumber, number, IsHandle, handle};
 
 use crate::answer::Stop;
 use hex::FromHexError;
