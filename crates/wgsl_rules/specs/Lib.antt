@@ -4,6 +4,7 @@ pub mod Bytes
 pub mod Codes
 pub mod Conversion
 pub mod Equal
+pub mod Flat
 pub mod Kinds
 pub mod Laws
 pub mod Layout

@@ -70,9 +70,13 @@ framed-overwritten n b c x y f e =
 
 -- ---- one part replaced
 
+-- a buffer is as long as the size of the type
+pub length-buffer : (v : Val) → length (buffer v) ≡ size (type_of v)
+length-buffer v = length-map-range_with_len (byte_at (number_at v) (leaves (type_of v))) 0 (size (type_of v))
+
 -- a value that a cell may hold has as many bytes as the size of its type
-length-encode : (v : Val) → IsCell v → length (encode v) ≡ size (type_of v)
-length-encode v c = ap length (sym (buffer-encode v c.1 c.0)) ∙ length-map-range_with_len (byte_at (number_at v) (leaves (type_of v))) 0 (size (type_of v))
+pub length-encode : (v : Val) → IsCell v → length (encode v) ≡ size (type_of v)
+length-encode v c = ap length (sym (buffer-encode v c.1 c.0)) ∙ length-buffer v
 
 -- one member, replaced by a value of its type
 members-framed : (end : ℕ) (fs : Fields) (vs : Vals) (i : ℕ) (x y : Val) → HaveEnd end fs → HaveTypes fs vs → AreStorable vs → item i vs ≡ Some x → type_of y ≡ type_of x
@@ -161,7 +165,7 @@ part-framed i v x y c own e t = absurd own
 
 -- ---- a part along a view replaced
 
-path-ok : (o : Outcome (List ℕ)) (i : ℕ) (p : List ℕ) → and_then o (λ q. Ok (i ∷ q)) ≡ Ok p → (q : List ℕ) × (o ≡ Ok q) × (i ∷ q ≡ p)
+pub path-ok : (o : Outcome (List ℕ)) (i : ℕ) (p : List ℕ) → and_then o (λ q. Ok (i ∷ q)) ≡ Ok p → (q : List ℕ) × (o ≡ Ok q) × (i ∷ q ≡ p)
 path-ok (Ok q) i p e = (q, refl, cc)
 path-ok (Err f) i p e = absurd (cc)
 
@@ -202,5 +206,4 @@ put-overwrites steps v w x p c s e t path =
     let after = alike-cell new v (put-alike steps w v x c e (cell-alike w x at_part s t)) c in
     let f = framed-same (range_start p v) (range_start p v) (encode v) (buffer v) (encode new) (buffer new) (encode x) (buffer x) (encode w) (buffer w) (put-framed steps v w x p c s e t path) refl
     (buffer-encode v c.1 c.0) (buffer-encode new after.1 after.0) (buffer-encode x at_part.1 at_part.0) (buffer-encode w (subst HasLayout (sym t) at_part.1) s) in
-    let long : (u : Val) → length (buffer u) ≡ size (type_of u) = λ u. length-map-range_with_len (byte_at (number_at u) (leaves (type_of u))) 0 (size (type_of u)) in
-    framed-overwritten (range_start p v) (buffer v) (buffer new) (buffer x) (buffer w) f (long w ∙ ap size t ∙ sym (long x))
+    framed-overwritten (range_start p v) (buffer v) (buffer new) (buffer x) (buffer w) f (length-buffer w ∙ ap size t ∙ sym (length-buffer x))

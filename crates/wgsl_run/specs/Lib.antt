@@ -1,6 +1,7 @@
 pub mod Calls
 pub mod Errors
 pub mod Faults
+pub mod InStep
 pub mod Parts
 pub mod References
 pub mod Rows

@@ -1,9 +1,17 @@
-//! A law of writes and of the bytes that they change. The call does nothing.
+//! Laws of the memory and of its bytes. The calls do nothing.
 
 ghost use Rattle.wgsl_rules.specs.Bytes.{APutOverwritesItsRange};
+ghost use Rattle.wgsl_run.specs.InStep.{ValuesAndBytesAreInStep};
 
 /// A law: what a write through a reference changes in the bytes of its cell. A value that is put into
 /// the place of a part of its type overwrites the range of bytes that held the part, and no other byte.
 pub fn a_put_overwrites_its_range()
     ensures { APutOverwritesItsRange }
+{}
+
+/// A law: each step of the memory of values is a step of the memory of bytes that it stands for. There a cell
+/// is a string of bytes, what is read is the value that the bytes of a range lay out, and a write changes the
+/// bytes of a range.
+pub fn values_and_bytes_are_in_step()
+    ensures { ValuesAndBytesAreInStep }
 {}
