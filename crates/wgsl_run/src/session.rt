@@ -34,8 +34,9 @@ impl Model for Session {
 
 impl Session {
     ghost use Rattle.std.specs.Prelude.{◌≡◌, [], IfOk, option_map, slice_get, string_bytes};
+    ghost use Rattle.wgsl_rules.specs.Flat.{IsFlatStep, flat_of};
     ghost use Rattle.wgsl_rules.specs.Memory as memory;
-    ghost use Rattle.wgsl_rules.specs.Memory.{IsStep, IsReached, IsCell, IsKept, with_handle};
+    ghost use Rattle.wgsl_rules.specs.Memory.{IsStep, IsReached, IsCell, IsSound, IsKept, AllKept, with_handle};
     ghost use Rattle.wgsl_rules.specs.Values.{IsStorable};
     ghost use Rattle.wgsl_run.specs.View.{value_of};
     ghost use Rattle.wgsl_run.specs.Calls.{IsSoundCall, IsStorableReply, call_of, answer_of};
@@ -64,9 +65,12 @@ impl Session {
     pub fn call(&mut self, call: Call) -> Result<Reply, Fault>
         requires { IsSoundCall (call_of call) }
         ensures step { IsStep self.old (call_of call) self.new (answer_of result) }
+        // The same of the memory of bytes that the cells stand for.
+        ensures bytes { IsFlatStep (flat_of self.old) (call_of call) (flat_of self.new) (answer_of result) }
         // What is read may be stored again.
         ensures storable { IfOk result IsStorableReply }
     {
+        self.attest();
         match call {
             Call::New(value, space, access) => self.make(value, space, access),
             Call::Member(handle, name) => self.member(handle, name),
@@ -74,6 +78,15 @@ impl Session {
             Call::Read(handle) => self.read(handle),
             Call::Write(handle, value) => self.write(handle, value),
         }
+    }
+
+    // Does nothing: its contract says what holds of every session.
+    fn attest(&self)
+        ensures sound { IsSound self.now.cells }
+        ensures kept { AllKept self.now.cells self.now.handles }
+    {
+        self.store.attest();
+        let _ = &self.handles;
     }
 
     // A cell with the value, and its handle.
