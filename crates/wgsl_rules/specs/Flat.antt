@@ -5,7 +5,7 @@ use Rattle.wgsl_rules.specs.Access.{can_read, can_write}
 use Rattle.wgsl_rules.specs.Types.{Ty, struct, vec, Fields, no_fields, field}
 use Rattle.wgsl_rules.specs.Values as values
 use Rattle.wgsl_rules.specs.Values.{Step, Reference, Val, type_of}
-use Rattle.wgsl_rules.specs.Refusals.{Refusal, not_read, not_write, write_ref_type, Outcome, and_then}
+use Rattle.wgsl_rules.specs.Refusals.{Refusal, not_read, not_write, write_ref_type}
 use Rattle.wgsl_rules.specs.Paths.{viewed, fits}
 use Rattle.wgsl_rules.specs.Layout.{size, place_after}
 use Rattle.wgsl_rules.specs.Buffers.{buffer, Lays}

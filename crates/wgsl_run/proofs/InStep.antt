@@ -1,6 +1,6 @@
 -- The memory of values and the memory of bytes that it stands for stay in step.
-use Rattle.std.proofs.Common.{◌≡◌, ℕ, zero, suc, List, [], ◌∷◌, ◌++◌, length, map, take, drop, Bool, true, false, ◌&&◌, Option, Some, None, option_map, if◌then◌else◌, Ok, Err, refl, sym, ap, ◌∙◌, subst}
-use Rattle.std.specs.Prelude.{slice_get, IsOkAnd}
+use Rattle.std.proofs.Common.{◌≡◌, ℕ, zero, suc, List, [], ◌∷◌, ◌++◌, length, map, Bool, true, false, ◌&&◌, Option, Some, None, option_map, if◌then◌else◌, Ok, Err, refl, sym, ap, ◌∙◌, subst}
+use Rattle.std.specs.Prelude.{slice_get}
 use Rattle.std.proofs.lemmas.List.{map-append, length-map}
 use Rattle.std.proofs.lemmas.Option.{slice_get-map}
 use Rattle.wgsl_rules.specs.Access.{can_read, can_write}
@@ -13,7 +13,6 @@ use Rattle.wgsl_rules.specs.Equal.{same_is}
 use Rattle.wgsl_rules.specs.Paths.{or_refused, viewed, put_viewed, same_paths, fits}
 use Rattle.wgsl_rules.specs.declared.syntax.AddressSpace.{AddressSpace}
 use Rattle.wgsl_rules.specs.declared.syntax.AccessMode.{AccessMode}
-use Rattle.wgsl_rules.specs.Layout.{size}
 use Rattle.wgsl_rules.specs.Buffers.{buffer, Lays}
 use Rattle.wgsl_rules.specs.Bytes.{overwritten}
 use Rattle.wgsl_rules.specs.Memory as memory
@@ -22,7 +21,7 @@ use Rattle.wgsl_rules.specs.Flat as flat
 use Rattle.wgsl_rules.specs.Flat.{Flat, Cell, Range, After, cell_of, flat_of, bytes_in, Names, view_range, overwritten_at, put_bytes, IsAllowed, IsFound, IsAtHandle, with_part, with_bytes}
 use Rattle.wgsl_run.specs.InStep.{ValuesAndBytesAreInStep}
 use Rattle.wgsl_run.proofs.Alike.{alike-type, cell-alike, viewed-cell, put-alike}
-use Rattle.wgsl_run.proofs.Heap.{answered, handle-kept, held-cell, sound-at}
+use Rattle.wgsl_run.proofs.Heap.{answered, handle-kept, sound-at}
 use Rattle.wgsl_run.proofs.Ranges.{in-bytes}
 use Rattle.wgsl_run.proofs.Roundtrip.{buffer-laid}
 

@@ -1,12 +1,12 @@
 -- Where views lead in the bytes of a cell.
-use Rattle.std.proofs.Common.{◌≡◌, ℕ, zero, suc, ◌+◌, ◌<◌, List, [], ◌∷◌, length, take, drop, Bool, true, false, Option, Some, None, option_map, option_and_then, if◌then◌else◌, Ok, Err, refl, sym, ap, ◌∙◌, subst, arith}
+use Rattle.std.proofs.Common.{◌≡◌, ℕ, zero, suc, ◌+◌, ◌<◌, List, [], ◌∷◌, take, drop, Bool, true, false, Option, Some, None, option_map, option_and_then, if◌then◌else◌, Ok, refl, sym, ap, ◌∙◌, subst, arith}
 use Rattle.std.specs.Prelude.{bytes_eq, nat_lt}
 use Rattle.std.proofs.lemmas.Bool.{false≢true}
 use Rattle.std.proofs.lemmas.Bool.Decides.{nat_tests}
 use Rattle.wgsl_rules.specs.Types.{Ty, struct, vec, Fields, no_fields, field}
 use Rattle.wgsl_rules.specs.Values.{Step, member, index, Val, record_of, array_of, vector, matrix, Vals, no_vals, val, item, count, type_of, first_type, matrix_type, HaveTypes, AllOfType, IsStorable}
-use Rattle.wgsl_rules.specs.Refusals.{Refusal, component, out_of_bounds, Outcome, and_then}
-use Rattle.wgsl_rules.specs.Paths.{parts, placed, index_named, index_in, member_named, part_at, stepped, path_of, viewed, put_viewed}
+use Rattle.wgsl_rules.specs.Refusals.{component, out_of_bounds, Outcome, and_then}
+use Rattle.wgsl_rules.specs.Paths.{parts, placed, index_named, member_named, stepped, path_of, viewed, put_viewed}
 use Rattle.wgsl_rules.specs.Layout.{HasLayout, amount, size, place_after}
 use Rattle.wgsl_rules.specs.Buffers.{buffer}
 use Rattle.wgsl_rules.specs.Memory.{IsCell}
@@ -112,9 +112,11 @@ path-there : (steps : List Step) (v x : Val) → viewed steps v ≡ Ok x → (p 
 path-there [] v x e = ([], refl)
 path-there (s ∷ steps) v x e =
     let k = then-ok (stepped s v) (viewed steps) x e in
-    let q = path-there steps k.0.1 x k.2 in
-    (k.0.0 ∷ q.0, ap (λ (o : Outcome (ℕ × Val)). and_then o (λ p. and_then (path_of steps p.1) (λ l. Ok (p.0 ∷ l)))) k.1
-    ∙ ap (λ (o : Outcome (List ℕ)). and_then o (λ l. Ok (k.0.0 ∷ l))) q.1)
+    let q = path-there steps k.0.1 x k.2 in (
+      k.0.0 ∷ q.0,
+      ap (λ (o : Outcome (ℕ × Val)). and_then o (λ p. and_then (path_of steps p.1) (λ l. Ok (p.0 ∷ l)))) k.1
+          ∙ ap (λ (o : Outcome (List ℕ)). and_then o (λ l. Ok (k.0.0 ∷ l))) q.1,
+    )
 
 view-range : (steps : List Step) (v x : Val) (p : List ℕ) → IsCell v → viewed steps v ≡ Ok x → path_of steps v ≡ Ok p → view_range steps (type_of v) ≡ at (range_start p v) (type_of x)
 view-range [] v x p c e path =

@@ -1,5 +1,5 @@
 -- The bytes of a value lay it out.
-use Rattle.std.proofs.Common.{◌≡◌, ℕ, zero, suc, ◌+◌, ◌-◌, ◌*◌, ◌%◌, ◌/◌, ◌^◌, ◌<◌, ◌≤◌, pos, negsuc, List, [], ◌∷◌, ◌++◌, length, replicate, get_or, refl, sym, ap, ◌∙◌, subst, arith, append_assoc, append-nil, length-append, w32}
+use Rattle.std.proofs.Common.{◌≡◌, ℕ, ◌+◌, ◌-◌, ◌*◌, ◌%◌, ◌/◌, ◌^◌, ◌<◌, pos, negsuc, List, [], ◌++◌, length, replicate, get_or, refl, sym, ap, ◌∙◌, subst, arith, append_assoc, append-nil, length-append, w32}
 use Rattle.std.specs.Int.{to_le_bytes}
 use Rattle.std.proofs.lemmas.Bool.{false≢true}
 use Rattle.std.proofs.lemmas.Bool.Decides.{nat_tests}
@@ -8,8 +8,8 @@ use Rattle.std.proofs.lemmas.List.{length-replicate, get_or-append-add}
 use Rattle.wgsl_rules.specs.Kinds as kinds
 use Rattle.wgsl_rules.specs.Kinds.{InKind, wrap}
 use Rattle.wgsl_rules.specs.Types.{u32, struct, Fields, no_fields, field}
-use Rattle.wgsl_rules.specs.Values.{Val, number, record_of, vector, Vals, no_vals, val, count, type_of, first_type, HaveTypes, AllOfType, AreLiterals, AreStorable}
-use Rattle.wgsl_rules.specs.Layout.{HasLayout, size, place_after}
+use Rattle.wgsl_rules.specs.Values.{Val, number, record_of, vector, Vals, no_vals, val, count, type_of, first_type, HaveTypes, AllOfType, AreStorable}
+use Rattle.wgsl_rules.specs.Layout.{size, place_after}
 use Rattle.wgsl_rules.specs.Buffers.{number_from, buffer, Lays}
 use Rattle.wgsl_rules.specs.Memory.{IsCell}
 use Rattle.wgsl_run.specs.Walk.{encode, encode_all, encode_members, members_end, word, words, decode, decode_members, HaveEnd}

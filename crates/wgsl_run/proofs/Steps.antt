@@ -102,6 +102,18 @@ put-component i rest w x new vs e h =
     let led : stepped (index i) (vector vs) ≡ Ok (i, x) = rw (← e) refl in
     rw h (sym (put-step (index i) rest w (vector vs) (i, x) led (sym e)))
 
+-- a view goes on in the member of the name
+pub viewed-member : (n : List ℕ) (rest : List Step) (v x : Val) → Some x ≡ option_map (λ p. p.1) (member_named n v) → viewed (member n ∷ rest) v ≡ viewed rest x
+viewed-member n rest v x e = there (member_named n v) e
+  where
+    there : (o : Option (ℕ × Val)) → Some x ≡ option_map (λ p. p.1) o → and_then (or_refused o (component (type_of v) n)) (λ p. viewed rest p.1) ≡ viewed rest x
+    there None f = absurd (cc)
+    there (Some p) f = let same : p.1 ≡ x = cc in ap (viewed rest) same
+
+-- and in the component at the index
+pub viewed-component : (i : ℕ) (rest : List Step) (vs : Vals) (x : Val) → Some x ≡ item i vs → viewed (index i ∷ rest) (vector vs) ≡ viewed rest x
+viewed-component i rest vs x e = rw (← e) refl
+
 -- a struct whose member i is another
 pub with_part-placed : (i : ℕ) (w v : Val) → with_parts v (replace_item i (λ _. w) (parts v)) ≡ with_part (placed i (parts v)) w v
 with_part-placed i w v = by (item i (parts v)) refl

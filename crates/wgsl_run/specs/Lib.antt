@@ -2,6 +2,7 @@ pub mod Calls
 pub mod Errors
 pub mod Faults
 pub mod InStep
+pub mod Lines
 pub mod Parts
 pub mod References
 pub mod Rows

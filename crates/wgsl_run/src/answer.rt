@@ -1,6 +1,7 @@
 //! What a line is answered, and its text.
 
 ghost use Rattle.std.specs.Prelude.{◌≡◌};
+ghost use Rattle.wgsl_run.specs.Lines.{answer_for, stop_for};
 ghost use Rattle.wgsl_run.specs.declared.answer.Stop.TheVariants.{Case, Memory};
 
 use crate::call::{Fault, Reply};
@@ -37,6 +38,8 @@ pub(crate) enum Stop {
 }
 
 impl From<Reply> for Answer {
+    ghost from_gives = { λ reply answer. answer ≡ answer_for reply };
+
     fn from(reply: Reply) -> Answer {
         match reply {
             Reply::Handle(handle) => Answer::Handle(handle),
@@ -55,6 +58,8 @@ impl From<Error> for Stop {
 }
 
 impl From<Fault> for Stop {
+    ghost from_gives = { λ fault stop. stop ≡ stop_for fault };
+
     fn from(fault: Fault) -> Stop {
         match fault {
             Fault::NoHandle => Stop::NoHandle,

@@ -2,9 +2,10 @@
 
 ghost use Rattle.std.specs.Prelude.{◌≡◌, OnSome, option_map};
 ghost use Rattle.std.specs.Borrow.{LendsIf, LendsSo, sem};
+ghost use Rattle.std.specs.Result.{result_ok};
 ghost use Rattle.std.specs.Vec.{with_item};
 ghost use Rattle.wgsl_rules.specs.Values.{item};
-ghost use Rattle.wgsl_rules.specs.Paths.{member_named, put_viewed};
+ghost use Rattle.wgsl_rules.specs.Paths.{member_named, put_viewed, viewed};
 ghost use Rattle.wgsl_run.specs.Parts.{as_record, as_vector, with_member};
 ghost use Rattle.wgsl_run.specs.Rows.{list_row};
 ghost use Rattle.wgsl_run.specs.View.{value_of, struct_view, vec_view, vals_view, steps_of};
@@ -73,7 +74,8 @@ impl Instance {
     /// Puts the value in the place of the part that the view leads to, and gives the old part back;
     /// `None` where the view leads nowhere, and nothing is changed.
     pub(crate) fn put(&mut self, view: &MemView, value: Instance) -> Option<Instance>
-        ensures { value_of self.new ≡ put_viewed (steps_of view.now) (value_of value) (value_of self.old) }
+        ensures put { value_of self.new ≡ put_viewed (steps_of view.now) (value_of value) (value_of self.old) }
+        ensures part { option_map value_of result ≡ result_ok (viewed (steps_of view.now) (value_of self.old)) }
     {
         match view {
             MemView::Whole => Some(mem::replace(self, value)),

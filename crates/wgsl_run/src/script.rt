@@ -1,7 +1,8 @@
 //! Scripts: a line a call.
 
-ghost use Rattle.std.specs.Prelude.{IfOk};
+ghost use Rattle.std.specs.Prelude.{◌≡◌, IfOk, Err};
 ghost use Rattle.wgsl_rules.specs.Buffers.{Lays};
+ghost use Rattle.wgsl_rules.specs.Values.{Val};
 ghost use Rattle.wgsl_rules.specs.View.{type_view};
 ghost use Rattle.wgsl_run.specs.View.{value_of};
 
@@ -141,9 +142,10 @@ impl Script {
     }
 }
 
-/// The value of the type that the bytes lay out.
+/// The value of the type that the bytes lay out; `NoValue` where they lay out none.
 fn laid_out(alloc: Global, bytes: &[u8], ty: &Type) -> Result<Instance, Stop>
-    ensures { IfOk result (λ value. Lays bytes.now (type_view ty.now) (value_of value)) }
+    ensures value { IfOk result (λ value. Lays bytes.now (type_view ty.now) (value_of value)) }
+    ensures none { result ≡ Err Stop.NoValue → (v : Val) → ¬ Lays bytes.now (type_view ty.now) v }
 {
     match Instance::from_buffer(alloc, bytes, ty)? {
         Some(value) => Ok(value),

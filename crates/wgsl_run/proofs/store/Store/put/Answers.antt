@@ -9,7 +9,7 @@ invariant_of-self c =
     let cs = c.self.inside.cells.items in
     let steps = steps_of c.args.view.now in
     let lt = within-cells cs c.args.self.now c.args.i c.self.view_is (kept-within c.args.self.now c.args.i steps _ c.requires.typed) in
-    let e = rw c.index_mut-cell.ensures.value at c.put.ensures in
+    let e = rw c.index_mut-cell.ensures.value at c.put.ensures.put in
     rw (map-set cs c.args.i c.put.new.self c.index_mut-cell.result.now steps (value_of c.args.value) lt e)
     (sound-put _ c.args.i steps (value_of c.args.value) c.self.invariant c.requires.storable (rw (← c.self.view_is) at c.requires.typed))
 
@@ -18,7 +18,7 @@ returns-clause-put c =
     let cs = c.self.inside.cells.items in
     let steps = steps_of c.args.view.now in
     let lt = within-cells cs c.args.self.now c.args.i c.self.view_is (kept-within c.args.self.now c.args.i steps _ c.requires.typed) in
-    let e = rw c.index_mut-cell.ensures.value at c.put.ensures in
+    let e = rw c.index_mut-cell.ensures.value at c.put.ensures.put in
     map-set cs c.args.i c.put.new.self c.index_mut-cell.result.now steps (value_of c.args.value) lt e
     ∙ ap (λ vs. put_cells vs c.args.i steps (value_of c.args.value)) c.self.view_is
 
@@ -27,6 +27,6 @@ returns-clause-kept c = λ r k.
     let cs = c.self.inside.cells.items in
     let steps = steps_of c.args.view.now in
     let lt = within-cells cs c.args.self.now c.args.i c.self.view_is (kept-within c.args.self.now c.args.i steps _ c.requires.typed) in
-    let e = rw c.index_mut-cell.ensures.value at c.put.ensures in
+    let e = rw c.index_mut-cell.ensures.value at c.put.ensures.put in
     rw (map-set cs c.args.i c.put.new.self c.index_mut-cell.result.now steps (value_of c.args.value) lt e)
     (kept-put _ c.args.i r.cell steps r.view (value_of c.args.value) r.ty c.self.invariant c.requires.storable (rw (← c.self.view_is) at c.requires.typed) (rw (← c.self.view_is) at k))
