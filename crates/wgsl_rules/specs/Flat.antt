@@ -137,6 +137,12 @@ abbrev pub IsFlatStep : Flat → Call → Flat → Option Answer → Type 0
 IsFlatStep before call after None = after ≡ before
 IsFlatStep before call after (Some a) = IsReached before call (record { flat = after; answer = a })
 
+-- one step for each call, in order, with one answer each
+abbrev pub IsFlatRun : Flat → List Call → Flat → List (Option Answer) → Type 0
+IsFlatRun before [] after answers = (answers ≡ []) × (after ≡ before)
+IsFlatRun before (call ∷ calls) after [] = ⊥
+IsFlatRun before (call ∷ calls) after (answer ∷ answers) = (next : Flat) × IsFlatStep before call next answer × IsFlatRun next calls after answers
+
 -- the memory of bytes that a memory of values stands for
 abbrev pub flat_of : State → Flat
 flat_of s = record { cells = map cell_of s.cells; handles = s.handles }

@@ -126,3 +126,9 @@ IsReached reached before after (Some a) = reached ≡ record { state = after; an
 
 abbrev pub IsStep : State → Call → State → Option Answer → Type 0
 IsStep before call after answer = IsReached (step before call) before after answer
+
+-- one step for each call, in order, with one answer each
+abbrev pub IsRun : State → List Call → State → List (Option Answer) → Type 0
+IsRun before [] after answers = (answers ≡ []) × (after ≡ before)
+IsRun before (call ∷ calls) after [] = ⊥
+IsRun before (call ∷ calls) after (answer ∷ answers) = (next : State) × IsStep before call next answer × IsRun next calls after answers

@@ -22,7 +22,7 @@ answered (Err e) P h = absurd h
 abbrev HasType : Ty → Val → Type 0
 HasType t v = type_of v ≡ t
 
-abbrev LeadsTo : Outcome Val → Ty → Type 0
+abbrev pub LeadsTo : Outcome Val → Ty → Type 0
 LeadsTo o t = IsOkAnd o (HasType t)
 
 -- ---- one cell

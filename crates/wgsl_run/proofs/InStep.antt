@@ -112,10 +112,10 @@ read-row s r v reached true is n e =
 read-row s r v reached false is n e = ap flat_after (sym e)
 
 -- the cells after a write to the value v
-abbrev put-if : State → Reference → Val → Val → Outcome (List Val)
+abbrev pub put-if : State → Reference → Val → Val → Outcome (List Val)
 put-if s r w v = if fits w v then Ok (put_cells s.cells r.cell r.view w) else Err (write_ref_type (type_of w) r.ty)
 
-abbrev with-cells : State → List Val → memory.After
+abbrev pub with-cells : State → List Val → memory.After
 with-cells s cells = record { state = record { cells = cells; handles = s.handles }; answer = done }
 
 cells-after : (s : State) (r : Reference) (w : Val) (b : Bool) → (b ≡ true → map cell_of (put_cells s.cells r.cell r.view w) ≡ put_bytes (map cell_of s.cells) r.cell r.view (buffer w))
@@ -129,7 +129,7 @@ first-true : (a b : Bool) → (a && b) ≡ true → a ≡ true
 first-true true b e = refl
 first-true false b e = e
 
-fits-type : (w v : Val) → fits w v ≡ true → type_of w ≡ type_of v
+pub fits-type : (w v : Val) → fits w v ≡ true → type_of w ≡ type_of v
 fits-type w v e = (same_is (type_of w) (type_of v)).0 (first-true (same (type_of w) (type_of v)) (same_paths w v) e)
 
 write-row : (s : State) (r : Reference) (w v : Val) (reached : memory.After) (b : Bool) → IsSound s.cells → IsStorable w → held s.cells r ≡ Ok v → Names (map cell_of s.cells) r v
@@ -159,25 +159,25 @@ handle-names s h r sound kept is =
     (v, led, names s.cells r v sound led t)
 
 pub in-step : ValuesAndBytesAreInStep
-in-step before after call None sound kept c e = ap flat_of e
-in-step before after (memory.new v space access) (Some a) sound kept c e = ap flat_after (sym e) ∙ new-after before v space access
-in-step before after (memory.member h n) (Some a) sound kept c e =
+in-step before after call None good c e = ap flat_of e
+in-step before after (memory.new v space access) (Some a) good c e = ap flat_after (sym e) ∙ new-after before v space access
+in-step before after (memory.member h n) (Some a) good c e =
     at-handle before h (λ r. or_unchanged before (deeper before.cells r (values.member n)) (with_handle before before.cells)) (record { state = after; answer = a })
     (λ r. IsAllowed (can_read r.access) not_read (flat_of before) r (with_part (flat_of before) r (values.member n))) e (λ r is f.
-    let k = handle-names before h r sound kept is in
+    let k = handle-names before h r good.sound good.kept is in
     part-row before r (values.member n) k.0 (record { state = after; answer = a }) (can_read r.access) k.1 k.2 f)
-in-step before after (memory.index h i) (Some a) sound kept c e =
+in-step before after (memory.index h i) (Some a) good c e =
     at-handle before h (λ r. or_unchanged before (deeper before.cells r (values.index i)) (with_handle before before.cells)) (record { state = after; answer = a })
     (λ r. IsAllowed (can_read r.access) not_read (flat_of before) r (with_part (flat_of before) r (values.index i))) e (λ r is f.
-    let k = handle-names before h r sound kept is in
+    let k = handle-names before h r good.sound good.kept is in
     part-row before r (values.index i) k.0 (record { state = after; answer = a }) (can_read r.access) k.1 k.2 f)
-in-step before after (memory.read_of h) (Some a) sound kept c e =
+in-step before after (memory.read_of h) (Some a) good c e =
     at-handle before h (λ r. or_unchanged before (read before.cells r) (λ v. memory.unchanged before (value v))) (record { state = after; answer = a })
     (λ r. IsAllowed (can_read r.access) not_read (flat_of before) r (λ v. flat.unchanged (flat_of before) (value v))) e (λ r is f.
-    let k = handle-names before h r sound kept is in
+    let k = handle-names before h r good.sound good.kept is in
     read-row before r k.0 (record { state = after; answer = a }) (can_read r.access) k.1 k.2 f)
-in-step before after (memory.write h w) (Some a) sound kept c e =
+in-step before after (memory.write h w) (Some a) good c e =
     at-handle before h (λ r. or_unchanged before (written before.cells r w) (with-cells before)) (record { state = after; answer = a })
     (λ r. IsAllowed (can_write r.access) not_write (flat_of before) r (with_bytes (flat_of before) r w)) e (λ r is f.
-    let k = handle-names before h r sound kept is in
-    write-row before r w k.0 (record { state = after; answer = a }) (can_write r.access) sound c k.1 k.2 f)
+    let k = handle-names before h r good.sound good.kept is in
+    write-row before r w k.0 (record { state = after; answer = a }) (can_write r.access) good.sound c k.1 k.2 f)

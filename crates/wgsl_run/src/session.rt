@@ -36,9 +36,10 @@ impl Session {
     ghost use Rattle.std.specs.Prelude.{◌≡◌, [], IfOk, option_map, slice_get, string_bytes};
     ghost use Rattle.wgsl_rules.specs.Flat.{IsFlatStep, flat_of};
     ghost use Rattle.wgsl_rules.specs.Memory as memory;
-    ghost use Rattle.wgsl_rules.specs.Memory.{IsStep, IsReached, IsCell, IsSound, IsKept, AllKept, with_handle};
+    ghost use Rattle.wgsl_rules.specs.Memory.{IsStep, IsReached, IsCell, IsKept, with_handle};
     ghost use Rattle.wgsl_rules.specs.Values.{IsStorable};
     ghost use Rattle.wgsl_run.specs.View.{value_of};
+    ghost use Rattle.wgsl_run.specs.InStep.{IsGood};
     ghost use Rattle.wgsl_run.specs.Calls.{IsSoundCall, IsStorableReply, call_of, answer_of};
     ghost use Rattle.wgsl_run.specs.References.{reference_of};
 
@@ -82,8 +83,7 @@ impl Session {
 
     // Does nothing: its contract says what holds of every session.
     fn attest(&self)
-        ensures sound { IsSound self.now.cells }
-        ensures kept { AllKept self.now.cells self.now.handles }
+        ensures { IsGood self.now }
     {
         self.store.attest();
         let _ = &self.handles;
