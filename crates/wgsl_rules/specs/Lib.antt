@@ -14,6 +14,7 @@ pub mod Refusals
 pub mod Same
 pub mod Size
 pub mod Text
+pub mod TypeParts
 pub mod Types
 pub mod Values
 pub mod View

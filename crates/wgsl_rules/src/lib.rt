@@ -7,10 +7,12 @@ mod display;
 mod eq;
 pub mod laws;
 mod number;
+mod parts;
 mod size;
 mod syntax;
 #[cfg(test)]
 mod tests;
+mod traits;
 mod ty;
 
 pub use conv::{common_type_is_symmetric, conversion_rank, convert_all_ty, convert_ty};
@@ -18,4 +20,5 @@ pub use syntax::{
     AccessMode, AddressSpace, BinaryOperator, Enumerant, SampledType, SamplerType, ShaderStage,
     TexelFormat, TextureType, UnaryOperator,
 };
+pub use traits::Ty;
 pub use ty::{StructMemberType, StructType, Type};
