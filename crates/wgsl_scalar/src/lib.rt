@@ -4,6 +4,7 @@
 mod arith;
 mod bits;
 mod builtin;
+mod conv;
 mod counts;
 mod error;
 mod kind;

@@ -4,7 +4,7 @@ ghost use Rattle.std.specs.Prelude.{◌≡◌, pos, IfSome, MatchOption, None, S
 ghost use Rattle.wgsl_rules.specs.Kinds as kinds;
 ghost use Rattle.wgsl_rules.specs.Kinds.{InKind};
 ghost use Rattle.wgsl_rules.specs.Types as types;
-ghost use Rattle.wgsl_rules.specs.Values.{type_of, truth, number};
+ghost use Rattle.wgsl_rules.specs.Values.{IsStorable, type_of, truth, number};
 ghost use Rattle.wgsl_rules.specs.View.{type_view};
 ghost use Rattle.wgsl_scalar.specs.Conversions.{abstract_converted, literal_converted};
 ghost use Rattle.wgsl_scalar.specs.Literals.{literal_of, number_of, number_view, kind_of};
@@ -26,17 +26,18 @@ pub enum LiteralInstance {
 }
 
 impl LiteralInstance {
-    /// The type of this literal.
+    /// The type of this literal, whose number is one of its kind (WGSL: scalar types).
     pub fn literal_ty(&self) -> Type
-        ensures { type_view result ≡ type_of (literal_of self.now) }
+        ensures value { type_view result ≡ type_of (literal_of self.now) }
+        ensures in_kind { IsStorable (literal_of self.now) }
     {
-        match self {
+        match *self {
             LiteralInstance::Bool(_) => Type::Bool,
-            LiteralInstance::AbstractInt(_) => Type::AbstractInt,
-            LiteralInstance::I32(_) => Type::I32,
-            LiteralInstance::U32(_) => Type::U32,
-            LiteralInstance::I64(_) => Type::I64,
-            LiteralInstance::U64(_) => Type::U64,
+            LiteralInstance::AbstractInt(_number) => Type::AbstractInt,
+            LiteralInstance::I32(_number) => Type::I32,
+            LiteralInstance::U32(_number) => Type::U32,
+            LiteralInstance::I64(_number) => Type::I64,
+            LiteralInstance::U64(_number) => Type::U64,
         }
     }
 

@@ -1,0 +1,12 @@
+//! The values of WGSL: literals, composites, atomics, pointers and references, views into them,
+//! and every way to look at their parts and to write them.
+#![tactic(auto)]
+
+mod inst;
+mod view;
+
+pub use inst::{
+    ArrayInstance, AtomicInstance, Instance, MatInstance, PtrInstance, RefInstance, StructInstance,
+    VecInstance,
+};
+pub use view::MemView;
