@@ -1,1 +1,4 @@
+pub mod Parts
+pub mod Rows
 pub mod View
+pub mod Written

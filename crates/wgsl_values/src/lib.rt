@@ -3,6 +3,7 @@
 #![tactic(auto)]
 
 mod inst;
+mod mem_mut;
 mod view;
 
 pub use inst::{

@@ -1,0 +1,16 @@
+-- The types that a value holds, as the logic holds them, for the clauses on what a `&mut` lends.
+use denote.RattleType.{RattleType}
+use Rattle.std.specs.contracts.alloc.Global as global
+use Rattle.std.specs.contracts.vec.Vec as vec
+use Rattle.std.specs.contracts.impls.GlobalAllocator.TheImpl.{ghosts}
+use Rattle.wgsl_values.specs.contracts.inst.Instance.{the_row}
+use Rattle.wgsl_values.specs.declared.inst.Instance.{Instance}
+use Rattle.wgsl_values.specs.declared.inst.Instance.TheViews.{roll-AtomicInstance}
+use Rattle.wgsl_values.specs.declared.inst.AtomicInstance.{AtomicInstance}
+
+abbrev pub list_row : RattleType
+list_row = vec.the_row the_row global.the_row ghosts
+
+-- the atomic with w as what it holds
+abbrev pub holding : AtomicInstance → Instance → AtomicInstance
+holding a w = roll-AtomicInstance (record { content = record a.content { value = w } })
