@@ -1,6 +1,5 @@
 -- Rows of matrices, and transposed matrices.
-use Rattle.std.proofs.Common.{◌≡◌, ℕ, zero, suc, ◌<◌, ◌≤◌, [], ◌∷◌, Option, Some, None, IfSome, IsSomeAnd, option_and_then, ◌⊎◌, arith, refl, sym, ap, ◌∙◌, ⊎_elim}
-use Rattle.wgsl_rules.specs.Types as types
+use Rattle.std.proofs.Common.{◌≡◌, ℕ, zero, suc, ◌<◌, ◌≤◌, [], ◌∷◌, Option, Some, None, IfSome, IsSomeAnd, option_and_then, ◌⊎◌, arith, refl, sym, ap, ap₂, ◌∙◌, ⊎_elim}
 use Rattle.wgsl_rules.specs.Types.{Ty}
 use Rattle.wgsl_rules.specs.Paths.{parts, value_at}
 use Rattle.wgsl_rules.specs.Values.{Val, vector, matrix, Vals, no_vals, val, count, item, IsWellFormed}
@@ -29,10 +28,9 @@ tabulated-is zero f no_vals c h = refl
 tabulated-is zero f (val v vs) c h = absurd (omega arith)
 tabulated-is (suc n) f no_vals c h = absurd (omega arith)
 tabulated-is (suc n) f (val v vs) c h =
-    let first = h 0 (omega arith) in
-    let same : v ≡ f 0 = cc in
-    let rest = tabulated-is n (λ i. f (suc i)) vs (omega arith) (λ i l. h (suc i) (omega arith)) in
-    cc
+    let some = h 0 (omega arith) in
+    let first : v ≡ f 0 = cc in
+    ap₂ val first (tabulated-is n (λ i. f (suc i)) vs (omega arith) (λ i l. h (suc i) (omega arith)))
 
 -- ---- rows
 
@@ -111,13 +109,6 @@ rows-item n t columns h i j =
     (λ l. ap (component_at j) (item-past (rows n columns) i (omega (arith, tabulated-count n (λ k. vector (row k columns)), l))) ∙ sym (column-short n t i (item j columns) l (Each-item (IsColumn n t) columns h j)))
     side
 
-swapped : (c r n m : ℕ) (t u : Ty) (s : Ty) → s ≡ types.mat m n u → (q : Ty) → q ≡ types.mat n m u → s ≡ types.mat c r t → q ≡ types.mat r c t
-swapped c r n m t u s e q f g =
-    let one : m ≡ c = cc in
-    let two : n ≡ r = cc in
-    let same : u ≡ t = cc in
-    cc
-
 pub transposed_exchanges : (m : Val) → IsMatrix m → IsWellFormed m → Transposes (transposed m) m
 transposed_exchanges (matrix columns) k h =
     let n = row_count columns in
@@ -128,7 +119,7 @@ transposed_exchanges (matrix columns) k h =
     record {
       is_matrix = tt;
       storable = columns-storable (count columns) t (rows n columns) turned;
-      ty = λ c r u e. swapped c r n (count columns) u t _ (columns-type n t columns are) _ (columns-type (count columns) t (rows n columns) turned ∙ ap (λ x. types.mat x (count columns) t) counted) e;
+      ty = λ c r u e. let before = columns-type n t columns are in let after = columns-type (count columns) t (rows n columns) turned in cc;
       components = λ i j. at-component j (item i (rows n columns)) ∙ rows-item n t columns are.each i j ∙ sym (at-component i (item j columns));
     }
 transposed_exchanges m k h = absurd k

@@ -1,5 +1,5 @@
 -- What texts tell of values.
-use Rattle.std.proofs.Common.{◌≡◌, ◌≢◌, ℕ, suc, ◌^◌, ◌<◌, ◌≤◌, ℤ, pos, negsuc, List, [], ◌∷◌, ◌++◌, length, get_or, drop, Bool, true, false, codes, decimal, arith, refl, sym, ap, ◌∙◌, subst, append_assoc, append-nil}
+use Rattle.std.proofs.Common.{◌≡◌, ◌≢◌, ℕ, suc, ◌^◌, ◌<◌, ◌≤◌, ℤ, pos, negsuc, List, [], ◌∷◌, ◌++◌, length, get_or, drop, Bool, true, false, codes, decimal, arith, refl, sym, ap, ◌∙◌, subst, ap₂, append_assoc, append-nil}
 use Rattle.std.specs.Fmt.{signed_decimal}
 use Rattle.std.specs.Str.Parse.{AllDigits}
 use Rattle.std.proofs.lemmas.Int.{ints}
@@ -40,11 +40,9 @@ cut P [] [] x y a b f g e = (refl, e)
 cut P [] (d ∷ t) x y a b f g e = absurd (subst (BeginsNot P) e f b.0)
 cut P (c ∷ s) [] x y a b f g e = absurd (subst (BeginsNot P) (sym e) g a.0)
 cut P (c ∷ s) (d ∷ t) x y a b f g e =
-    let rest : s ++ x ≡ t ++ y = cc in
-    let h = cut P s t x y a.1 b.1 f g rest in
     let first : c ≡ d = cc in
-    let same : s ≡ t = h.0 in
-    (cc, h.1)
+    let rest = cut P s t x y a.1 b.1 f g (ap (drop 1) e) in
+    (ap₂ ◌∷◌ first rest.0, rest.1)
 
 -- ---- decimal texts
 
@@ -152,9 +150,15 @@ pub record IsStoredLiteral (v : Val) : Type 0 where
   pub literal : IsLiteral v
   pub storable : IsStorable v
 
+word-begins : (b : Bool) → BeginsNot IsOfNumber (literal_text (truth b))
+word-begins true = λ h. omega arith
+word-begins false = λ h. omega arith
+
 word-apart : (b : Bool) (k : Kind) (z : ℤ) → InKind k z → literal_text (truth b) ≢ literal_text (number k z)
-word-apart true k z h e = signed-some z (narrow k z h) (sym (cut IsOfNumber [] (signed_decimal z) (codes "true") (suffix k) tt (signed-of_number z (narrow k z h)) (λ d. omega arith) (suffix-begins k) (e ∙ number-text k z)).0)
-word-apart false k z h e = signed-some z (narrow k z h) (sym (cut IsOfNumber [] (signed_decimal z) (codes "false") (suffix k) tt (signed-of_number z (narrow k z h)) (λ d. omega arith) (suffix-begins k) (e ∙ number-text k z)).0)
+word-apart b k z h e =
+    let near = narrow k z h in
+    let none = (cut IsOfNumber [] (signed_decimal z) (literal_text (truth b)) (suffix k) tt (signed-of_number z near) (word-begins b) (suffix-begins k) (e ∙ number-text k z)).0 in
+    signed-some z near (sym none)
 
 truths-apart : (a b : Bool) → literal_text (truth a) ≡ literal_text (truth b) → a ≡ b
 truths-apart true true e = refl
@@ -164,10 +168,11 @@ truths-apart false false e = refl
 
 numbers-apart : (j k : Kind) (y z : ℤ) → InKind j y → InKind k z → literal_text (number j y) ≡ literal_text (number k z) → number j y ≡ number k z
 numbers-apart j k y z a b e =
-    let h = cut IsOfNumber (signed_decimal y) (signed_decimal z) (suffix j) (suffix k) (signed-of_number y (narrow j y a)) (signed-of_number z (narrow k z b)) (suffix-begins j) (suffix-begins k) (sym (number-text j y) ∙ e ∙ number-text k z) in
-    let one : j ≡ k = suffix-injective j k h.1 in
-    let same : y ≡ z = signed-injective y z (narrow j y a) (narrow k z b) h.0 in
-    cc
+    let near_y = narrow j y a in
+    let near_z = narrow k z b in
+    let parts = cut IsOfNumber (signed_decimal y) (signed_decimal z) (suffix j) (suffix k) (signed-of_number y near_y) (signed-of_number z near_z) (suffix-begins j) (suffix-begins k)
+    (sym (number-text j y) ∙ e ∙ number-text k z) in
+    ap₂ number (suffix-injective j k parts.1) (signed-injective y z near_y near_z parts.0)
 
 literal-injective : (v w : Val) → IsStoredLiteral v → IsStoredLiteral w → text_of_value v ≡ text_of_value w → v ≡ w
 literal-injective (truth a) (truth b) g h e = ap truth (truths-apart a b e)
@@ -198,32 +203,33 @@ literals-tell v w x y a b f g e =
     let h = cut IsOfLiteral (text_of_value v) (text_of_value w) x y (literal-of_literal v a) (literal-of_literal w b) f g e in
     (literal-injective v w a b h.0, h.1)
 
-more-begins : (vs : Vals) (x : List ℕ) → BeginsNot IsOfLiteral (text_of_more_items vs ++ (41 ∷ x))
+more-begins : (vs : Vals) (x : List ℕ) → BeginsNot IsOfLiteral (text_of_more_items vs ++ (codes ")" ++ x))
 more-begins no_vals x = λ h. omega arith
 more-begins (val v vs) x = λ h. omega arith
 
+first-tells : (P : Val → Type 0) → TellsOn P → (v w : Val) (vs ws : Vals) (x y : List ℕ) → P v → P w
+    → text_of_items (val v vs) ++ (codes ")" ++ x) ≡ text_of_items (val w ws) ++ (codes ")" ++ y)
+    → (v ≡ w) × (text_of_more_items vs ++ (codes ")" ++ x) ≡ text_of_more_items ws ++ (codes ")" ++ y))
+first-tells P tell v w vs ws x y a b e =
+    tell v w _ _ a b (more-begins vs x) (more-begins ws y)
+    (sym (append_assoc (text_of_value v) (text_of_more_items vs) (codes ")" ++ x)) ∙ e ∙ append_assoc (text_of_value w) (text_of_more_items ws) (codes ")" ++ y))
+
 more-tell : (P : Val → Type 0) → TellsOn P → (vs ws : Vals) (x y : List ℕ) → Each P vs → Each P ws
-    → text_of_more_items vs ++ (41 ∷ x) ≡ text_of_more_items ws ++ (41 ∷ y) → (vs ≡ ws) × (x ≡ y)
+    → text_of_more_items vs ++ (codes ")" ++ x) ≡ text_of_more_items ws ++ (codes ")" ++ y) → (vs ≡ ws) × (x ≡ y)
 more-tell P tell no_vals no_vals x y a b e = (refl, ap (drop 1) e)
 more-tell P tell no_vals (val w ws) x y a b e = absurd (omega (arith, ap (λ s. get_or s 0 0) e))
 more-tell P tell (val v vs) no_vals x y a b e = absurd (omega (arith, ap (λ s. get_or s 0 0) e))
 more-tell P tell (val v vs) (val w ws) x y a b e =
-    let on = sym (append_assoc (text_of_value v) (text_of_more_items vs) (41 ∷ x)) ∙ ap (drop 2) e ∙ append_assoc (text_of_value w) (text_of_more_items ws) (41 ∷ y) in
-    let h = tell v w (text_of_more_items vs ++ (41 ∷ x)) (text_of_more_items ws ++ (41 ∷ y)) a.0 b.0 (more-begins vs x) (more-begins ws y) on in
-    let k = more-tell P tell vs ws x y a.1 b.1 h.1 in
-    let first : v ≡ w = h.0 in
-    let rest : vs ≡ ws = k.0 in
-    (cc, k.1)
+    let first = first-tells P tell v w vs ws x y a.0 b.0 (ap (drop 2) e) in
+    let rest = more-tell P tell vs ws x y a.1 b.1 first.1 in
+    (ap₂ val first.0 rest.0, rest.1)
 
 items-tell : (P : Val → Type 0) → TellsOn P → (vs ws : Vals) (x y : List ℕ) → 0 < count vs → 0 < count ws → Each P vs → Each P ws
-    → text_of_items vs ++ (41 ∷ x) ≡ text_of_items ws ++ (41 ∷ y) → (vs ≡ ws) × (x ≡ y)
+    → text_of_items vs ++ (codes ")" ++ x) ≡ text_of_items ws ++ (codes ")" ++ y) → (vs ≡ ws) × (x ≡ y)
 items-tell P tell (val v vs) (val w ws) x y m n a b e =
-    let on = sym (append_assoc (text_of_value v) (text_of_more_items vs) (41 ∷ x)) ∙ e ∙ append_assoc (text_of_value w) (text_of_more_items ws) (41 ∷ y) in
-    let h = tell v w (text_of_more_items vs ++ (41 ∷ x)) (text_of_more_items ws ++ (41 ∷ y)) a.0 b.0 (more-begins vs x) (more-begins ws y) on in
-    let k = more-tell P tell vs ws x y a.1 b.1 h.1 in
-    let first : v ≡ w = h.0 in
-    let rest : vs ≡ ws = k.0 in
-    (cc, k.1)
+    let first = first-tells P tell v w vs ws x y a.0 b.0 e in
+    let rest = more-tell P tell vs ws x y a.1 b.1 first.1 in
+    (ap₂ val first.0 rest.0, rest.1)
 items-tell P tell no_vals ws x y m n a b e = absurd (omega arith)
 items-tell P tell (val v vs) no_vals x y m n a b e = absurd (omega arith)
 
@@ -237,18 +243,22 @@ pub record IsStoredVector (v : Val) : Type 0 where
   pub vector : IsVector v
   pub storable : IsStorable v
 
-closed : (s x : List ℕ) → (s ++ codes ")") ++ x ≡ s ++ (41 ∷ x)
-closed s x = append_assoc s (codes ")") x
+-- the items in parentheses
+abbrev in_parentheses : Vals → List ℕ
+in_parentheses vs = codes "(" ++ (text_of_items vs ++ codes ")")
 
-vector-text : (vs : Vals) (x : List ℕ) → text_of_value (vector vs) ++ x ≡ codes "vec" ++ (decimal (count vs) ++ (40 ∷ (text_of_items vs ++ (41 ∷ x))))
-vector-text vs x = ap (λ s. codes "vec" ++ s) (append_assoc (decimal (count vs)) (codes "(" ++ (text_of_items vs ++ codes ")")) x ∙ ap (λ s. decimal (count vs) ++ (40 ∷ s)) (closed (text_of_items vs) x))
+in_parentheses-tell : (P : Val → Type 0) → TellsOn P → (vs ws : Vals) (x y : List ℕ) → 2 ≤ count vs → 2 ≤ count ws → Each P vs → Each P ws
+    → in_parentheses vs ++ x ≡ in_parentheses ws ++ y → (vs ≡ ws) × (x ≡ y)
+in_parentheses-tell P tell vs ws x y m n a b e =
+    items-tell P tell vs ws x y (omega arith) (omega arith) a b
+    (sym (append_assoc (text_of_items vs) (codes ")") x) ∙ ap (drop 1) e ∙ append_assoc (text_of_items ws) (codes ")") y)
 
 vectors-tell : TellsOn IsStoredVector
 vectors-tell (vector vs) (vector ws) x y a b f g e =
-    let on = ap (drop 3) (sym (vector-text vs x) ∙ e ∙ vector-text ws y) in
-    let h = decimal-cut (count vs) (count ws) (40 ∷ (text_of_items vs ++ (41 ∷ x))) (40 ∷ (text_of_items ws ++ (41 ∷ y))) (omega (arith, a.storable.1)) (omega (arith, b.storable.1)) (λ d. omega arith) (λ d. omega arith) on in
-    let k = items-tell IsStoredLiteral literals-tell vs ws x y (omega (arith, a.storable.0)) (omega (arith, b.storable.0)) (stored_literals vs a.storable.2 a.storable.4) (stored_literals ws b.storable.2 b.storable.4) (ap (drop 1) h.1) in
-    (ap vector k.0, k.1)
+    let counts = decimal-cut (count vs) (count ws) (in_parentheses vs ++ x) (in_parentheses ws ++ y) (omega (arith, a.storable.1)) (omega (arith, b.storable.1)) (λ d. omega arith) (λ d. omega arith)
+    (sym (append_assoc (decimal (count vs)) (in_parentheses vs) x) ∙ ap (drop 3) e ∙ append_assoc (decimal (count ws)) (in_parentheses ws) y) in
+    let items = in_parentheses-tell IsStoredLiteral literals-tell vs ws x y a.storable.0 b.storable.0 (stored_literals vs a.storable.2 a.storable.4) (stored_literals ws b.storable.2 b.storable.4) counts.1 in
+    (ap vector items.0, items.1)
 vectors-tell (vector vs) w x y a b f g e = absurd b.vector
 vectors-tell v w x y a b f g e = absurd a.vector
 
@@ -263,28 +273,23 @@ row_count-le no_vals h = omega arith
 row_count-le (val (vector vs) ws) h = omega (arith, h.0.storable.1)
 row_count-le (val v ws) h = absurd h.0.vector
 
-matrix-text : (vs : Vals) (x : List ℕ) → text_of_value (matrix vs) ++ x ≡ codes "mat" ++ (decimal (count vs) ++ (120 ∷ (decimal (row_count vs) ++ (40 ∷ (text_of_items vs ++ (41 ∷ x))))))
-matrix-text vs x = ap (λ s. codes "mat" ++ s)
-    (append_assoc (decimal (count vs)) (codes "x" ++ (decimal (row_count vs) ++ (codes "(" ++ (text_of_items vs ++ codes ")")))) x
-    ∙ ap (λ s. decimal (count vs) ++ (120 ∷ s)) (append_assoc (decimal (row_count vs)) (codes "(" ++ (text_of_items vs ++ codes ")")) x ∙ ap (λ s. decimal (row_count vs) ++ (40 ∷ s)) (closed (text_of_items vs) x)))
-
-matrices-tell : (vs ws : Vals) → IsStorable (matrix vs) → IsStorable (matrix ws) → text_of_value (matrix vs) ++ [] ≡ text_of_value (matrix ws) ++ [] → vs ≡ ws
+matrices-tell : (vs ws : Vals) → IsStorable (matrix vs) → IsStorable (matrix ws) → text_of_value (matrix vs) ≡ text_of_value (matrix ws) → vs ≡ ws
 matrices-tell vs ws a b e =
     let columns_v = stored_vectors vs a.2 a.4 in
     let columns_w = stored_vectors ws b.2 b.4 in
-    let on = ap (drop 3) (sym (matrix-text vs []) ∙ e ∙ matrix-text ws []) in
-    let h = decimal-cut (count vs) (count ws) (120 ∷ (decimal (row_count vs) ++ (40 ∷ (text_of_items vs ++ codes ")")))) (120 ∷ (decimal (row_count ws) ++ (40 ∷ (text_of_items ws ++ codes ")")))) (omega (arith, a.1)) (omega (arith, b.1)) (λ d. omega arith) (λ d. omega arith) on in
-    let k = decimal-cut (row_count vs) (row_count ws) (40 ∷ (text_of_items vs ++ codes ")")) (40 ∷ (text_of_items ws ++ codes ")")) (omega (arith, row_count-le vs columns_v)) (omega (arith, row_count-le ws columns_w)) (λ d. omega arith) (λ d. omega arith) (ap (drop 1) h.1) in
-    (items-tell IsStoredVector vectors-tell vs ws [] [] (omega (arith, a.0)) (omega (arith, b.0)) columns_v columns_w (ap (drop 1) k.1)).0
+    let columns = decimal-cut (count vs) (count ws) _ _ (omega (arith, a.1)) (omega (arith, b.1)) (λ d. omega arith) (λ d. omega arith) (ap (drop 3) e) in
+    let rows = decimal-cut (row_count vs) (row_count ws) _ _ (omega (arith, row_count-le vs columns_v)) (omega (arith, row_count-le ws columns_w)) (λ d. omega arith) (λ d. omega arith) (ap (drop 1) columns.1) in
+    (in_parentheses-tell IsStoredVector vectors-tell vs ws [] [] a.0 b.0 columns_v columns_w (ap (λ s. s ++ []) rows.1)).0
 
 -- ---- texts of atomics
 
-content-tells : (v w : Val) → IsStoredLiteral v → IsStoredLiteral w → text_of_value v ++ codes ")" ≡ text_of_value w ++ codes ")" → v ≡ w
-content-tells v w a b e = (literals-tell v w (codes ")") (codes ")") a b (λ d. omega arith) (λ d. omega arith) e).0
+content-tells : (k : Kind) (y z : ℤ) → InKind k y → InKind k z → text_of_value (number k y) ++ codes ")" ≡ text_of_value (number k z) ++ codes ")" → number k y ≡ number k z
+content-tells k y z a b e =
+    (literals-tell (number k y) (number k z) (codes ")") (codes ")") (record { literal = tt; storable = a }) (record { literal = tt; storable = b }) (λ d. omega arith) (λ d. omega arith) e).0
 
 atomics-tell : (v w : Val) → IsStorable (atomic_of v) → IsStorable (atomic_of w) → text_of_value (atomic_of v) ≡ text_of_value (atomic_of w) → v ≡ w
-atomics-tell (number kinds.i32 y) (number kinds.i32 z) a b e = content-tells (number kinds.i32 y) (number kinds.i32 z) (record { literal = tt; storable = a.1 }) (record { literal = tt; storable = b.1 }) (ap (drop 12) e)
-atomics-tell (number kinds.u32 y) (number kinds.u32 z) a b e = content-tells (number kinds.u32 y) (number kinds.u32 z) (record { literal = tt; storable = a.1 }) (record { literal = tt; storable = b.1 }) (ap (drop 12) e)
+atomics-tell (number kinds.i32 y) (number kinds.i32 z) a b e = content-tells kinds.i32 y z a.1 b.1 (ap (drop 12) e)
+atomics-tell (number kinds.u32 y) (number kinds.u32 z) a b e = content-tells kinds.u32 y z a.1 b.1 (ap (drop 12) e)
 atomics-tell (number kinds.i32 y) (number kinds.u32 z) a b e = absurd (omega (arith, ap (λ s. get_or s 7 0) e))
 atomics-tell (number kinds.u32 y) (number kinds.i32 z) a b e = absurd (omega (arith, ap (λ s. get_or s 7 0) e))
 atomics-tell (number kinds.i32 y) w a b e = absurd b.0
@@ -308,7 +313,7 @@ vectors_apart (vector vs) w k l g h = absurd l
 vectors_apart v w k l g h = absurd k
 
 pub matrices_apart : TextsTellApart IsMatrix
-matrices_apart (matrix vs) (matrix ws) k l g h = (λ e. ap matrix (matrices-tell vs ws g h (ap (λ s. s ++ []) e)), ap text_of_value)
+matrices_apart (matrix vs) (matrix ws) k l g h = (λ e. ap matrix (matrices-tell vs ws g h e), ap text_of_value)
 matrices_apart (matrix vs) w k l g h = absurd l
 matrices_apart v w k l g h = absurd k
 
