@@ -1,4 +1,7 @@
+pub mod Laws
+pub mod Matrices
 pub mod Parts
 pub mod Rows
+pub mod Texts
 pub mod View
 pub mod Written
