@@ -3,6 +3,7 @@
 #![tactic(auto)]
 
 mod inst;
+mod parts;
 mod view;
 
 pub use inst::{
