@@ -1,2 +1,3 @@
+pub mod Iterators
 pub mod Parts
 pub mod View

@@ -3,6 +3,7 @@
 #![tactic(auto)]
 
 mod inst;
+mod iter;
 mod parts;
 mod view;
 
@@ -10,4 +11,5 @@ pub use inst::{
     ArrayInstance, AtomicInstance, Instance, MatInstance, PtrInstance, RefInstance, StructInstance,
     VecInstance,
 };
+pub use iter::{IntoItems, Items, MatItems};
 pub use view::MemView;
