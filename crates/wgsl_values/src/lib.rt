@@ -3,6 +3,7 @@
 #![tactic(auto)]
 
 mod clone;
+mod eq;
 mod inst;
 mod view;
 
