@@ -54,13 +54,13 @@ format_decided = decided format.ghosts.eq format_laws.laws-law.refl (same_true f
 samplers_decided : (a b : SamplerType) → Decides (samplers.ghosts.eq a b) (a ≡ b)
 samplers_decided = decided samplers.ghosts.eq samplers_laws.laws-law.refl (same_true samplers_type (search rules))
 
-one : {P Q : Type 0} {a : Bool} → Decides a P → (P → Q) → (Q → P) → Decides a Q
+pub one : {P Q : Type 0} {a : Bool} → Decides a P → (P → Q) → (Q → P) → Decides a Q
 one {a = a} d f g = Decides-like a f g d
 
-two : {P R Q : Type 0} {a b : Bool} → Decides a P → Decides b R → (P × R → Q) → (Q → P × R) → Decides (a && b) Q
+pub two : {P R Q : Type 0} {a b : Bool} → Decides a P → Decides b R → (P × R → Q) → (Q → P × R) → Decides (a && b) Q
 two {a = a} {b = b} d e f g = Decides-like (a && b) f g (Decides-and a b d e)
 
-no : {P : Type 0} → (P → true ≡ false) → Decides false P
+pub no : {P : Type 0} → (P → true ≡ false) → Decides false P
 no f = (λ h. absurd (false≢true h), λ p. sym (f p))
 
 textures_decided : (a b : TextureType) → Decides (same_texture a b) (a ≡ b)

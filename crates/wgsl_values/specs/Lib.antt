@@ -1,8 +1,10 @@
+pub mod Equal
 pub mod Iterators
 pub mod Laws
 pub mod Matrices
 pub mod Parts
 pub mod Rows
+pub mod Same
 pub mod Texts
 pub mod View
 pub mod Written

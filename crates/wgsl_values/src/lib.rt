@@ -3,6 +3,8 @@
 //! Values of WGSL: literals, composites, atomics, pointers and references.
 #![tactic(auto)]
 
+mod clone;
+mod eq;
 mod inst;
 mod iter;
 mod laws;
