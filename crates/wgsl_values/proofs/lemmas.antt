@@ -1,2 +1,4 @@
 -- Lemmas that other crates cite.
+pub mod Nodes
+pub mod Replaced
 pub mod Steps

@@ -1,10 +1,5 @@
 -- The parts of values, as the calls that look at them answer.
-<<<<<<< HEAD
-use Rattle.std.specs.Prelude.{ℕ, Bool, false, List, [], ◌∷◌, Option, Some, None, option_and_then}
-use Rattle.wgsl_rules.specs.Paths.{parts}
-=======
 use Rattle.std.specs.Prelude.{ℕ, Bool, false, Option, Some, None, option_and_then}
->>>>>>> f4b9386
 use Rattle.wgsl_rules.specs.Values.{Val, record_of, array_of, vector, matrix, Vals, no_vals, val, count, item}
 
 -- ---- the composites among the values (WGSL: composite types)

@@ -1,7 +1,7 @@
 -- Values that a part is written into (WGSL: assignment statement).
-use Rattle.std.specs.Prelude.{ℕ, List, [], ◌∷◌, Option, Some, None}
-use Rattle.wgsl_rules.specs.Values.{Val, array_of, matrix}
-use Rattle.wgsl_rules.specs.Paths.{put_tree, member_named}
+use Rattle.std.specs.Prelude.{◌≡◌, ℕ, List, [], ◌∷◌, Option, Some, None}
+use Rattle.wgsl_rules.specs.Values.{Val, array_of, matrix, type_of, IsStorable}
+use Rattle.wgsl_rules.specs.Paths.{put_tree, member_named, value_at}
 
 -- v with w in the place of its part i
 abbrev pub with_part : ℕ → Val → Val → Val
@@ -29,3 +29,14 @@ as_array v = None
 abbrev pub as_matrix : Val → Option Val
 as_matrix (matrix vs) = Some (matrix vs)
 as_matrix v = None
+
+-- ---- the whole after a part was written
+
+-- new may be stored, and is of the type of old
+pub record IsReplaced (new old : Val) : Type 0 where
+  pub storable : IsStorable new
+  pub ty : type_of new ≡ type_of old
+
+-- a value that may be stored, with another of its type in the place of a part
+abbrev pub APartReplacedIsStorable : Type 0
+APartReplacedIsStorable = (p : List ℕ) (v w x : Val) → IsStorable v → value_at p v ≡ Some x → IsStorable w → type_of w ≡ type_of x → IsReplaced (put_tree p w v) v

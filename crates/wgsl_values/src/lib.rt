@@ -1,6 +1,5 @@
 //! The values of WGSL: literals, composites, atomics, pointers and references, views into them,
 //! and every way to look at their parts and to write them.
-//! Values of WGSL: literals, composites, atomics, pointers and references.
 #![tactic(auto)]
 
 mod clone;
@@ -12,7 +11,13 @@ mod mem_mut;
 mod parts;
 mod view;
 
-pub use inst::{ArrayInstance, AtomicInstance, Instance, MatInstance, PtrInstance, RefInstance, StructInstance, VecInstance};
+pub use inst::{
+    ArrayInstance, AtomicInstance, Instance, MatInstance, PtrInstance, RefInstance, StructInstance,
+    VecInstance,
+};
 pub use iter::{IntoItems, Items, MatItems};
-pub use laws::{texts_tell_values_apart, transposed_exchanges_rows_and_columns, transposed_twice_is_itself};
+pub use laws::{
+    a_part_replaced_is_storable, texts_tell_values_apart, transposed_exchanges_rows_and_columns,
+    transposed_twice_is_itself,
+};
 pub use view::MemView;

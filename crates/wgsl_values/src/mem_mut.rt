@@ -5,8 +5,7 @@ ghost use Rattle.std.specs.Borrow.{Lends, LendsIf, LendsSo, sem};
 ghost use Rattle.std.specs.Result.{result_ok};
 ghost use Rattle.std.specs.Vec.{with_item};
 ghost use Rattle.wgsl_rules.specs.Values.{IsVector, atomic_of, item};
-ghost use Rattle.wgsl_rules.specs.Paths.{index_in, member_named, parts, put_viewed, viewed};
-ghost use Rattle.wgsl_rules.specs.View.{struct_view as struct_type_view};
+ghost use Rattle.wgsl_rules.specs.Paths.{member_named, parts, put_viewed, viewed};
 ghost use Rattle.wgsl_values.specs.Parts.{as_record, as_vector, component_at};
 ghost use Rattle.wgsl_values.specs.Rows.{list_row, holding};
 ghost use Rattle.wgsl_values.specs.declared.inst.Instance.{Instance};
@@ -38,9 +37,9 @@ ghost use Rattle.wgsl_values.specs.declared.inst.Instance.{Array, Mat, Struct, V
 use crate::inst::{
     ArrayInstance, AtomicInstance, Instance, MatInstance, StructInstance, VecInstance,
 };
+use crate::parts::position;
 use crate::view::MemView;
 use std::mem;
-use wgsl_rules::StructType;
 
 // The part at the index, to be written.
 #[tactic(auto, using(crate::proofs::Views::item_within, crate::proofs::Views::item_past))]
@@ -85,18 +84,6 @@ impl MatInstance {
     {
         nth_mut(&mut self.columns, i)
     }
-}
-
-// The position of the first member of the name.
-fn position(ty: &StructType, name: &str) -> Option<usize>
-    ensures { result ≡ index_in name.now (struct_type_view ty.now) }
-{
-    for (i, member) in ty.members.iter().enumerate() {
-        if member.name.as_str() == name {
-            return Some(i);
-        }
-    }
-    None
 }
 
 impl StructInstance {

@@ -89,6 +89,10 @@ with_part-own i v x e = ap (with_parts v) (replace_item-own i (parts v) x e) ∙
 pub with_inner_part-is : (i j : ℕ) (w v x : Val) → item i (parts v) ≡ Some x → with_part i (with_part j w x) v ≡ with_inner_part i j w v
 with_inner_part-is i j w v x e = ap (with_parts v) (replace_item-same i (λ _. with_part j w x) (put_tree (j ∷ []) w) (parts v) x e refl)
 
+-- what is put along a path is put into the first part on it
+pub put_tree-step : (i : ℕ) (p : List ℕ) (w v x : Val) → item i (parts v) ≡ Some x → put_tree (i ∷ p) w v ≡ with_part i (put_tree p w x) v
+put_tree-step i p w v x e = ap (with_parts v) (replace_item-same i (put_tree p w) (λ _. put_tree p w x) (parts v) x e refl)
+
 put-along : (o : Outcome (List ℕ)) (p : ℕ × Val) (w v : Val) → item p.0 (parts v) ≡ Some p.1
     → (elim (and_then o (λ q. Ok (p.0 ∷ q))) [ Ok r ↦ put_tree r w v | Err e ↦ v ])
     ≡ with_part p.0 (elim o [ Ok q ↦ put_tree q w p.1 | Err e ↦ p.1 ]) v

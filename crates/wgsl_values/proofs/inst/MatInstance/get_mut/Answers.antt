@@ -4,12 +4,13 @@ use Rattle.wgsl_values.proofs.inst.MatInstance.get_mut.Goals as goal
 
 pub returns-in_err-components : goal.returns-in_err-components
 returns-in_err-components c =
-    rw c.from_residual-in_err-components.ensures
-    ((refl, (λ w. tt), column-kept c.args.self.now c.args.col c.in_ok-column.column.now c.in_ok-column.ensures.value),
-    record {
-      writes_back = tt;
-      value = component_at-none c.args.self.now c.args.col c.args.row c.in_ok-column.column.now c.in_ok-column.ensures.value c.in_err-components.ensures.value;
-    })
+    rw c.from_residual-in_err-components.ensures (
+      (refl, (λ w. tt), column-kept c.args.self.now c.args.col c.in_ok-column.column.now c.in_ok-column.ensures.value),
+      record {
+        writes_back = tt;
+        value = component_at-none c.args.self.now c.args.col c.args.row c.in_ok-column.column.now c.in_ok-column.ensures.value c.in_err-components.ensures.value;
+      },
+    )
 
 pub returns : goal.returns
 returns c = (
