@@ -2,6 +2,7 @@
 //! and every way to look at their parts and to write them.
 #![tactic(auto)]
 
+mod conv;
 mod inst;
 mod iter;
 mod parts;
