@@ -1,3 +1,5 @@
 pub mod Equal
+pub mod Matrices
 pub mod Same
+pub mod Texts
 pub mod View

@@ -3,6 +3,7 @@
 #![tactic(auto)]
 
 mod clone;
+mod display;
 mod eq;
 mod inst;
 mod view;
