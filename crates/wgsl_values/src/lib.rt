@@ -4,6 +4,7 @@
 
 mod clone;
 mod conv;
+mod display;
 mod eq;
 mod inst;
 mod iter;
