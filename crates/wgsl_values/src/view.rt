@@ -1,10 +1,20 @@
 //! Views into values (WGSL: memory views).
 
-ghost use Rattle.std.specs.Prelude.{◌≡◌, [], ◌∷◌, ◌++◌, OnErr, OnOk, string_bytes};
-ghost use Rattle.wgsl_rules.specs.Values.{index as index_step, member as member_step};
-ghost use Rattle.wgsl_values.specs.View.{steps_of};
+ghost use Rattle.std.specs.Prelude.{◌≡◌, [], ◌∷◌, ◌++◌, OnErr, OnOk, option_map, string_bytes};
+ghost use Rattle.wgsl_rules.specs.Paths.{member_named, viewed};
+ghost use Rattle.wgsl_rules.specs.Values.{
+  IsWellFormed,
+  index as index_step,
+  member as member_step,
+};
+ghost use Rattle.wgsl_scalar.specs.Answers.{Gives};
+ghost use Rattle.wgsl_values.specs.View.{value_of, steps_of};
 
+use crate::inst::Instance;
+use crate::parts::nth;
 use std::alloc::{AllocError, Global};
+use wgsl_rules::Ty;
+use wgsl_scalar::Error;
 
 /// A way from a value to a part of it, the outermost step first.
 #[derive(Debug, Drop)]
@@ -46,6 +56,38 @@ impl MemView {
             MemView::Whole => *self = last,
             MemView::Member(_, rest) => rest.append(last),
             MemView::Index(_, rest) => rest.append(last),
+        }
+    }
+}
+
+impl Instance {
+    fn member(&self, name: &str) -> Option<&Instance>
+        ensures { option_map (λ v. value_of v.now) result ≡ option_map (λ p. p.1) (member_named name.now (value_of self.now)) }
+    {
+        self.as_struct()?.member(name)
+    }
+
+    /// The part that the view leads to (WGSL: memory views). It takes no memory.
+    ///
+    /// The first step that leads nowhere is refused, with the type of the value that it was taken
+    /// from: `Component` for a name, `NotIndexable` or `OutOfBounds` for an index.
+    pub fn view(&self, alloc: Global, view: &MemView) -> Result<&Instance, Error>
+        requires { IsWellFormed (value_of self.now) }
+        ensures { Gives (λ v. value_of v.now) result (viewed (steps_of view.now) (value_of self.now)) }
+    {
+        match view {
+            MemView::Whole => Ok(self),
+            MemView::Member(name, rest) => match self.member(name.as_str()) {
+                Some(member) => member.view(alloc, rest),
+                None => Err(Error::Component(self.ty(alloc)?, name.clone()?)),
+            },
+            MemView::Index(i, rest) => match self.indexed() {
+                Some(parts) => match nth(parts, *i) {
+                    Some(part) => part.view(alloc, rest),
+                    None => Err(Error::OutOfBounds(*i, self.ty(alloc)?, parts.len())),
+                },
+                None => Err(Error::NotIndexable(self.ty(alloc)?)),
+            },
         }
     }
 }
