@@ -1,4 +1,4 @@
--- The texts of composites and atomics, and of the first items of a list.
+-- The texts of composites, and of the first items of a list.
 use Rattle.std.proofs.Common.{◌≡◌, ℕ, zero, suc, ◌+◌, ◌<◌, ◌==◌, false, List, [], ◌∷◌, ◌++◌, take, length, get_or, refl, sym, ap, ◌∙◌, arith, append_assoc, append-nil, string_bytes, codes}
 use Rattle.std.proofs.lemmas.Bool.Decides.{nat_tests}
 use Rattle.std.specs.Prelude.{decimal}
@@ -6,14 +6,13 @@ use Rattle.wgsl_rules.specs.declared.ty.StructType.{out-StructType}
 use Rattle.wgsl_rules.proofs.Views.{struct_view-is as struct_type_view-is}
 use Rattle.wgsl_values.specs.declared.inst.Instance.{Instance}
 use Rattle.wgsl_values.specs.declared.inst.ArrayInstance.{ArrayInstance}
-use Rattle.wgsl_values.specs.declared.inst.AtomicInstance.{AtomicInstance}
 use Rattle.wgsl_values.specs.declared.inst.MatInstance.{MatInstance}
 use Rattle.wgsl_values.specs.declared.inst.StructInstance.{StructInstance}
 use Rattle.wgsl_values.specs.declared.inst.VecInstance.{VecInstance}
 use Rattle.wgsl_values.specs.Matrices.{row_count}
-use Rattle.wgsl_values.specs.Texts.{text_of_value, text_of_items, text_of_more_items, text_before_item, literal_type_text}
-use Rattle.wgsl_values.specs.View.{value_of, array_view, atomic_view, mat_view, struct_view, vec_view, vals_view}
-use Rattle.wgsl_values.proofs.Views.{array_view-is, atomic_view-is, mat_view-is, struct_view-is, vec_view-is, count-vals_view}
+use Rattle.wgsl_values.specs.Texts.{text_of_value, text_of_items, text_of_more_items, text_before_item}
+use Rattle.wgsl_values.specs.View.{value_of, array_view, mat_view, struct_view, vec_view, vals_view}
+use Rattle.wgsl_values.proofs.Views.{array_view-is, mat_view-is, struct_view-is, vec_view-is, count-vals_view}
 
 pub text_of_struct : (s : StructInstance) → text_of_value (struct_view s) ≡ string_bytes (out-StructType s.ty).name ++ (codes "(" ++ (text_of_items (vals_view s.members.items) ++ codes ")"))
 text_of_struct s = rw (struct_view-is s, struct_type_view-is s.ty) refl
@@ -26,9 +25,6 @@ text_of_vec v = rw (vec_view-is v, count-vals_view v.components.items) refl
 
 pub text_of_mat : (m : MatInstance) → text_of_value (mat_view m) ≡ codes "mat" ++ (decimal (length m.columns.items) ++ (codes "x" ++ (decimal (row_count (vals_view m.columns.items)) ++ (codes "(" ++ (text_of_items (vals_view m.columns.items) ++ codes ")")))))
 text_of_mat m = rw (mat_view-is m, count-vals_view m.columns.items) refl
-
-pub text_of_atomic : (a : AtomicInstance) → text_of_value (atomic_view a) ≡ codes "atomic<" ++ (literal_type_text (value_of a.content.value) ++ (codes ">(" ++ (text_of_value (value_of a.content.value) ++ codes ")")))
-text_of_atomic a = rw (atomic_view-is a) refl
 
 more_items_more : (vs : List Instance) (i : ℕ) (d : Instance) → i < length vs
     → text_of_more_items (vals_view (take (suc i) vs)) ≡ text_of_more_items (vals_view (take i vs)) ++ (codes ", " ++ text_of_value (value_of (get_or vs i d)))

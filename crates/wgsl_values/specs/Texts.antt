@@ -5,8 +5,8 @@ use Rattle.wgsl_rules.specs.Values.{Step, member, index, Val, truth, number, rec
 use Rattle.wgsl_scalar.specs.Texts.{literal_text}
 use Rattle.wgsl_values.specs.Matrices.{row_count}
 
--- the type of a literal, as an atomic that holds it names it (WGSL: atomic types); of the other
--- values, which no atomic holds, nothing
+-- the type of a literal, which is what an atomic holds (WGSL: scalar types); empty for the other
+-- values
 abbrev pub literal_type_text : Val → List ℕ
 literal_type_text (truth b) = type_text (type_of (truth b))
 literal_type_text (number k z) = type_text (type_of (number k z))
@@ -22,7 +22,7 @@ abbrev mutual
   text_of_value (array_of runtime vs) = codes "array(" ++ (text_of_items vs ++ codes ")")
   text_of_value (vector vs) = codes "vec" ++ (decimal (count vs) ++ (codes "(" ++ (text_of_items vs ++ codes ")")))
   text_of_value (matrix vs) = codes "mat" ++ (decimal (count vs) ++ (codes "x" ++ (decimal (row_count vs) ++ (codes "(" ++ (text_of_items vs ++ codes ")")))))
-  text_of_value (atomic_of v) = codes "atomic<" ++ (literal_type_text v ++ (codes ">(" ++ (text_of_value v ++ codes ")")))
+  text_of_value (atomic_of v) = codes "atomic<" ++ (literal_type_text v ++ (codes ">(" ++ (literal_text v ++ codes ")")))
   text_of_value (pointer r) = type_text (type_of (pointer r))
   text_of_value (reference r) = type_text (type_of (reference r))
   text_of_value (deferred t) = codes "__deferred<" ++ (type_text t ++ codes ">")

@@ -9,7 +9,6 @@ ghost use Rattle.wgsl_values.specs.Texts.{
   text_of_value,
   text_of_items,
   text_before_item,
-  literal_type_text,
   text_of_steps,
 };
 ghost use Rattle.wgsl_values.specs.View.{
@@ -84,7 +83,12 @@ impl Display for AtomicInstance {
     ghost output = { λ a. Some (text_of_value (atomic_view a)) };
 
     fn fmt<W: fmt::Write>(&self, f: &mut fmt::Formatter<W>) -> fmt::Result {
-        write_atomic(f, self)
+        match &*self.content {
+            Instance::Literal(content) => {
+                write!(f, "atomic<{}>({content})", content.literal_ty())
+            }
+            _ => f.write_str("atomic<>()"),
+        }
     }
 }
 
@@ -143,7 +147,7 @@ fn write_value<W: fmt::Write>(f: &mut fmt::Formatter<W>, value: &Instance) -> fm
         Instance::Mat(m) => write_mat(f, m),
         Instance::Ptr(p) => p.fmt(f),
         Instance::Ref(r) => r.fmt(f),
-        Instance::Atomic(a) => write_atomic(f, a),
+        Instance::Atomic(a) => a.fmt(f),
         Instance::Deferred(ty) => write!(f, "__deferred<{ty}>"),
     }
 }
@@ -189,17 +193,6 @@ fn write_mat<W: fmt::Write>(f: &mut fmt::Formatter<W>, value: &MatInstance) -> f
 }
 
 #[cycle(texts)]
-fn write_atomic<W: fmt::Write>(f: &mut fmt::Formatter<W>, value: &AtomicInstance) -> fmt::Result
-    ensures { WritesOnOk W.write_str_gives f.old result (text_of_value (atomic_view value.now)) f.new }
-{
-    f.write_str("atomic<")?;
-    write_literal_type(f, &value.content)?;
-    f.write_str(">(")?;
-    write_value(f, &value.content)?;
-    f.write_str(")")
-}
-
-#[cycle(texts)]
 fn write_items<W: fmt::Write>(f: &mut fmt::Formatter<W>, items: &Vec<Instance>) -> fmt::Result
     ensures { WritesOnOk W.write_str_gives f.old result (text_of_items (vals_view items.now.items)) f.new }
 {
@@ -210,15 +203,6 @@ fn write_items<W: fmt::Write>(f: &mut fmt::Formatter<W>, items: &Vec<Instance>) 
         is_first = false;
     }
     Ok(())
-}
-
-fn write_literal_type<W: fmt::Write>(f: &mut fmt::Formatter<W>, value: &Instance) -> fmt::Result
-    ensures { WritesOnOk W.write_str_gives f.old result (literal_type_text (value_of value.now)) f.new }
-{
-    match value {
-        Instance::Literal(literal) => literal.literal_ty().fmt(f),
-        _ => Ok(()),
-    }
 }
 
 fn before_item(is_first: bool) -> &'static str
