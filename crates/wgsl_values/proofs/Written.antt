@@ -1,14 +1,17 @@
 -- Composites with a part written.
-use Rattle.std.proofs.Common.{◌≡◌, ℕ, zero, suc, List, Option, None, Some, option_map, Ok, refl, sym, ap, ◌∙◌}
+use Rattle.std.proofs.Common.{◌≡◌, ◌↔◌, ℕ, zero, suc, Bool, true, false, IsTrue, List, Option, None, Some, option_map, Ok, Err, refl, sym, ap, ◌∙◌}
 use Rattle.std.specs.Option.{OnSome}
 use Rattle.std.specs.Vec.{with_item}
 use Rattle.wgsl_rules.specs.Paths.{index_in, parts, part_at, placed, member_named, replace_item}
+use Rattle.wgsl_rules.specs.Equal.{same_is}
+use Rattle.wgsl_rules.specs.Refusals.{write_ref_type}
+use Rattle.wgsl_rules.specs.Same.{same}
 use Rattle.wgsl_rules.specs.Types.{Ty}
-use Rattle.wgsl_rules.specs.Values.{Val, Vals, no_vals, val, item, record_of, array_of, vector, matrix}
+use Rattle.wgsl_rules.specs.Values.{Val, Vals, no_vals, val, item, record_of, array_of, vector, matrix, type_of}
 use Rattle.wgsl_rules.specs.View.{struct_view as struct_type_view}
 use Rattle.wgsl_values.specs.Parts.{as_record, as_vector, component_at, components}
 use Rattle.wgsl_values.specs.View.{value_of, array_view, mat_view, struct_view, vec_view, vals_view}
-use Rattle.wgsl_values.specs.Written.{as_array, as_matrix, with_part, with_inner_part, with_placed, with_member}
+use Rattle.wgsl_values.specs.Written.{as_array, as_matrix, replaced, with_part, with_inner_part, with_placed, with_member}
 use Rattle.wgsl_values.specs.declared.inst.Instance.{Instance, Vec}
 use Rattle.wgsl_values.specs.declared.inst.Instance.TheViews.{roll-ArrayInstance, roll-MatInstance, roll-StructInstance, roll-VecInstance}
 use Rattle.wgsl_values.specs.declared.inst.ArrayInstance.{ArrayInstance}
@@ -142,3 +145,17 @@ no_components x j e = refl
 pub component_at-none : (m : MatInstance) (i j : ℕ) (column : Instance) → Some (value_of column) ≡ item i (vals_view m.columns.items)
     → None ≡ as_vector (value_of column) → None ≡ component_at i j (parts (mat_view m))
 component_at-none m i j column at is = rw (mat_view-is m, ← at) (no_components (value_of column) j is)
+
+-- ---- a value that replaces another
+
+pub replaced-is : (w v : Val) (b : Bool) → IsTrue b ↔ (type_of v ≡ type_of w) → IsTrue b → replaced w v ≡ Ok v
+replaced-is w v b h is = rw ((same_is (type_of w) (type_of v)).1 (sym (h.0 is))) refl
+
+unlike : (b : Bool) → (IsTrue b → ⊥) → b ≡ false
+unlike true h = absurd (h refl)
+unlike false h = refl
+
+pub replaced-refused : (w v : Val) (b : Bool) → IsTrue b ↔ (type_of v ≡ type_of w) → b ≡ false → replaced w v ≡ Err (write_ref_type (type_of w) (type_of v))
+replaced-refused w v b h is =
+    let other = unlike (same (type_of w) (type_of v)) (λ e. let k = h.1 (sym ((same_is (type_of w) (type_of v)).0 e)) in cc) in
+    rw other refl

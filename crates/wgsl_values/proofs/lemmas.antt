@@ -1,4 +1,5 @@
 -- Lemmas that other crates cite.
 pub mod Nodes
+pub mod PutTwice
 pub mod Replaced
 pub mod Steps

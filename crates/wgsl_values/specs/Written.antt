@@ -1,6 +1,8 @@
 -- Values that a part is written into (WGSL: assignment statement).
-use Rattle.std.specs.Prelude.{◌≡◌, ℕ, List, [], ◌∷◌, Option, Some, None}
+use Rattle.std.specs.Prelude.{◌≡◌, ℕ, List, [], ◌∷◌, Option, Some, None, Ok, Err, if◌then◌else◌}
 use Rattle.wgsl_rules.specs.Values.{Val, array_of, matrix, type_of, IsStorable}
+use Rattle.wgsl_rules.specs.Refusals.{Outcome, write_ref_type}
+use Rattle.wgsl_rules.specs.Same.{same}
 use Rattle.wgsl_rules.specs.Paths.{put_tree, member_named, value_at}
 
 -- v with w in the place of its part i
@@ -29,6 +31,10 @@ as_array v = None
 abbrev pub as_matrix : Val → Option Val
 as_matrix (matrix vs) = Some (matrix vs)
 as_matrix v = None
+
+-- what is answered where w is written over v: v, if the two are of one type
+abbrev pub replaced : Val → Val → Outcome Val
+replaced w v = if same (type_of w) (type_of v) then Ok v else Err (write_ref_type (type_of w) (type_of v))
 
 -- ---- the whole after a part was written
 

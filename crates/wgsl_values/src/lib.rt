@@ -10,6 +10,7 @@ mod inst;
 mod iter;
 mod laws;
 mod mem_mut;
+mod part_mut;
 mod parts;
 mod view;
 
@@ -22,4 +23,5 @@ pub use laws::{
     a_part_replaced_is_storable, texts_tell_values_apart, transposed_exchanges_rows_and_columns,
     transposed_twice_is_itself,
 };
+pub use part_mut::{PartMut, Placed};
 pub use view::MemView;

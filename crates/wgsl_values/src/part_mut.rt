@@ -1,0 +1,132 @@
+//! Parts of values that are lent to be written (WGSL: memory views; assignment statement).
+
+ghost use Rattle.std.specs.Prelude.{◌≡◌, [], IfOk, OnErr, OnOk};
+ghost use Rattle.std.specs.Borrow.{Lends, RestsIfErr, sem};
+ghost use mir.Syntax.{named};
+ghost use Rattle.wgsl_rules.specs.Paths.{put_viewed, viewed};
+ghost use Rattle.wgsl_rules.specs.Values.{Val, IsStorable, IsWellFormed};
+ghost use Rattle.wgsl_scalar.specs.Answers.{Gives};
+ghost use Rattle.wgsl_values.specs.View.{value_of, steps_of};
+ghost use Rattle.wgsl_values.specs.Written.{replaced};
+ghost use Rattle.wgsl_values.specs.contracts.inst.Instance.{the_row};
+ghost use Rattle.wgsl_values.specs.contracts.part_mut.PartMut.{the_row as part_row};
+
+use crate::inst::Instance;
+use crate::view::MemView;
+use std::alloc::Global;
+use std::mem;
+use std::ops::{Deref, DerefMut};
+use wgsl_rules::Ty;
+use wgsl_scalar::{Error, LiteralInstance};
+
+/// What can stand in the place of a part of a value: an [`Instance`].
+pub trait Placed {
+    /// The value that it puts there.
+    ghost placed: { Self → Val };
+
+    /// Puts it in the place of the part that the view leads to; where the view leads nowhere,
+    /// nothing is changed.
+    fn place(self, whole: &mut Instance, view: &MemView)
+        ensures { value_of whole.new ≡ put_viewed (steps_of view.now) (placed self) (value_of whole.old) };
+}
+
+impl Placed for Instance {
+    ghost placed = { value_of };
+
+    fn place(self, whole: &mut Instance, view: &MemView) {
+        whole.put(view, self);
+    }
+}
+
+/// A part of a value, lent to be written: an [`Instance`] by `Deref` and `DerefMut`. It is out of
+/// the value meanwhile, and is put back when this is let go.
+pub struct PartMut<'a, P: Placed> {
+    whole: &'a mut Instance,
+    view: &'a MemView,
+    part: P,
+}
+
+impl<P: Placed + Drop> Drop for PartMut<'_, P> {
+    fn drop(self)
+        ensures { value_of self.exit.0.now ≡ put_viewed (steps_of self.entry.view.now) (P.placed self.entry.part) (value_of self.entry.whole.now) }
+    {
+        let PartMut { whole, view, part } = self;
+        part.place(whole, view);
+    }
+}
+
+impl<P: Placed> Deref for PartMut<'_, P> {
+    type Target = P;
+
+    ghost deref_gives = { λ m v. v ≡ m.part };
+
+    fn deref(&self) -> &P
+        ensures { result.now ≡ self.now.part }
+    {
+        &self.part
+    }
+}
+
+impl<P: Placed> DerefMut for PartMut<'_, P> {
+    ghost deref_mut_gives = { λ m v. v ≡ m.part };
+
+    fn deref_mut(&mut self) -> &mut P
+        ensures* writes_back { sem 𝓛 (Lends (part_row (record { mir = named 1; lft = [] }) P.row) P.row self.entry result (λ w. record self.old { part = w })) }
+        ensures value { result.now ≡ self.old.part }
+    {
+        &mut self.part
+    }
+}
+
+impl Instance {
+    /// The part that the view leads to, to be written (WGSL: memory views). When what is answered
+    /// is let go, the whole is the old one with that part alone replaced; it is well-formed again
+    /// where what was written is storable and of the part's type.
+    ///
+    /// The first step that leads nowhere is refused as by [`Instance::view`], and nothing is then
+    /// changed. The condition: the value is well-formed.
+    pub fn view_mut<'a>(
+        &'a mut self,
+        alloc: Global,
+        view: &'a MemView,
+    ) -> Result<PartMut<'a, Instance>, Error>
+        requires { IsWellFormed (value_of self.old) }
+        ensures* unchanged_at_err { sem 𝓛 (RestsIfErr the_row self.entry (λ m. m.whole.ghost_name) result (λ n. n ≡ self.old)) }
+        ensures value { Gives (λ m. value_of m.part) result (viewed (steps_of view.now) (value_of self.old)) }
+        ensures same_reference { IfOk result (λ m. m.whole.ghost_name ≡ self.entry.ghost_name) }
+        ensures same_view { IfOk result (λ m. m.view.now ≡ view.now) }
+        ensures rest { IfOk result (λ m. (w : Val) → put_viewed (steps_of view.now) w (value_of m.whole.now) ≡ put_viewed (steps_of view.now) w (value_of self.old)) }
+    {
+        self.view(alloc, view)?;
+        let hole = Instance::Literal(LiteralInstance::Bool(false));
+        match self.put(view, hole) {
+            Some(part) => Ok(PartMut {
+                whole: self,
+                view,
+                part,
+            }),
+            None => unreachable!(),
+        }
+    }
+
+    /// Replaces the value by another of its type, and answers the old one (WGSL: assignment
+    /// statement). Types alone are compared: a runtime-sized array goes in the place of one of
+    /// another length.
+    ///
+    /// A value of another type is refused with `WriteRefType`, the type of the new value first, and
+    /// nothing is then changed; nor is it where memory for that answer is wanting. The conditions:
+    /// the value is well-formed, and the new one may be stored.
+    pub fn write(&mut self, alloc: Global, value: Instance) -> Result<Instance, Error>
+        requires own { IsWellFormed (value_of self.old) }
+        requires new { IsStorable (value_of value) }
+        ensures answer { Gives value_of result (replaced (value_of value) (value_of self.old)) }
+        ensures ok { OnOk result (value_of self.new ≡ value_of value) }
+        ensures err { OnErr result (self.new ≡ self.old) }
+    {
+        if self.same_type(&value) {
+            Ok(mem::replace(self, value))
+        } else {
+            Err(Error::WriteRefType(value.ty(alloc)?, self.ty(alloc)?))
+        }
+    }
+}
