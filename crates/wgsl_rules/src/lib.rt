@@ -9,8 +9,6 @@ pub mod laws;
 mod number;
 mod size;
 mod syntax;
-#[cfg(test)]
-mod tests;
 mod ty;
 
 pub use conv::{common_type_is_symmetric, conversion_rank, convert_all_ty, convert_ty};
