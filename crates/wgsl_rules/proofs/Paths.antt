@@ -11,23 +11,31 @@ use Rattle.wgsl_rules.specs.Paths.{parts, value_at, index_in, placed, member_nam
 
 -- ---- the part that a step leads to
 
-or_refused-ok : {A : Type 0} (o : Option A) (f : Refusal) (x : A) → or_refused o f ≡ Ok x → o ≡ Some x
+pub or_refused-ok : {A : Type 0} (o : Option A) (f : Refusal) (x : A) → or_refused o f ≡ Ok x → o ≡ Some x
 or_refused-ok None f x e = absurd (cc)
 or_refused-ok (Some y) f x e = cc
 
-placed-item : (i : ℕ) (vs : Vals) (p : ℕ × Val) → placed i vs ≡ Some p → item p.0 vs ≡ Some p.1
-placed-item i vs p e = there (item i vs) e refl
+-- a position, and the part that stands there
+pub placed-both : (i : ℕ) (vs : Vals) (p : ℕ × Val) → placed i vs ≡ Some p → (i ≡ p.0) × (item i vs ≡ Some p.1)
+placed-both i vs p e = there (item i vs) refl e
   where
-    there : (o : Option Val) → option_map (λ x. (i, x)) o ≡ Some p → item i vs ≡ o → item p.0 vs ≡ Some p.1
-    there None e is = absurd (cc)
-    there (Some x) e is = let same : (i, x) ≡ p = cc in rw (← same) is
+    there : (o : Option Val) → item i vs ≡ o → option_map (λ x. (i, x)) o ≡ Some p → (i ≡ p.0) × (item i vs ≡ Some p.1)
+    there None is f = absurd (cc)
+    there (Some x) is f = let same : (i, x) ≡ p = cc in (ap (λ (q : ℕ × Val). q.0) same, is ∙ ap (λ (q : ℕ × Val). Some q.1) same)
 
-named-item : (o : Option ℕ) (vs : Vals) (p : ℕ × Val) → option_and_then (λ i. placed i vs) o ≡ Some p → item p.0 vs ≡ Some p.1
-named-item None vs p e = absurd (cc)
-named-item (Some i) vs p e = placed-item i vs p e
+placed-item : (i : ℕ) (vs : Vals) (p : ℕ × Val) → placed i vs ≡ Some p → item p.0 vs ≡ Some p.1
+placed-item i vs p e = let k = placed-both i vs p e in rw k.0 at k.1
 
-member_named-item : (n : List ℕ) (v : Val) (p : ℕ × Val) → member_named n v ≡ Some p → item p.0 (parts v) ≡ Some p.1
-member_named-item n (record_of t vs) p e = named-item (index_in n t) vs p e
+-- the position of a name, and the part that stands there
+pub named-both : (o : Option ℕ) (vs : Vals) (p : ℕ × Val) → option_and_then (λ i. placed i vs) o ≡ Some p → (o ≡ Some p.0) × (item p.0 vs ≡ Some p.1)
+named-both None vs p e = absurd (cc)
+named-both (Some i) vs p e =
+    let k = placed-both i vs p e in
+    (ap (λ (j : ℕ). let o : Option ℕ = Some j in o) k.0, rw k.0 at k.1)
+
+-- the member of a name is the part at its position
+pub member_named-item : (n : List ℕ) (v : Val) (p : ℕ × Val) → member_named n v ≡ Some p → item p.0 (parts v) ≡ Some p.1
+member_named-item n (record_of t vs) p e = (named-both (index_in n t) vs p e).1
 member_named-item n v p e = absurd (cc)
 
 part_at-item : (i : ℕ) (v : Val) (p : ℕ × Val) → part_at i v ≡ Ok p → item p.0 (parts v) ≡ Some p.1
@@ -36,7 +44,8 @@ part_at-item i (vector vs) p e = placed-item i vs p (or_refused-ok (placed i vs)
 part_at-item i (matrix vs) p e = placed-item i vs p (or_refused-ok (placed i vs) (out_of_bounds i (type_of (matrix vs)) (count vs)) p e)
 part_at-item i v p e = absurd (cc)
 
-stepped-item : (s : Step) (v : Val) (p : ℕ × Val) → stepped s v ≡ Ok p → item p.0 (parts v) ≡ Some p.1
+-- a step leads to the part at its position
+pub stepped-item : (s : Step) (v : Val) (p : ℕ × Val) → stepped s v ≡ Ok p → item p.0 (parts v) ≡ Some p.1
 stepped-item (member n) v p e = member_named-item n v p (or_refused-ok (member_named n v) (component (type_of v) n) p e)
 stepped-item (index i) v p e = part_at-item i v p e
 

@@ -11,7 +11,7 @@ use Rattle.wgsl_rules.specs.Layout.{size, place_after}
 use Rattle.wgsl_rules.specs.Buffers.{buffer, Lays}
 use Rattle.wgsl_rules.specs.Bytes.{overwritten}
 use Rattle.wgsl_rules.specs.Memory as memory
-use Rattle.wgsl_rules.specs.Memory.{State, Call, Answer, handle, value, done, no_handle, refused, going_on}
+use Rattle.wgsl_rules.specs.Memory.{State, StateOf, AfterOf, Call, Answer, value, done, no_handle, refused, unchanged, with_handle, going_on}
 use Rattle.wgsl_rules.specs.declared.syntax.AddressSpace.{AddressSpace}
 use Rattle.wgsl_rules.specs.declared.syntax.AccessMode.{AccessMode}
 
@@ -79,20 +79,12 @@ put_bytes (c ∷ cs) (suc cell) steps b = c ∷ put_bytes cs cell steps b
 
 -- ---- calls by handles
 
--- the cells, and the reference of each handle
-pub record Flat : Type 0 where
-  pub cells : List Cell
-  pub handles : List Reference
+-- the cells as bytes, and the reference of each handle
+abbrev pub Flat : Type 0
+Flat = StateOf Cell
 
-pub record After : Type 0 where
-  pub flat : Flat
-  pub answer : Answer
-
-abbrev pub unchanged : Flat → Answer → After
-unchanged f a = record { flat = f; answer = a }
-
-abbrev pub with_handle : Flat → List Cell → Reference → After
-with_handle f cells r = record { flat = record { cells = cells; handles = f.handles ++ r ∷ [] }; answer = handle (length f.handles) }
+abbrev pub After : Type 0
+After = AfterOf Cell
 
 -- a new last cell with the bytes of a value, and a handle of the whole of it
 abbrev pub with_cell : Flat → Val → AddressSpace → AccessMode → After
@@ -107,7 +99,7 @@ with_part f r s v = elim (viewed (s ∷ []) v) [ Ok x ↦ with_handle f f.cells 
 abbrev pub with_bytes : Flat → Reference → Val → Val → After
 with_bytes f r w v =
     if fits w v
-    then record { flat = record { cells = put_bytes f.cells r.cell r.view (buffer w); handles = f.handles }; answer = done }
+    then record { state = record { cells = put_bytes f.cells r.cell r.view (buffer w); handles = f.handles }; answer = done }
     else unchanged f (refused (write_ref_type (type_of w) r.ty))
 
 -- a call on a reference: refused where it is not allowed, else it gives what it gives for the value that the
@@ -135,7 +127,7 @@ IsReached f (memory.write h w) reached = IsAtHandle f h (λ r. IsAllowed (can_wr
 -- one step of a memory of bytes; without an answer memory could not be had, and nothing is changed
 abbrev pub IsFlatStep : Flat → Call → Flat → Option Answer → Type 0
 IsFlatStep before call after None = after ≡ before
-IsFlatStep before call after (Some a) = IsReached before call (record { flat = after; answer = a })
+IsFlatStep before call after (Some a) = IsReached before call (record { state = after; answer = a })
 
 -- one step for each call, in order, with one answer each
 abbrev pub IsFlatRun : Flat → List Call → Flat → List (Option Answer) → Type 0

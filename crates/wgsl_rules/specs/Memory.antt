@@ -72,10 +72,13 @@ written cells r w =
 
 -- ---- calls by handles
 
--- the cells, and the reference of each handle
-pub record State : Type 0 where
-  pub cells : List Val
+-- the cells, each a value or other contents, and the reference of each handle
+pub record StateOf (Contents : Type 0) : Type 0 where
+  pub cells : List Contents
   pub handles : List Reference
+
+abbrev pub State : Type 0
+State = StateOf Val
 
 pub data Call : Type 0 where
   new : Val → AddressSpace → AccessMode → Call
@@ -91,19 +94,22 @@ pub data Answer : Type 0 where
   no_handle : Answer
   refused : Refusal → Answer
 
-pub record After : Type 0 where
-  pub state : State
+pub record AfterOf (Contents : Type 0) : Type 0 where
+  pub state : StateOf Contents
   pub answer : Answer
 
+abbrev pub After : Type 0
+After = AfterOf Val
+
 -- a refusal changes nothing
-abbrev pub unchanged : State → Answer → After
+abbrev pub unchanged : {C : Type 0} → StateOf C → Answer → AfterOf C
 unchanged s a = record { state = s; answer = a }
 
 -- where the handle is there
 abbrev pub at_handle : State → ℕ → (Reference → After) → After
 at_handle s h f = elim (slice_get s.handles h) [ None ↦ unchanged s no_handle | Some r ↦ f r ]
 
-abbrev pub with_handle : State → List Val → Reference → After
+abbrev pub with_handle : {C : Type 0} → StateOf C → List C → Reference → AfterOf C
 with_handle s cells r = record { state = record { cells = cells; handles = s.handles ++ r ∷ [] }; answer = handle (length s.handles) }
 
 abbrev pub or_unchanged : {A : Type 0} → State → Outcome A → (A → After) → After

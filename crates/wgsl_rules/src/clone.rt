@@ -7,7 +7,7 @@ use crate::ty::{StructMemberType, StructType, Type};
 use std::alloc::{AllocError, Global};
 
 impl Type {
-    /// A copy of the type, in memory of its own.
+    /// A copy of the type, in memory of its own (WGSL: types).
     #[cycle(clone)]
     pub fn clone(&self, alloc: Global) -> Result<Type, AllocError>
         ensures { IfOk result (λ t. type_view t ≡ type_view self.now) }
@@ -49,7 +49,7 @@ impl Type {
 }
 
 impl StructType {
-    /// A copy of the structure type, in memory of its own.
+    /// A copy of the structure type, in memory of its own (WGSL: structure types).
     #[cycle(clone)]
     pub fn clone(&self, alloc: Global) -> Result<StructType, AllocError>
         ensures { IfOk result (λ t. struct_view t ≡ struct_view self.now) }
@@ -75,7 +75,7 @@ fn clone_members(
 }
 
 impl StructMemberType {
-    /// A copy of the member, in memory of its own.
+    /// A copy of the member, in memory of its own (WGSL: structure types).
     #[cycle(clone)]
     pub fn clone(&self, alloc: Global) -> Result<StructMemberType, AllocError>
         ensures { IfOk result (λ m. member_view m ≡ member_view self.now) }

@@ -15,7 +15,7 @@ ghost use Rattle.wgsl_rules.specs.View.{type_view};
 use crate::ty::Type;
 
 /// How far `a` is from `b`, the less the nearer: 0 where they are equal or where `a` is a readable
-/// reference to `b`. `None` where `a` does not convert to `b`.
+/// reference to `b`. `None` where `a` does not convert to `b` (WGSL: conversion rank).
 pub fn conversion_rank(a: &Type, b: &Type) -> Option<u32>
     ensures { result ≡ rank (type_view a.now) (type_view b.now) }
 {
@@ -104,7 +104,7 @@ impl Type {
         }
     }
 
-    /// Whether the [`conversion_rank`] of this type to the other exists.
+    /// Whether the [`conversion_rank`] of this type to the other exists (WGSL: conversion rank).
     pub fn is_convertible_to(&self, other: &Type) -> bool
         ensures { result ≡ is_some (rank (type_view self.now) (type_view other.now)) }
     {
@@ -113,7 +113,7 @@ impl Type {
 }
 
 /// The type that both convert to: `b` where `a` converts to it, else `a` where `b` converts to it,
-/// else `None`.
+/// else `None` (WGSL: conversion rank).
 pub fn convert_ty<'a>(a: &'a Type, b: &'a Type) -> Option<&'a Type>
     ensures { option_map (λ t. type_view t.now) result
         ≡ common_type (type_view a.now) (type_view b.now) }
@@ -128,7 +128,7 @@ pub fn convert_ty<'a>(a: &'a Type, b: &'a Type) -> Option<&'a Type>
 }
 
 /// All the types taken together by [`convert_ty`], from the left. `None` where it is `None` on the
-/// way, and for the empty list.
+/// way, and for the empty list (WGSL: conversion rank).
 pub fn convert_all_ty(types: &[Type]) -> Option<&Type>
     ensures { option_map (λ t. type_view t.now) result ≡ common_type_of (map type_view types.now) }
 {
@@ -140,8 +140,8 @@ pub fn convert_all_ty(types: &[Type]) -> Option<&Type>
     Some(common)
 }
 
-/// A law: [`convert_ty`] of two types gives a type in both orders or in neither. The call does
-/// nothing.
+/// A law: [`convert_ty`] of two types gives a type in both orders or in neither
+/// (WGSL: conversion rank). The call does nothing.
 pub fn common_type_is_symmetric()
     ensures { CommonTypeIsSymmetric }
 {}

@@ -2,19 +2,20 @@
 
 ghost use Rattle.wgsl_rules.specs.Laws.{ViewsLeadAlongTheirPaths, FitsTestsThePlace, APutIsHeld};
 
-/// A law: a view leads to the value at its path, and is refused where it has no path.
+/// A law: a view leads to the value at its path, and is refused where it has no path
+/// (WGSL: memory views).
 pub fn views_lead_along_their_paths()
     ensures { ViewsLeadAlongTheirPaths }
 {}
 
 /// A law: the test of a write tells whether a value fits the place of another: whether the two have
-/// one type, and values at the same paths.
+/// one type, and values at the same paths (WGSL: assignment statement).
 pub fn fits_tests_the_place()
     ensures { FitsTestsThePlace }
 {}
 
 /// A law: what is put at the path of a view stands there, and no value at a path apart from it is
-/// changed.
+/// changed (WGSL: assignment statement).
 pub fn a_put_is_held()
     ensures { APutIsHeld }
 {}

@@ -64,7 +64,8 @@ impl Type {
     /// How many bytes a value of the type takes; `None` where the type has no known size, or where
     /// the size, or the place of a part, passes 4294967295.
     ///
-    /// Known are `u32`, vectors of 2 to 4 `u32`, and structures without attributes of these.
+    /// Known are `u32`, vectors of 2 to 4 `u32`, and structures without attributes of these
+    /// (WGSL: alignment and size).
     pub fn size_of(&self) -> Option<u32>
         ensures { result ≡ size_of (type_view self.now) }
     {
@@ -73,7 +74,7 @@ impl Type {
 
     /// The number that the address of a value of the type is a multiple of, in bytes; `None` where
     /// it is not known. Known for the types of [`Type::size_of`], those among them that are too
-    /// large included.
+    /// large included (WGSL: alignment and size).
     pub fn align_of(&self) -> Option<u32>
         ensures { result ≡ align_of (type_view self.now) }
     {
@@ -134,7 +135,7 @@ impl Type {
 
 impl StructType {
     /// As [`Type::size_of`] of the structure: the end of the last member, rounded up to the
-    /// alignment. `None` without members.
+    /// alignment. `None` without members (WGSL: structure member layout).
     pub fn size_of(&self) -> Option<u32>
         ensures { result ≡ size_of (struct_view self.now) }
     {
@@ -142,7 +143,7 @@ impl StructType {
     }
 
     /// As [`Type::align_of`] of the structure: the greatest alignment of a member. `None` without
-    /// members.
+    /// members (WGSL: structure member layout).
     pub fn align_of(&self) -> Option<u32>
         ensures { result ≡ align_of (struct_view self.now) }
     {

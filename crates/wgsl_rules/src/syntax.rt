@@ -35,14 +35,14 @@ pub enum AccessMode {
 }
 
 impl AccessMode {
-    /// Whether the memory may be read.
+    /// Whether the memory may be read (WGSL: memory access mode).
     pub fn is_read(self) -> bool
         ensures { result ≡ can_read self }
     {
         matches!(self, AccessMode::Read | AccessMode::ReadWrite)
     }
 
-    /// Whether the memory may be written.
+    /// Whether the memory may be written (WGSL: memory access mode).
     pub fn is_write(self) -> bool
         ensures { result ≡ can_write self }
     {
@@ -120,7 +120,7 @@ pub enum Enumerant {
     TexelFormat(TexelFormat),
 }
 
-/// An operator before its one operand.
+/// An operator before its one operand (WGSL: operator precedence).
 #[derive(Clone, Copy, Debug, PartialEq, Eq)]
 pub enum UnaryOperator {
     LogicalNegation,
@@ -130,7 +130,7 @@ pub enum UnaryOperator {
     Indirection,
 }
 
-/// An operator between its two operands.
+/// An operator between its two operands (WGSL: operator precedence).
 #[derive(Clone, Copy, Debug, PartialEq, Eq)]
 pub enum BinaryOperator {
     ShortCircuitOr,

@@ -39,7 +39,8 @@ pub struct StructType {
     pub members: Vec<StructMemberType>,
 }
 
-/// A member of a structure type. `size` and `align` are its attributes, in bytes.
+/// A member of a structure type. `size` and `align` are its attributes, in bytes
+/// (WGSL: structure types).
 #[cycle(types)]
 #[derive(Debug, Drop)]
 pub struct StructMemberType {

@@ -10,12 +10,13 @@ use Rattle.wgsl_rules.specs.Values as values
 use Rattle.wgsl_rules.specs.Values.{Step, member, index, Val, number, record_of, vector, array_of, matrix, Vals, no_vals, val, item, count, type_of, first_type, matrix_type, type_of_kind, IsStorable, AreStorable, AreMembers, AllOfType, AreLiterals}
 use Rattle.wgsl_rules.specs.Refusals.{Refusal, component, out_of_bounds, Outcome, and_then}
 use Rattle.wgsl_rules.specs.Paths.{parts, placed, index_in, member_named, or_refused, part_at, stepped, viewed, replace_item, with_parts, put_viewed, same_paths, all_same_paths, fits}
-use Rattle.wgsl_rules.specs.Layout.{HasLayout, size, place_after}
+use Rattle.wgsl_rules.specs.Layout.{size, place_after}
 use Rattle.wgsl_rules.specs.Memory.{IsCell}
 use Rattle.wgsl_run.specs.Walk.{HaveEnd}
-use Rattle.wgsl_run.proofs.Steps.{or_refused-ok, placed-here, stepped-item, then-ok, put-step}
+use Rattle.wgsl_rules.proofs.Paths.{or_refused-ok, placed-both, stepped-item}
+use Rattle.wgsl_run.proofs.Steps.{then-ok, put-step}
 use Rattle.wgsl_run.proofs.Sizes.{placed as member_placed, struct-known, vec-known}
-use Rattle.wgsl_run.proofs.Typed.{HasType, HaveTypes, AreWords, typed}
+use Rattle.wgsl_run.proofs.Typed.{HasType, HaveTypes, AreWords, no-matrix, typed}
 
 -- the two are of one type and have the same paths, and the numbers of the first are of their kinds
 abbrev mutual
@@ -70,10 +71,6 @@ mutual
 -- what is alike fits the place
 pub alike-fits : (w v : Val) → IsAlike w v → fits w v ≡ true
 alike-fits w v h = both_true (same (type_of w) (type_of v)) (same_paths w v) ((same_is (type_of w) (type_of v)).1 (alike-type w v h)) (alike-paths w v h)
-
--- what is of another type does not
-pub other_type-fits : (w v : Val) → false ≡ same (type_of w) (type_of v) → fits w v ≡ false
-other_type-fits w v h = ap (λ b. b && same_paths w v) (sym h)
 
 -- ---- what is alike is as storable
 
@@ -188,10 +185,6 @@ words-cells : (vs : Vals) → AllOfType u32 vs → AreStorable vs → AreCells v
 words-cells no_vals a s = tt
 words-cells (val v vs) a s = ((s.0, rw a.0 refl), words-cells vs a.1 s.1)
 
-no-matrix : (n : ℕ) (t : Ty) → HasLayout (matrix_type n t) → ⊥
-no-matrix n (vec r t) h = false≢true h
-no-matrix n t h = false≢true h
-
 parts-cells : (v : Val) → IsCell v → AreCells (parts v)
 parts-cells (record_of (struct n fs) vs) c = members-cells 0 fs vs (struct-known n fs c.1).members c.0.0 c.0.1
 parts-cells (record_of t vs) c = absurd c.0.0
@@ -263,7 +256,7 @@ HasAlike o x = (p : ℕ × Val) × (o ≡ Some p) × IsAlike p.1 x
 
 placed-alike : (i : ℕ) (vs ws : Vals) (p : ℕ × Val) → AreAlike vs ws → placed i ws ≡ Some p → HasAlike (placed i vs) p.1
 placed-alike i vs ws p h e =
-    let found = placed-here i ws p e in
+    let found = (placed-both i ws p e).1 in
     let (y, is, a) = item-alike i vs ws p.1 h found in
     ((i, y), ap (λ o. option_map {U = ℕ × Val} (λ x. (i, x)) o) is, a)
 

@@ -74,7 +74,7 @@ put-bytes (v ∷ cells) (suc i) steps w x s k e t = ap (λ cs. cell_of v ∷ cs)
 
 -- what is reached in bytes
 abbrev flat_after : memory.After → After
-flat_after a = record { flat = flat_of a.state; answer = a.answer }
+flat_after a = record { state = flat_of a.state; answer = a.answer }
 
 -- a call on a handle
 at-handle : (s : State) (h : ℕ) (f : Reference → memory.After) (reached : memory.After) (Row : Reference → After → Type 0) → at_handle s h f ≡ reached
@@ -88,7 +88,7 @@ at-handle s h f reached Row e row = on (slice_get s.handles h) refl e
 
 -- a part of the value that a reference names
 part-after : (s : State) (r : Reference) (step : Step) (o : Outcome Val) → flat_after (or_unchanged s (and_then o (λ x. Ok (going_on r (step ∷ []) (type_of x)))) (with_handle s s.cells))
-    ≡ (elim o [ Ok x ↦ flat.with_handle (flat_of s) (map cell_of s.cells) (going_on r (step ∷ []) (type_of x)) | Err e ↦ flat.unchanged (flat_of s) (refused e) ])
+    ≡ (elim o [ Ok x ↦ memory.with_handle (flat_of s) (map cell_of s.cells) (going_on r (step ∷ []) (type_of x)) | Err e ↦ memory.unchanged (flat_of s) (refused e) ])
 part-after s r step (Ok x) = refl
 part-after s r step (Err e) = refl
 
@@ -105,7 +105,7 @@ part-row s r step v reached false is n e = ap flat_after (sym e)
 
 read-row : (s : State) (r : Reference) (v : Val) (reached : memory.After) (b : Bool) → held s.cells r ≡ Ok v → Names (map cell_of s.cells) r v
     → or_unchanged s (if b then held s.cells r else Err not_read) (λ x. memory.unchanged s (value x)) ≡ reached
-    → IsAllowed b not_read (flat_of s) r (λ x. flat.unchanged (flat_of s) (value x)) (flat_after reached)
+    → IsAllowed b not_read (flat_of s) r (λ x. memory.unchanged (flat_of s) (value x)) (flat_after reached)
 read-row s r v reached true is n e =
     let there = ap (λ (o : Outcome Val). or_unchanged s o (λ x. memory.unchanged s (value x))) (sym is) ∙ e in
     (v, n, ap flat_after (sym there))
@@ -120,8 +120,8 @@ with-cells s cells = record { state = record { cells = cells; handles = s.handle
 
 cells-after : (s : State) (r : Reference) (w : Val) (b : Bool) → (b ≡ true → map cell_of (put_cells s.cells r.cell r.view w) ≡ put_bytes (map cell_of s.cells) r.cell r.view (buffer w))
     → flat_after (or_unchanged s (if b then Ok (put_cells s.cells r.cell r.view w) else Err (write_ref_type (type_of w) r.ty)) (with-cells s))
-    ≡ (if b then record { flat = record { cells = put_bytes (map cell_of s.cells) r.cell r.view (buffer w); handles = s.handles }; answer = done } else flat.unchanged (flat_of s) (refused (write_ref_type (type_of w) r.ty)))
-cells-after s r w true e = ap (λ (cs : List Cell). let a : After = record { flat = record { cells = cs; handles = s.handles }; answer = done } in a) (e refl)
+    ≡ (if b then record { state = record { cells = put_bytes (map cell_of s.cells) r.cell r.view (buffer w); handles = s.handles }; answer = done } else memory.unchanged (flat_of s) (refused (write_ref_type (type_of w) r.ty)))
+cells-after s r w true e = ap (λ (cs : List Cell). let a : After = record { state = record { cells = cs; handles = s.handles }; answer = done } in a) (e refl)
 cells-after s r w false e = refl
 
 -- what fits is of the type
@@ -149,8 +149,8 @@ new-after s v space access =
     let whole : ℕ → Reference = λ n. record { cell = n; view = []; ty = type_of v; space = space; access = access } in
     let cells = map-append cell_of s.cells (v ∷ []) in
     let last = sym (length-map s.cells cell_of) in
-    ap (λ (cs : List Cell). flat.with_handle (flat_of s) cs (whole (length s.cells))) cells
-    ∙ ap (λ (n : ℕ). flat.with_handle (flat_of s) (map cell_of s.cells ++ cell_of v ∷ []) (whole n)) last
+    ap (λ (cs : List Cell). memory.with_handle (flat_of s) cs (whole (length s.cells))) cells
+    ∙ ap (λ (n : ℕ). memory.with_handle (flat_of s) (map cell_of s.cells ++ cell_of v ∷ []) (whole n)) last
 
 -- what the reference of a handle names
 handle-names : (s : State) (h : ℕ) (r : Reference) → IsSound s.cells → AllKept s.cells s.handles → slice_get s.handles h ≡ Some r → (v : Val) × (held s.cells r ≡ Ok v) × Names (map cell_of s.cells) r v
@@ -173,7 +173,7 @@ in-step before after (memory.index h i) (Some a) good c e =
     part-row before r (values.index i) k.0 (record { state = after; answer = a }) (can_read r.access) k.1 k.2 f)
 in-step before after (memory.read_of h) (Some a) good c e =
     at-handle before h (λ r. or_unchanged before (read before.cells r) (λ v. memory.unchanged before (value v))) (record { state = after; answer = a })
-    (λ r. IsAllowed (can_read r.access) not_read (flat_of before) r (λ v. flat.unchanged (flat_of before) (value v))) e (λ r is f.
+    (λ r. IsAllowed (can_read r.access) not_read (flat_of before) r (λ v. memory.unchanged (flat_of before) (value v))) e (λ r is f.
     let k = handle-names before h r good.sound good.kept is in
     read-row before r k.0 (record { state = after; answer = a }) (can_read r.access) k.1 k.2 f)
 in-step before after (memory.write h w) (Some a) good c e =

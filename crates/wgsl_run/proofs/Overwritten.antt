@@ -13,7 +13,8 @@ use Rattle.wgsl_rules.specs.Bytes.{member_place, place, range_start, overwritten
 use Rattle.wgsl_run.specs.Walk.{encode, encode_all, encode_members, members_end, HaveEnd}
 use Rattle.wgsl_run.proofs.Sizes.{placed, struct-known, vec-known}
 use Rattle.wgsl_run.proofs.Buffers.{buffer-encode}
-use Rattle.wgsl_run.proofs.Steps.{stepped-item, then-ok, put-step}
+use Rattle.wgsl_rules.proofs.Paths.{stepped-item}
+use Rattle.wgsl_run.proofs.Steps.{then-ok, put-step}
 use Rattle.wgsl_run.proofs.Alike.{IsAlike, alike-type, alike-cell, cell-alike, cell-own, viewed-cell, put-alike}
 
 -- ---- one frame around two runs of bytes

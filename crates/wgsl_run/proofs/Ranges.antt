@@ -3,17 +3,19 @@ use Rattle.std.proofs.Common.{◌≡◌, ℕ, zero, suc, ◌+◌, ◌<◌, List,
 use Rattle.std.specs.Prelude.{bytes_eq, nat_lt}
 use Rattle.std.proofs.lemmas.Bool.{false≢true}
 use Rattle.std.proofs.lemmas.Bool.Decides.{nat_tests}
-use Rattle.wgsl_rules.specs.Types.{Ty, struct, vec, Fields, no_fields, field}
-use Rattle.wgsl_rules.specs.Values.{Step, member, index, Val, record_of, array_of, vector, matrix, Vals, no_vals, val, item, count, type_of, first_type, matrix_type, HaveTypes, AllOfType, IsStorable}
+use Rattle.wgsl_rules.specs.Types.{Ty, struct, Fields, no_fields, field}
+use Rattle.wgsl_rules.specs.Values.{Step, member, index, Val, record_of, array_of, vector, matrix, Vals, no_vals, val, item, count, type_of, first_type, HaveTypes, AllOfType, IsStorable}
 use Rattle.wgsl_rules.specs.Refusals.{component, out_of_bounds, Outcome, and_then}
 use Rattle.wgsl_rules.specs.Paths.{parts, placed, index_named, member_named, stepped, path_of, viewed, put_viewed}
-use Rattle.wgsl_rules.specs.Layout.{HasLayout, amount, size, place_after}
+use Rattle.wgsl_rules.specs.Layout.{amount, size, place_after}
 use Rattle.wgsl_rules.specs.Buffers.{buffer}
 use Rattle.wgsl_rules.specs.Memory.{IsCell}
 use Rattle.wgsl_rules.specs.Bytes.{member_place, place, range_start, overwritten}
 use Rattle.wgsl_rules.specs.Flat.{Range, member_range, step_range, further, view_range}
 use Rattle.wgsl_run.proofs.Overwritten.{path-ok, length-buffer, put-overwrites}
-use Rattle.wgsl_run.proofs.Steps.{stepped-item, then-ok, or_refused-ok}
+use Rattle.wgsl_rules.proofs.Paths.{named-both, or_refused-ok, placed-both, stepped-item}
+use Rattle.wgsl_run.proofs.Steps.{then-ok}
+use Rattle.wgsl_run.proofs.Typed.{no-matrix}
 use Rattle.wgsl_run.proofs.Alike.{viewed-cell}
 
 -- a range that begins here and holds a value of this type
@@ -21,14 +23,6 @@ abbrev at : ℕ → Ty → Option Range
 at start t = Some (record { start = start; ty = t })
 
 -- ---- one step
-
--- a position, and the part that stands there
-placed-both : (i : ℕ) (vs : Vals) (p : ℕ × Val) → placed i vs ≡ Some p → (i ≡ p.0) × (item i vs ≡ Some p.1)
-placed-both i vs p e = there (item i vs) refl e
-  where
-    there : (o : Option Val) → item i vs ≡ o → option_map (λ x. (i, x)) o ≡ Some p → (i ≡ p.0) × (item i vs ≡ Some p.1)
-    there None is f = absurd (cc)
-    there (Some x) is f = let same : (i, x) ≡ p = cc in (ap (λ (q : ℕ × Val). q.0) same, is ∙ ap (λ (q : ℕ × Val). Some q.1) same)
 
 -- one more than a position that is there
 one-more : (o : Option ℕ) (i : ℕ) → option_map (λ j. suc j) o ≡ Some i → (j : ℕ) × (o ≡ Some j) × (suc j ≡ i)
@@ -77,21 +71,11 @@ item-typed t (suc i) (val v vs) y a e = item-typed t i vs y a.1 e
 below : (i n : ℕ) → i < n → nat_lt i n ≡ true
 below i n h = grind (arith, nat_tests)
 
-where_named : (o : Option ℕ) (vs : Vals) (p : ℕ × Val) → option_and_then (λ i. placed i vs) o ≡ Some p → (o ≡ Some p.0) × (item p.0 vs ≡ Some p.1)
-where_named None vs p e = absurd (cc)
-where_named (Some i) vs p e =
-    let k = placed-both i vs p e in
-    (ap (λ (j : ℕ). let o : Option ℕ = Some j in o) k.0, rw k.0 at k.1)
-
-no-matrix : (n : ℕ) (t : Ty) → HasLayout (matrix_type n t) → ⊥
-no-matrix n (vec r t) h = false≢true h
-no-matrix n t h = false≢true h
-
 -- a step leads to the range of the part
 step-range : (s : Step) (v : Val) (p : ℕ × Val) → IsCell v → stepped s v ≡ Ok p → step_range s (type_of v) ≡ at (place p.0 v) (type_of p.1)
 step-range (member n) (record_of (struct name fs) vs) p c e =
     let named = or_refused-ok (member_named n (record_of (struct name fs) vs)) (component (struct name fs) n) p e in
-    let k = where_named (index_named n fs) vs p named in
+    let k = named-both (index_named n fs) vs p named in
     member-range 0 fs vs n p.0 p.1 c.0.0 k.0 k.1
 step-range (member n) (record_of t vs) p c e = absurd c.0.0
 step-range (member n) v p c e = absurd (cc)

@@ -46,7 +46,7 @@ type_of-is (struct name fs) (record_of t vs) l h = h.0
 type_of-is t v l h = absurd h
 
 -- no matrix has a layout
-no-matrix : (n : ℕ) (t : Ty) → HasLayout (matrix_type n t) → ⊥
+pub no-matrix : (n : ℕ) (t : Ty) → HasLayout (matrix_type n t) → ⊥
 no-matrix n (vec r t) h = false≢true h
 no-matrix n t h = false≢true h
 

@@ -1,6 +1,6 @@
 -- What values and lists of values of the program stand for.
 use Rattle.std.proofs.Common.{◌≡◌, ℕ, zero, suc, ◌<◌, ◌≤◌, List, [], ◌∷◌, length, get_or, set, Some, None, refl, ap, subst, arith, rules, String, Global, Box, string_bytes}
-use Rattle.wgsl_rules.specs.Values.{member, index, record_of, vector, item, count, type_of, first_type, Val, Vals, no_vals, val, IsStorable, AreStorable}
+use Rattle.wgsl_rules.specs.Values.{member, index, record_of, vector, item, count, Val, Vals, no_vals, val, IsStorable, AreStorable}
 use Rattle.wgsl_rules.specs.Paths.{replace_item}
 use Rattle.wgsl_rules.specs.View.{struct_view as struct_type_view}
 use Rattle.wgsl_run.specs.View.{vec_view, struct_view, value_of, vals_view, steps_of}
@@ -43,17 +43,10 @@ steps_of-Index i rest = search (rules, mem_lemmas)
 
 -- ---- the first part, and each
 
-pub first_type-at : (vs : List Instance) (d : Instance) → 1 ≤ length vs → first_type (vals_view vs) ≡ type_of (value_of (get_or vs 0 d))
-first_type-at [] d l = absurd (omega arith)
-first_type-at (v ∷ vs) d l = refl
-
 pub item-storable : (i : ℕ) (vs : Vals) (v : Val) → AreStorable vs → Some v ≡ item i vs → IsStorable v
 item-storable i no_vals v h e = absurd (cc)
 item-storable zero (val w ws) v h e = let same : w ≡ v = cc in subst IsStorable same h.0
 item-storable (suc i) (val w ws) v h e = item-storable i ws v h.1 e
-
-pub storable-at : (vs : List Instance) (i : ℕ) (d : Instance) → i < length vs → AreStorable (vals_view vs) → IsStorable (value_of (get_or vs i d))
-storable-at vs i d l h = item-storable i (vals_view vs) _ h (item_within vs i d l)
 
 -- ---- parts written in place
 

@@ -7,7 +7,7 @@ ghost use Rattle.wgsl_run.specs.declared.answer.Stop.TheVariants.{Case, Memory};
 use crate::call::{Fault, Reply};
 use crate::error::Error;
 use crate::inst::Instance;
-use std::alloc::{AllocError, AllocFailed, Global};
+use std::alloc::{AllocError, Global};
 use std::fmt::Write;
 
 /// The answer of a line that is carried out.
@@ -72,14 +72,6 @@ impl From<AllocError> for Stop {
     ghost from_gives = { λ _ stop. stop ≡ Memory };
 
     fn from(_error: AllocError) -> Stop {
-        Stop::Memory
-    }
-}
-
-impl<T: Drop> From<AllocFailed<T>> for Stop {
-    ghost from_gives = { λ _ stop. stop ≡ Memory };
-
-    fn from(_error: AllocFailed<T>) -> Stop {
         Stop::Memory
     }
 }

@@ -6,7 +6,7 @@ ghost use Rattle.wgsl_run.specs.declared.error.Error.TheVariants.{Memory};
 
 use crate::error::Error;
 use crate::inst::Instance;
-use std::alloc::{AllocError, AllocFailed};
+use std::alloc::AllocError;
 use wgsl_rules::{AccessMode, AddressSpace};
 
 /// A call on the memory of a [`crate::session::Session`]. Handles count from 0.
@@ -56,14 +56,6 @@ impl From<AllocError> for Fault {
     ghost from_gives = { λ _ fault. fault ≡ Of Memory };
 
     fn from(_error: AllocError) -> Fault {
-        Fault::Of(Error::Memory)
-    }
-}
-
-impl<T: Drop> From<AllocFailed<T>> for Fault {
-    ghost from_gives = { λ _ fault. fault ≡ Of Memory };
-
-    fn from(_error: AllocFailed<T>) -> Fault {
         Fault::Of(Error::Memory)
     }
 }

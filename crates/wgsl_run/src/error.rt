@@ -4,7 +4,7 @@ ghost use Rattle.std.specs.Prelude.{◌≡◌};
 ghost use Rattle.wgsl_run.specs.declared.error.Error.TheVariants.{Memory};
 ghost use Rattle.wgsl_run.specs.Errors.{number_of};
 
-use std::alloc::{AllocError, AllocFailed};
+use std::alloc::AllocError;
 use wgsl_rules::Type;
 
 /// Why a call is refused.
@@ -47,14 +47,6 @@ impl From<AllocError> for Error {
     ghost from_gives = { λ _ e. e ≡ Memory };
 
     fn from(_error: AllocError) -> Error {
-        Error::Memory
-    }
-}
-
-impl<T: Drop> From<AllocFailed<T>> for Error {
-    ghost from_gives = { λ _ e. e ≡ Memory };
-
-    fn from(_error: AllocFailed<T>) -> Error {
         Error::Memory
     }
 }

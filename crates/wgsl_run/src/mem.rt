@@ -1,7 +1,7 @@
 //! Views into values (WGSL: memory views).
 
-ghost use Rattle.std.specs.Prelude.{◌≡◌, IfOk, ◌++◌, option_map};
-ghost use Rattle.wgsl_rules.specs.Values.{IsStorable, item};
+ghost use Rattle.std.specs.Prelude.{◌≡◌, [], ◌∷◌, IfOk, ◌++◌, option_map, string_bytes};
+ghost use Rattle.wgsl_rules.specs.Values.{IsStorable, index, item, member};
 ghost use Rattle.wgsl_rules.specs.Paths.{index_in, member_named, viewed};
 ghost use Rattle.wgsl_rules.specs.View.{struct_view as struct_type_view};
 ghost use Rattle.wgsl_run.specs.Errors.{Gives};
@@ -24,6 +24,20 @@ pub enum MemView {
 }
 
 impl MemView {
+    /// The view of one step, to the member of the name.
+    pub(crate) fn of_member(alloc: Global, name: String) -> Result<MemView, AllocError>
+        ensures { IfOk result (λ view. steps_of view ≡ member (string_bytes name) ∷ []) }
+    {
+        Ok(MemView::Member(name, Box::new(alloc, MemView::Whole)?))
+    }
+
+    /// The view of one step, to the part of the index.
+    pub(crate) fn of_index(alloc: Global, i: usize) -> Result<MemView, AllocError>
+        ensures { IfOk result (λ view. steps_of view ≡ index i ∷ []) }
+    {
+        Ok(MemView::Index(i, Box::new(alloc, MemView::Whole)?))
+    }
+
     /// A copy with the steps of `last` behind its own.
     pub fn appended(&self, alloc: Global, last: MemView) -> Result<MemView, AllocError>
         ensures { IfOk result (λ view. steps_of view ≡ steps_of self.now ++ steps_of last) }

@@ -74,7 +74,7 @@ impl RefInstance {
         requires { IsKept store.now (reference_of self.now) }
         ensures { Gives reference_of result (deeper store.now (reference_of self.now) (member (string_bytes name))) }
     {
-        let last = MemView::Member(name, Box::new(alloc, MemView::Whole)?);
+        let last = MemView::of_member(alloc, name)?;
         self.deeper_by(alloc, store, last)
     }
 
@@ -84,7 +84,7 @@ impl RefInstance {
         requires { IsKept store.now (reference_of self.now) }
         ensures { Gives reference_of result (deeper store.now (reference_of self.now) (index i)) }
     {
-        let last = MemView::Index(i, Box::new(alloc, MemView::Whole)?);
+        let last = MemView::of_index(alloc, i)?;
         self.deeper_by(alloc, store, last)
     }
 

@@ -114,7 +114,8 @@ impl Session {
         ensures storable { IfOk result IsStorableReply }
     {
         let handle = self.handles.len();
-        self.handles.push(reference)?;
+        self.handles.reserve(1)?;
+        self.handles.push(reference).unwrap();
         Ok(Reply::Handle(handle))
     }
 

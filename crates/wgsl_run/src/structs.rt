@@ -57,10 +57,15 @@ impl Structs {
             return Err(Stop::BadLine);
         }
         let declaration = self.declaration(name, members)?;
+        Ok(self.add(declaration)?)
+    }
+
+    // All growths come before the first change.
+    fn add(&mut self, declaration: Declaration) -> Result<(), AllocError> {
         let number = self.declared.len();
+        let name = declaration.name.clone()?;
         self.declared.reserve(1)?;
-        self.numbers
-            .insert(String::from_str(self.alloc, name)?, number)?;
+        self.numbers.insert(name, number)?;
         self.declared.push(declaration)?;
         Ok(())
     }
@@ -98,7 +103,9 @@ impl Structs {
         for word in words {
             let member = self.member(word)?;
             nodes = nodes.saturating_add(self.nodes_of(member.ty));
-            members.push(member)?;
+            if members.push(member).is_err() {
+                return Err(Stop::Memory);
+            }
         }
         if nodes > NODES {
             return Err(Stop::BadLine);

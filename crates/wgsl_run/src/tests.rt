@@ -1,11 +1,17 @@
-//! Scripts over memory: what each line is answered, and how a run ends.
+//! What public calls of all crates answer, and scripts over memory: what each line is answered, and how a run
+//! ends.
 
-mod calls;
+mod errors;
 mod faults;
 mod grammar;
 mod growth;
 mod limits;
+mod literals;
+mod operators;
 mod rows;
+mod texts;
+mod types;
+mod values;
 
 use crate::{RunFault, run_script};
 use std::alloc::Global;

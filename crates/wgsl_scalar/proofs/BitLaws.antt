@@ -14,7 +14,7 @@ use Rattle.std.proofs.lemmas.Nat.Bits.{bit_at_cat_low, bit_at_not, bit_at_and, b
 use Rattle.wgsl_rules.specs.Kinds as kinds
 use Rattle.wgsl_rules.specs.Kinds.{Kind, InKind, width, is_signed, as_signed, wrap, modulo, floor_div}
 use Rattle.wgsl_scalar.specs.Bits.{bit, from_bits}
-use Rattle.wgsl_scalar.specs.Counts.{bit_length, bit_count, lowest_place, leading_zeros_in, one_bits_in, trailing_zeros_in}
+use Rattle.wgsl_scalar.specs.Counts.{bit_length, bit_count, lowest_place}
 
 -- the low bits of a number are those of what is left of it
 bit_at-mod : (n m i : ℕ) → i < m → bit_at (n % 2 ^ m) i ≡ bit_at n i
@@ -216,12 +216,3 @@ few kinds.i32 n h = grind (arith, ints)
 few kinds.u32 n h = grind (arith, ints)
 few kinds.i64 n h = grind (arith, ints)
 few kinds.u64 n h = grind (arith, ints)
-
-pub leading_zeros-in_kind : (k : Kind) (z : ℤ) → InKind k (leading_zeros_in k z)
-leading_zeros-in_kind k z = few k _ (omega (arith, width_le k))
-
-pub one_bits-in_kind : (k : Kind) (z : ℤ) → InKind k (one_bits_in k z)
-one_bits-in_kind k z = few k _ (omega (arith, width_le k, bit_count_le (width k) z))
-
-pub trailing_zeros-in_kind : (k : Kind) (z : ℤ) → InKind k (trailing_zeros_in k z)
-trailing_zeros-in_kind k z = few k _ (omega (arith, width_le k, lowest_place_le (width k) (bit z)))

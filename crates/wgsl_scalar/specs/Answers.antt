@@ -5,6 +5,7 @@ use Rattle.wgsl_rules.specs.Refusals.{Refusal, Outcome}
 use Rattle.wgsl_rules.specs.View.{type_view}
 use Rattle.wgsl_scalar.specs.Literals.{literal_of}
 use Rattle.wgsl_scalar.specs.Builtins.{builtin_text}
+use Rattle.wgsl_scalar.specs.declared.builtin.BuiltinReason.{BuiltinReason}
 use Rattle.wgsl_scalar.specs.declared.error.Error.{Error}
 use Rattle.wgsl_scalar.specs.declared.error.Error.TheVariants as errors
 
@@ -34,6 +35,11 @@ refusal_of (errors.ShrOverflow r a) = Some (refusals.shr_overflow r (literal_of 
 refusal_of (errors.ParamType s t) = Some (refusals.param_type (type_view s) (type_view t))
 refusal_of (errors.Builtin reason) = Some refusals.builtin
 refusal_of (errors.Todo name) = Some (refusals.todo (builtin_text name))
+
+-- what a builtin function refuses in its arguments, which its refusal leaves out
+abbrev pub builtin_reason_of : Error → Option BuiltinReason
+builtin_reason_of (errors.Builtin reason) = Some reason
+builtin_reason_of e = None
 
 -- the call gives what the definition says, or memory was wanting
 abbrev pub Gives : {X A : Type 0} → (X → A) → Result X Error → Outcome A → Type 0

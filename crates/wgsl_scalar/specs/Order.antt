@@ -6,6 +6,8 @@ use Rattle.wgsl_rules.specs.Refusals.{Outcome, and_then, builtin}
 use Rattle.wgsl_rules.specs.declared.syntax.BinaryOperator.{BinaryOperator}
 use Rattle.wgsl_rules.specs.declared.syntax.BinaryOperator.TheVariants as between
 use Rattle.wgsl_scalar.specs.Operands.{ok_or, with_operands, common_operands, both_truths, of_truths}
+use Rattle.wgsl_scalar.specs.declared.builtin.BuiltinReason.{BuiltinReason}
+use Rattle.wgsl_scalar.specs.declared.builtin.BuiltinReason.TheVariants as reasons
 
 -- a bool as a number: false is below true
 abbrev pub bit_of : Bool → ℤ
@@ -41,6 +43,10 @@ lesser a b = if int_le a b then a else b
 
 abbrev pub greater : ℤ → ℤ → ℤ
 greater a b = if int_le a b then b else a
+
+-- why neither of two is the lesser: bools are of one type, but no numbers
+abbrev pub why_unordered : Val → Val → BuiltinReason
+why_unordered v w = of_truths (λ a b. reasons.NotNumber) (both_truths v w) reasons.NoCommonType
 
 abbrev pub minimum : Val → Val → Outcome Val
 minimum v w = and_then (ok_or builtin (common_operands v w)) (λ p. Ok (number p.kind (lesser p.left p.right)))

@@ -1,7 +1,7 @@
 //! Why a call is refused.
 
 ghost use Rattle.std.specs.Prelude.{◌≡◌, IfOk};
-ghost use Rattle.wgsl_scalar.specs.Answers.{refusal_of, error_number};
+ghost use Rattle.wgsl_scalar.specs.Answers.{refusal_of, builtin_reason_of, error_number};
 
 use crate::builtin::{BuiltinName, BuiltinReason};
 use crate::literal::LiteralInstance;
@@ -107,7 +107,8 @@ impl Error {
 
     /// A copy of the error, in memory of its own.
     pub fn clone(&self, alloc: Global) -> Result<Error, AllocError>
-        ensures { IfOk result (λ e. refusal_of e ≡ refusal_of self.now) }
+        ensures refusal { IfOk result (λ e. refusal_of e ≡ refusal_of self.now) }
+        ensures reason { IfOk result (λ e. builtin_reason_of e ≡ builtin_reason_of self.now) }
     {
         match self {
             Error::Memory => Ok(Error::Memory),

@@ -18,8 +18,8 @@ mod text;
 
 pub use builtin::{BuiltinName, BuiltinReason};
 pub use error::Error;
-pub use laws::{kinds_are_rings, quotients_and_remainders_divide, sums_and_products_wrap};
+pub use laws::{
+    common_kinds_are_common_types, kinds_are_rings, quotients_and_remainders_divide,
+    sums_and_products_wrap,
+};
 pub use literal::LiteralInstance;
-
-#[cfg(test)]
-mod tests;

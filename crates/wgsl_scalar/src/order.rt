@@ -1,6 +1,7 @@
 //! Comparisons (WGSL: comparison expressions), and the lesser and the greater of two numbers.
 
-ghost use Rattle.wgsl_scalar.specs.Answers.{Answers};
+ghost use Rattle.std.specs.Prelude.{◌≡◌, Some, IfErr};
+ghost use Rattle.wgsl_scalar.specs.Answers.{Answers, builtin_reason_of};
 ghost use Rattle.wgsl_scalar.specs.Literals.{literal_of};
 ghost use Rattle.wgsl_scalar.specs.Order.{
   compared,
@@ -10,6 +11,7 @@ ghost use Rattle.wgsl_scalar.specs.Order.{
   is_at_most,
   is_greater,
   is_at_least,
+  why_unordered,
   minimum,
   maximum,
 };
@@ -90,15 +92,27 @@ impl LiteralInstance {
         Ok(left >= right)
     }
 
-    /// The lesser number, in the common type; without one, for a bool, or where a number does not fit
-    /// the type, the call is refused by `Builtin` (WGSL: numeric builtin functions, `min`).
+    /// Why neither of both is the lesser, where they are no two numbers of one type.
+    fn why_unordered(&self, rhs: &LiteralInstance) -> BuiltinReason
+        ensures { result ≡ why_unordered (literal_of self.now) (literal_of rhs.now) }
+    {
+        match self.both_bools(rhs) {
+            Some(_) => BuiltinReason::NotNumber,
+            None => BuiltinReason::NoCommonType,
+        }
+    }
+
+    /// The lesser number, in the common type. Two bools are refused by `Builtin` with `NotNumber`; two
+    /// that have no common type, and a number that does not fit it, with `NoCommonType`
+    /// (WGSL: numeric builtin functions, `min`).
     #[tactic(auto, using(crate::proofs::Ranges::lesser_in))]
     pub fn min(&self, rhs: &LiteralInstance) -> Result<LiteralInstance, Error>
-        ensures { Answers literal_of result (minimum (literal_of self.now) (literal_of rhs.now)) }
+        ensures value { Answers literal_of result (minimum (literal_of self.now) (literal_of rhs.now)) }
+        ensures reason { IfErr result (λ e. builtin_reason_of e ≡ Some (why_unordered (literal_of self.now) (literal_of rhs.now))) }
     {
         match self.common_operands(rhs) {
             Some((kind, left, right)) => Ok(kind.literal(if left <= right { left } else { right })),
-            None => Err(Error::Builtin(BuiltinReason::NoCommonType)),
+            None => Err(Error::Builtin(self.why_unordered(rhs))),
         }
     }
 
@@ -106,11 +120,12 @@ impl LiteralInstance {
     /// (WGSL: numeric builtin functions, `max`).
     #[tactic(auto, using(crate::proofs::Ranges::greater_in))]
     pub fn max(&self, rhs: &LiteralInstance) -> Result<LiteralInstance, Error>
-        ensures { Answers literal_of result (maximum (literal_of self.now) (literal_of rhs.now)) }
+        ensures value { Answers literal_of result (maximum (literal_of self.now) (literal_of rhs.now)) }
+        ensures reason { IfErr result (λ e. builtin_reason_of e ≡ Some (why_unordered (literal_of self.now) (literal_of rhs.now))) }
     {
         match self.common_operands(rhs) {
             Some((kind, left, right)) => Ok(kind.literal(if left <= right { right } else { left })),
-            None => Err(Error::Builtin(BuiltinReason::NoCommonType)),
+            None => Err(Error::Builtin(self.why_unordered(rhs))),
         }
     }
 }

@@ -1,6 +1,9 @@
 //! Runs in which memory may be refused at any growth: they accept either answer, and check what must
 //! be so after each.
 
+mod errors;
+mod types;
+
 use crate::{RunFault, run_script};
 use std::alloc::{AllocError, Global};
 use std::test::Fail;

@@ -5,4 +5,5 @@ use Rattle.wgsl_run.proofs.session.Session.add_handle.Goals as goal
 pub invariant_of-self-2 : goal.invariant_of-self-2
 invariant_of-self-2 c =
     let kept = rw (← c.self.view_is) at c.requires in
-    rw (c.in_ok-push.ensures.items, map-append) (all_kept-push c.self.inside.store _ _ c.self.invariant kept)
+    let items = rw c.unwrap.ensures at c.push.ensures.items in
+    rw (items, c.in_ok-reserve.ensures.items, map-append) (all_kept-push c.self.inside.store _ _ c.self.invariant kept)

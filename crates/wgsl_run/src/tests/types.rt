@@ -1,26 +1,30 @@
-//! The tables of WGSL, and each call once.
+//! Types: what modes allow, sizes, copies, ranks of conversions and common types.
 
-use crate::*;
 use std::alloc::{AllocError, Global};
 use std::process::Abort;
+use wgsl_rules::laws::{a_put_is_held, fits_tests_the_place, views_lead_along_their_paths};
+use wgsl_rules::{
+    AccessMode, AddressSpace, StructMemberType, StructType, Type, common_type_is_symmetric,
+    conversion_rank, convert_all_ty, convert_ty,
+};
 
-fn vector(alloc: Global, n: u8, ty: Type) -> Result<Type, AllocError> {
+pub(super) fn vector(alloc: Global, n: u8, ty: Type) -> Result<Type, AllocError> {
     Ok(Type::Vec(n, Box::new(alloc, ty)?))
 }
 
-fn matrix(alloc: Global, ty: Type) -> Result<Type, AllocError> {
+pub(super) fn matrix(alloc: Global, ty: Type) -> Result<Type, AllocError> {
     Ok(Type::Mat(2, 3, Box::new(alloc, ty)?))
 }
 
-fn array(alloc: Global, ty: Type, count: Option<usize>) -> Result<Type, AllocError> {
+pub(super) fn array(alloc: Global, ty: Type, count: Option<usize>) -> Result<Type, AllocError> {
     Ok(Type::Array(Box::new(alloc, ty)?, count))
 }
 
-fn reference(alloc: Global, ty: Type, access: AccessMode) -> Result<Type, AllocError> {
+pub(super) fn reference(alloc: Global, ty: Type, access: AccessMode) -> Result<Type, AllocError> {
     Ok(Type::Ref(AddressSpace::Storage, Box::new(alloc, ty)?, access))
 }
 
-fn member(
+pub(super) fn member(
     alloc: Global,
     name: &str,
     ty: Type,
@@ -34,7 +38,7 @@ fn member(
     })
 }
 
-fn structure(
+pub(super) fn structure(
     alloc: Global,
     name: &str,
     members: Vec<StructMemberType>,
@@ -43,11 +47,18 @@ fn structure(
     Ok(Type::Struct(Box::new(alloc, StructType { name, members })?))
 }
 
-// struct Pair { a: u32, b: vec3<u32> }
-fn pair(alloc: Global) -> Result<Type, AllocError> {
+/// struct Pair { a: u32, b: vec3<u32> }
+pub(super) fn pair(alloc: Global) -> Result<Type, AllocError> {
     let a = member(alloc, "a", Type::U32, None)?;
     let b = member(alloc, "b", vector(alloc, 3, Type::U32)?, None)?;
     structure(alloc, "Pair", vec![in alloc; a, b]?)
+}
+
+/// struct Nested { @size(160) inner: array<Pair, 5> }
+pub(super) fn nested(alloc: Global) -> Result<Type, AllocError> {
+    let pairs = array(alloc, pair(alloc)?, Some(5))?;
+    let inner = member(alloc, "inner", pairs, Some(160))?;
+    structure(alloc, "Nested", vec![in alloc; inner]?)
 }
 
 #[test]
@@ -90,104 +101,10 @@ fn sizes_and_alignments(rt: HostRuntime) -> Result<(), AllocError> {
 #[test]
 fn copies_are_equal(rt: HostRuntime) -> Result<(), AllocError> {
     let alloc = rt.alloc();
-    let inner = member(
-        alloc,
-        "inner",
-        array(alloc, pair(alloc)?, Some(5))?,
-        Some(160),
-    )?;
-    let nested = structure(alloc, "Nested", vec![in alloc; inner]?)?;
+    let nested = nested(alloc)?;
     let copy = nested.clone(alloc)?;
     assert!(rt; copy == nested);
     assert!(rt; copy != pair(alloc)?);
-    Ok(())
-}
-
-fn assert_text(rt: &impl Abort, alloc: Global, ty: Type, text: &str) -> Result<(), AllocError> {
-    assert_eq!(rt; format!(in alloc; "{ty}")?.as_str(), text);
-    Ok(())
-}
-
-#[test]
-fn texts_of_types(rt: HostRuntime) -> Result<(), AllocError> {
-    let alloc = rt.alloc();
-    for (ty, text) in [
-        (Type::Bool, "bool"),
-        (Type::AbstractInt, "AbstractInt"),
-        (Type::AbstractFloat, "AbstractFloat"),
-        (Type::F16, "f16"),
-        (Type::U64, "u64"),
-        (Type::Texture(TextureType::External), "texture_external<>"),
-        (
-            Type::Texture(TextureType::DepthCubeArray),
-            "texture_depth_cube_array",
-        ),
-        (
-            Type::Sampler(SamplerType::SamplerComparison),
-            "sampler_comparison",
-        ),
-    ] {
-        assert_text(&rt, alloc, ty, text)?;
-    }
-    let sampled = TextureType::Multisampled2DArray(SampledType::F32);
-    assert_text(
-        &rt,
-        alloc,
-        Type::Texture(sampled),
-        "texture_multisampled_2d_array<f32>",
-    )?;
-    let storage = TextureType::Storage2D(TexelFormat::Rgba16Float, AccessMode::Write);
-    assert_text(
-        &rt,
-        alloc,
-        Type::Texture(storage),
-        "texture_storage_2d<rgba16float, write>",
-    )?;
-    assert_text(&rt, alloc, pair(alloc)?, "Pair")?;
-    let vectors = array(alloc, vector(alloc, 3, Type::I64)?, Some(12))?;
-    assert_text(&rt, alloc, vectors, "array<vec3<i64>, 12>")?;
-    assert_text(&rt, alloc, array(alloc, Type::F64, None)?, "array<f64>")?;
-    assert_text(&rt, alloc, matrix(alloc, Type::F32)?, "mat2x3<f32>")?;
-    let atomic = Type::Atomic(Box::new(alloc, Type::U32)?);
-    assert_text(&rt, alloc, atomic, "atomic<u32>")?;
-    let inner = Box::new(alloc, Type::I32)?;
-    let pointer = Type::Ptr(AddressSpace::Function, inner, AccessMode::ReadWrite);
-    assert_text(&rt, alloc, pointer, "ptr<function, i32, read_write>")?;
-    let readable = reference(alloc, Type::U32, AccessMode::Read)?;
-    assert_text(&rt, alloc, readable, "ref<storage, u32, read>")
-}
-
-#[test]
-fn texts_of_words_and_operators(rt: HostRuntime) -> Result<(), AllocError> {
-    let alloc = rt.alloc();
-    for (word, text) in [
-        (Enumerant::AccessMode(AccessMode::ReadWrite), "read_write"),
-        (
-            Enumerant::AddressSpace(AddressSpace::Workgroup),
-            "workgroup",
-        ),
-        (
-            Enumerant::TexelFormat(TexelFormat::Bgra8Unorm),
-            "bgra8unorm",
-        ),
-    ] {
-        assert_eq!(rt; format!(in alloc; "{word}")?.as_str(), text);
-    }
-    for (operator, text) in [
-        (UnaryOperator::LogicalNegation, "!"),
-        (UnaryOperator::BitwiseComplement, "~"),
-        (UnaryOperator::Indirection, "*"),
-    ] {
-        assert_eq!(rt; format!(in alloc; "{operator}")?.as_str(), text);
-    }
-    for (operator, text) in [
-        (BinaryOperator::ShortCircuitOr, "||"),
-        (BinaryOperator::BitwiseOr, "|"),
-        (BinaryOperator::LessThanEqual, "<="),
-        (BinaryOperator::ShiftLeft, "<<"),
-    ] {
-        assert_eq!(rt; format!(in alloc; "{operator}")?.as_str(), text);
-    }
     Ok(())
 }
 
@@ -262,6 +179,13 @@ fn common_types(rt: HostRuntime) -> Result<(), AllocError> {
     let types = vec![in alloc; Type::AbstractInt, Type::F32, Type::AbstractFloat]?;
     assert_eq!(rt; convert_all_ty(&types), Some(&Type::F32));
     assert_eq!(rt; convert_all_ty(&[]), None);
-    common_type_is_symmetric();
     Ok(())
+}
+
+#[test]
+fn laws_of_types_and_views_do_nothing(_rt: HostRuntime) {
+    common_type_is_symmetric();
+    views_lead_along_their_paths();
+    fits_tests_the_place();
+    a_put_is_held();
 }

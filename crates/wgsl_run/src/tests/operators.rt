@@ -1,10 +1,12 @@
-//! Worked rows, texts, and each public call once.
+//! Operators on literals and numeric builtins, by worked rows.
 
-use crate::LiteralInstance::{AbstractInt, Bool, I32, I64, U32, U64};
-use crate::{BuiltinName, BuiltinReason, Error, LiteralInstance};
-use std::test::Fail;
 use wgsl_rules::ShaderStage::{Const, Exec, Override};
 use wgsl_rules::{BinaryOperator, ShaderStage, Type, UnaryOperator};
+use wgsl_scalar::LiteralInstance::{AbstractInt, Bool, I32, I64, U32, U64};
+use wgsl_scalar::{
+    BuiltinReason, Error, LiteralInstance, common_kinds_are_common_types, kinds_are_rings,
+    quotients_and_remainders_divide, sums_and_products_wrap,
+};
 
 const LEAST: i64 = -9223372036854775808;
 
@@ -204,6 +206,28 @@ fn two_numbers_are_refused(rt: HostRuntime) {
             Const,
             Error::Builtin(BuiltinReason::NoCommonType),
         ),
+        // a bool and a number have no common type, but two bools have one
+        (
+            Call::Max,
+            Bool(true),
+            I32(1),
+            Const,
+            Error::Builtin(BuiltinReason::NoCommonType),
+        ),
+        (
+            Call::Min,
+            Bool(true),
+            Bool(false),
+            Const,
+            Error::Builtin(BuiltinReason::NotNumber),
+        ),
+        (
+            Call::Max,
+            Bool(true),
+            Bool(true),
+            Const,
+            Error::Builtin(BuiltinReason::NotNumber),
+        ),
     ];
     for (i, (call, left, right, stage, wanted)) in rows.iter().enumerate() {
         let got = answer(*call, left, right, *stage);
@@ -294,85 +318,9 @@ fn comparisons_take_the_common_type(rt: HostRuntime) {
 }
 
 #[test]
-fn conversions(rt: HostRuntime) {
-    let rows = [
-        (AbstractInt(4294967295), Type::U32, Some(U32(4294967295))),
-        (AbstractInt(4294967295), Type::I32, None),
-        (AbstractInt(1), Type::I64, None),
-        (I64(1), Type::I64, Some(I64(1))),
-        (U32(1), Type::I32, None),
-    ];
-    for (i, (literal, ty, wanted)) in rows.iter().enumerate() {
-        assert_eq!(rt; &literal.to_kind(ty), wanted, "row {i}");
-    }
-    assert!(rt; I64(7).literal_ty() == Type::I64);
-}
-
-#[test]
-fn payloads(rt: HostRuntime) {
-    assert!(rt; LiteralInstance::from(true).unwrap_bool());
-    assert_eq!(rt; LiteralInstance::from(-4i64).unwrap_abstract_int(), -4);
-    assert_eq!(rt; LiteralInstance::from(-5i32).unwrap_i32(), -5);
-    assert_eq!(rt; LiteralInstance::from(6u32).unwrap_u32(), 6);
-    assert_eq!(rt; I64(-7).unwrap_i64(), -7);
-    assert_eq!(rt; U64(8).unwrap_u64(), 8);
-    assert!(rt; I64(7).is_finite());
-    assert!(rt; !I64(7).is_infinite());
-}
-
-#[test]
-fn texts_name_the_kind(rt: HostRuntime) -> Result<(), Fail> {
-    let rows = [
-        (I32(-5), "-5i"),
-        (U32(7), "7u"),
-        (AbstractInt(7), "7"),
-        (I64(7), "7li"),
-        (U64(7), "7lu"),
-        (Bool(true), "true"),
-        (Bool(false), "false"),
-    ];
-    for (literal, wanted) in rows.iter() {
-        let text = literal.to_string(rt.alloc())?;
-        assert_eq!(rt; text.as_str(), *wanted);
-    }
-    assert_eq!(rt; BuiltinName::Dot4U8Packed.as_str(), "dot4U8Packed");
-    assert!(rt; !BuiltinReason::NotNumber.as_str().is_empty());
-    Ok(())
-}
-
-#[test]
-fn errors_are_numbered_in_order(rt: HostRuntime) -> Result<(), Fail> {
-    let name = String::from_str(rt.alloc(), "m")?;
-    let errors = [
-        Error::Memory,
-        Error::NotRead,
-        Error::NotWrite,
-        Error::NotReadWrite,
-        Error::PtrHandle,
-        Error::PtrVecComp,
-        Error::WriteRefType(Type::U32, Type::I32),
-        Error::Component(Type::U32, name),
-        Error::NotIndexable(Type::U32),
-        Error::OutOfBounds(4, Type::U32, 3),
-        Error::ConvOverflow(AbstractInt(4294967295), Type::I32),
-        Error::Unary(UnaryOperator::Negation, Type::U32),
-        Error::Binary(BinaryOperator::Addition, Type::U32, Type::I32),
-        Error::CompwiseBinary(Type::U32, Type::I32),
-        Error::AddOverflow,
-        Error::SubOverflow,
-        Error::MulOverflow,
-        Error::DivByZero,
-        Error::RemZeroDiv,
-        Error::ShlOverflow(1, U32(3000000000)),
-        Error::ShrOverflow(32, U32(8)),
-        Error::ParamType(Type::I32, Type::I64),
-        Error::Builtin(BuiltinReason::NotNumber),
-        Error::Todo(BuiltinName::ExtractBits),
-    ];
-    for (i, error) in errors.iter().enumerate() {
-        assert_eq!(rt; error.number() as usize, i + 1);
-        let copy = error.clone(rt.alloc())?;
-        assert_eq!(rt; &copy, error);
-    }
-    Ok(())
+fn laws_of_literals_do_nothing(_rt: HostRuntime) {
+    common_kinds_are_common_types();
+    kinds_are_rings();
+    sums_and_products_wrap();
+    quotients_and_remainders_divide();
 }
