@@ -10,8 +10,6 @@ mod number;
 mod parts;
 mod size;
 mod syntax;
-#[cfg(test)]
-mod tests;
 mod traits;
 mod ty;
 
