@@ -4,6 +4,7 @@
 
 mod conv;
 mod inst;
+mod make;
 mod view;
 
 pub use inst::{
