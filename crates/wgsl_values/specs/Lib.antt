@@ -1,5 +1,6 @@
 pub mod Equal
 pub mod Matrices
 pub mod Same
+pub mod Signatures
 pub mod Texts
 pub mod View

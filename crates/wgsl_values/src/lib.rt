@@ -2,12 +2,14 @@
 //! and every way to look at their parts and to write them.
 #![tactic(auto)]
 
+mod call;
 mod clone;
 mod display;
 mod eq;
 mod inst;
 mod view;
 
+pub use call::{CallSignature, TpltParam};
 pub use inst::{
     ArrayInstance, AtomicInstance, Instance, MatInstance, PtrInstance, RefInstance, StructInstance,
     VecInstance,
