@@ -22,7 +22,7 @@ ghost use Rattle.wgsl_values.specs.Signatures.{
 };
 
 use crate::display::before_item;
-use crate::inst;
+use crate::inst::Instance;
 use std::alloc::{AllocError, Global};
 use std::fmt;
 use std::fmt::Display;
@@ -32,7 +32,7 @@ use wgsl_rules::{Enumerant, Type};
 #[derive(Debug, Drop)]
 pub enum TpltParam {
     OfType(Type),
-    Instance(inst::Instance),
+    Instance(Instance),
     Enumerant(Enumerant),
 }
 
