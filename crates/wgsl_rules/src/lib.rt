@@ -6,6 +6,7 @@ mod conv;
 mod display;
 mod eq;
 pub mod laws;
+mod layout;
 mod number;
 mod size;
 mod syntax;
