@@ -103,17 +103,17 @@ abbrev pub have_none : Fields → Bool
 have_none no_fields = true
 have_none (field name t s a fs) = false
 
--- a member that is such an array, without a size attribute, where it has a place after what ends at `from`
-abbrev pub is_runtime_member : Option ℕ → Field → Bool
-is_runtime_member from f = is_runtime_array f.ty && (is_none f.size && (is_align_valid f.align (align_of f.ty) && is_some (offset_after from (extent_in f.ty f.size f.align))))
+-- a member that is such an array, without a size attribute
+abbrev pub is_runtime_member : Field → Bool
+is_runtime_member f = is_runtime_array f.ty && (is_none f.size && is_align_valid f.align (align_of f.ty))
 
--- the last of the members, of which the first stands after `from`, is such an array, and the others have fixed
--- layouts
+-- the last of the members, of which the first stands after `from`, is such a member and has a place; the others
+-- have fixed layouts
 abbrev pub end_in_runtime_array : Option ℕ → Fields → Bool
 end_in_runtime_array from no_fields = false
 end_in_runtime_array from (field name t s a fs) =
     if have_none fs
-    then is_runtime_member from (record { name = name; ty = t; size = s; align = a })
+    then is_runtime_member (record { name = name; ty = t; size = s; align = a }) && is_some (offset_after from (extent_in t s a))
     else (has_fixed_layout t && are_attributes_valid t s a) && end_in_runtime_array (end_after from (extent_in t s a)) fs
 
 abbrev pub has_runtime_layout : Ty → Bool

@@ -1,7 +1,7 @@
 //! Which types have a layout in host-shared memory (WGSL: host-shareable types; internal layout of
 //! values).
 
-ghost use Rattle.std.specs.Prelude.{◌≡◌, is_some, Some, ◌&&◌};
+ghost use Rattle.std.specs.Prelude.{◌≡◌, is_some};
 ghost use Rattle.wgsl_rules.specs.Layout.{
   scalar_kind,
   atomic_kind,
@@ -10,19 +10,12 @@ ghost use Rattle.wgsl_rules.specs.Layout.{
   is_align_valid,
   is_at_least,
   is_size_valid,
-  is_runtime_array,
-  is_runtime_member,
-  end_in_runtime_array,
-  has_runtime_layout,
   has_layout,
-  has_fixed_layout,
-  known_stride,
 };
-ghost use Rattle.wgsl_rules.specs.View.{type_view, member_view, members_view};
+ghost use Rattle.wgsl_rules.specs.View.{type_view, struct_view};
 
-use crate::number::rounded_if_known;
-use crate::size::{Measures, end_after};
-use crate::ty::{StructMemberType, Type};
+use crate::measures::measure_members;
+use crate::ty::{StructType, Type};
 
 /// Of components, columns and rows.
 pub(crate) fn is_from_2_to_4(n: u8) -> bool
@@ -40,8 +33,8 @@ fn is_multiple_of(attribute: u32, align: Option<u32>) -> bool
     }
 }
 
-// An align attribute beside the alignment of the type.
-fn is_align_valid(attribute: Option<u32>, align: Option<u32>) -> bool
+/// An align attribute beside the alignment of the type.
+pub(crate) fn is_align_valid(attribute: Option<u32>, align: Option<u32>) -> bool
     ensures { result ≡ is_align_valid attribute align }
 {
     match attribute {
@@ -59,21 +52,14 @@ fn is_at_least(attribute: u32, size: Option<u32>) -> bool
     }
 }
 
-// A size attribute beside the size of the type.
-fn is_size_valid(attribute: Option<u32>, size: Option<u32>) -> bool
+/// A size attribute beside the size of the type.
+pub(crate) fn is_size_valid(attribute: Option<u32>, size: Option<u32>) -> bool
     ensures { result ≡ is_size_valid attribute size }
 {
     match attribute {
         Some(attribute) => is_at_least(attribute, size),
         None => true,
     }
-}
-
-/// The attributes of a member beside the measures of its type.
-pub(crate) fn are_attributes_valid(size: Option<u32>, align: Option<u32>, ty: Measures) -> bool
-    ensures { result ≡ (is_size_valid size ty.size && is_align_valid align ty.align) }
-{
-    is_size_valid(size, ty.size) && is_align_valid(align, ty.align)
 }
 
 impl Type {
@@ -86,33 +72,13 @@ impl Type {
     pub fn has_layout(&self) -> bool
         ensures { result ≡ has_layout (type_view self.now) }
     {
-        self.measures().is_fixed || self.has_runtime_layout()
-    }
-
-    fn has_runtime_layout(&self) -> bool
-        ensures { result ≡ has_runtime_layout (type_view self.now) }
-    {
         match self {
-            Type::Struct(ty) => end_in_runtime_array(ty.members.as_slice()),
-            _ => self.is_runtime_array(),
+            Type::Struct(ty) => ty.has_layout(),
+            _ => {
+                let measures = self.measures();
+                measures.is_fixed || measures.is_runtime_array
+            }
         }
-    }
-
-    fn is_runtime_array(&self) -> bool
-        ensures { result ≡ is_runtime_array (type_view self.now) }
-    {
-        match self {
-            Type::Array(element, n) => n.is_none() && element.is_element(),
-            _ => false,
-        }
-    }
-
-    // Whether the type has a fixed layout, and elements of it stand a known distance apart.
-    fn is_element(&self) -> bool
-        ensures { result ≡ (has_fixed_layout (type_view self.now) && is_some (known_stride (type_view self.now))) }
-    {
-        let element = self.measures();
-        element.is_fixed && element.stride().is_some()
     }
 
     /// The scalars of host-shared memory.
@@ -130,33 +96,11 @@ impl Type {
     }
 }
 
-// Whether the last of the members is a runtime-sized array, and the others have fixed layouts.
-fn end_in_runtime_array(members: &[StructMemberType]) -> bool
-    ensures { result ≡ end_in_runtime_array (Some 0) (members_view members.now) }
-{
-    let mut end = Some(0u32);
-    for (i, member) in members.iter().enumerate() {
-        if i + 1 == members.len() {
-            return member.is_runtime_array(end);
-        }
-        let measures = member.measures();
-        if !measures.is_fixed {
-            return false;
-        }
-        end = end_after(end, measures);
-    }
-    false
-}
-
-impl StructMemberType {
-    // Whether the member is a runtime-sized array that has a place after what ends at `from`.
-    fn is_runtime_array(&self, from: Option<u32>) -> bool
-        ensures { result ≡ is_runtime_member from (member_view self.now) }
+impl StructType {
+    fn has_layout(&self) -> bool
+        ensures { result ≡ has_layout (struct_view self.now) }
     {
-        let align = self.ty.align_of();
-        self.ty.is_runtime_array()
-            && self.size.is_none()
-            && is_align_valid(self.align, align)
-            && rounded_if_known(self.align.or(align), from).is_some()
+        let members = measure_members(self.members.as_slice());
+        members.are_fixed && members.size().is_some() || members.end_in_runtime_array
     }
 }

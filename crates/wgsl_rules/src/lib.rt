@@ -7,6 +7,7 @@ mod display;
 mod eq;
 pub mod laws;
 mod layout;
+mod measures;
 mod number;
 mod size;
 mod syntax;

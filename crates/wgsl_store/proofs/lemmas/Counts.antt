@@ -9,9 +9,9 @@ use Rattle.wgsl_rules.specs.Kinds.{Kind, bytes_of}
 use Rattle.wgsl_rules.specs.Types.{Ty, struct, array, vec, Fields, no_fields, field}
 use Rattle.wgsl_rules.specs.Values.{Val, truth, number, record_of, array_of, vector, matrix, atomic_of, pointer, reference, deferred, Vals, no_vals, val, count, type_of, type_of_kind, first_type, matrix_type, HaveTypes, IsStorable, AreStorable}
 use Rattle.wgsl_rules.specs.Size.{size_of, align_of, offset_after, end_after, extent_in}
-use Rattle.wgsl_rules.specs.Layout.{size, stride, amount, is_size_valid, is_align_valid, has_fixed_layout, have_fixed_layouts, is_runtime_array, end_in_runtime_array, has_runtime_layout, has_layout, Tail, tail_at, tail_of, last_tail, layout_len, at_least_one, count_in, elements, last_elements, runtime_count}
+use Rattle.wgsl_rules.specs.Layout.{size, stride, amount, is_size_valid, is_align_valid, has_fixed_layout, have_fixed_layouts, is_runtime_array, end_in_runtime_array, has_runtime_layout, has_layout, Tail, tail_at, tail_of, last_tail, layout_len, at_least_one, count_in, elements, last_elements, runtime_count, are_attributes_valid}
 use Rattle.wgsl_store.proofs.lemmas.Known.{and-both}
-use Rattle.wgsl_store.proofs.lemmas.Tidy.{fixed-length, length-fixed}
+use Rattle.wgsl_store.proofs.lemmas.Tidy.{fixed-length, length-fixed, last-runtime}
 
 -- ---- no elements in a value of a fixed layout
 
@@ -25,8 +25,8 @@ last-fixed no_fields no_vals m e a h = e
 last-fixed no_fields (val v vs) m e a h = absurd a
 last-fixed (field name t s g fs) no_vals m e a h = absurd a
 last-fixed (field name t s g fs) (val v vs) m e a h =
-    let both = and-both (has_fixed_layout t && (is_size_valid s (size_of t) && is_align_valid g (align_of t))) (have_fixed_layouts fs) h in
-    let fixed = (and-both (has_fixed_layout t) (is_size_valid s (size_of t) && is_align_valid g (align_of t)) both.0).0 in
+    let both = and-both (has_fixed_layout t && are_attributes_valid t s g) (have_fixed_layouts fs) h in
+    let fixed = (and-both (has_fixed_layout t) (are_attributes_valid t s g) both.0).0 in
     last-fixed fs vs (elements v) (elements-fixed v (ap has_fixed_layout a.0 ∙ fixed)) a.1 both.1
 
 pub count-fixed : (v : Val) → IsStorable v → has_fixed_layout (type_of v) ≡ true → runtime_count v ≡ 0
@@ -71,11 +71,11 @@ last-some : (fs : Fields) (vs : Vals) (m : ℕ) (from : Option ℕ) → HaveType
 last-some no_fields vs m from a s h = absurd (false≢true h)
 last-some (field name t z g fs) no_vals m from a s h = absurd a
 last-some (field name t z g no_fields) (val v no_vals) m from a s h =
-    let runtime = (and-both (is_runtime_array t) (is_none z && (is_align_valid g (align_of t) && is_some (offset_after from (extent_in t z g)))) h).0 in
+    let runtime = (last-runtime t z g from h).0 in
     elements-some v s.0 (ap is_runtime_array a.0 ∙ runtime)
 last-some (field name t z g no_fields) (val v (val w vs)) m from a s h = absurd (a.1)
 last-some (field name t z g (field n u y k fs)) (val v vs) m from a s h =
-    let both = and-both (has_fixed_layout t && (is_size_valid z (size_of t) && is_align_valid g (align_of t))) (end_in_runtime_array (end_after from (extent_in t z g)) (field n u y k fs)) h in
+    let both = and-both (has_fixed_layout t && are_attributes_valid t z g) (end_in_runtime_array (end_after from (extent_in t z g)) (field n u y k fs)) h in
     last-some (field n u y k fs) vs (elements v) (end_after from (extent_in t z g)) a.1 s.1 both.1
 
 pub count-some : (v : Val) → IsStorable v → has_runtime_layout (type_of v) ≡ true → 1 ≤ runtime_count v
@@ -96,13 +96,13 @@ count-some (deferred t) s h = absurd s
 
 last-there : (fs : Fields) (from : Option ℕ) (found : Option Tail) → end_in_runtime_array from fs ≡ true → is_some (last_tail found from fs) ≡ true
 last-there no_fields from found h = absurd (false≢true h)
-last-there (field name t z g no_fields) from found h = by t (and-both (is_runtime_array t) (is_none z && (is_align_valid g (align_of t) && is_some (offset_after from (extent_in t z g)))) h).0
+last-there (field name t z g no_fields) from found h = by t (last-runtime t z g from h).0
   where
     by : (u : Ty) → is_runtime_array u ≡ true → is_some (tail_at (amount (offset_after from (extent_in t z g))) u) ≡ true
     by (array u None) h = refl
     by u h = absurd (false≢true h)
 last-there (field name t z g (field n u y k fs)) from found h =
-    let both = and-both (has_fixed_layout t && (is_size_valid z (size_of t) && is_align_valid g (align_of t))) (end_in_runtime_array (end_after from (extent_in t z g)) (field n u y k fs)) h in
+    let both = and-both (has_fixed_layout t && are_attributes_valid t z g) (end_in_runtime_array (end_after from (extent_in t z g)) (field n u y k fs)) h in
     last-there (field n u y k fs) (end_after from (extent_in t z g)) (tail_at (amount (offset_after from (extent_in t z g))) t) both.1
 
 pub tail-there : (t : Ty) → has_runtime_layout t ≡ true → is_some (tail_of t) ≡ true

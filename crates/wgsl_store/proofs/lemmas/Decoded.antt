@@ -11,11 +11,11 @@ use Rattle.wgsl_rules.specs.Types.{Ty, struct, array, vec, mat, atomic, Fields, 
 use Rattle.wgsl_rules.specs.Values.{Val, array_of, Vals, no_vals, val, count, item, type_of, first_type, matrix_type, array_type, AllOfType, HaveTypes, AreLiterals, AreVectors, IsStorable, AreStorable}
 use Rattle.wgsl_rules.specs.Paths.{parts, value_at}
 use Rattle.wgsl_rules.specs.Size.{size_of, align_of, offset_after, end_after, extent_in}
-use Rattle.wgsl_rules.specs.Layout.{size, align, stride, amount, scalar_kind, is_from_2_to_4, is_size_valid, is_align_valid, has_fixed_layout, have_fixed_layouts, is_runtime_array, end_in_runtime_array, has_runtime_layout, has_layout, known_stride, Tail, tail_of, at_least_one, count_in, layout_of, runtime_count, elements, last_elements, leaf, atomic_kind, Leaf, under, leaves, part_leaves, Layout, scalar, composite, Parts, no_parts, part, repeated, layout, member_parts}
+use Rattle.wgsl_rules.specs.Layout.{size, align, stride, amount, scalar_kind, is_from_2_to_4, is_size_valid, is_align_valid, has_fixed_layout, have_fixed_layouts, is_runtime_array, end_in_runtime_array, has_runtime_layout, has_layout, known_stride, Tail, tail_of, at_least_one, count_in, layout_of, runtime_count, elements, last_elements, leaf, atomic_kind, Leaf, under, leaves, part_leaves, Layout, scalar, composite, Parts, no_parts, part, repeated, layout, member_parts, are_attributes_valid}
 use Rattle.wgsl_store.specs.Buffers.{number_from, number_of, number_at, Reads, Lays, IsReadOf, decode, read_number, made_of_parts, decoded, decoded_parts}
 use Rattle.wgsl_store.specs.Laws.{DecodingIsReading}
 use Rattle.wgsl_store.proofs.lemmas.Known.{and-both, some-of}
-use Rattle.wgsl_store.proofs.lemmas.Tidy.{fixed-length}
+use Rattle.wgsl_store.proofs.lemmas.Tidy.{fixed-length, last-runtime}
 use Rattle.wgsl_store.proofs.lemmas.Counts.{count-fixed, tail-there}
 use Rattle.wgsl_store.proofs.lemmas.Compose.{ReadsFrom, number-made, laid-decodes, laid-once}
 
@@ -138,8 +138,8 @@ mutual
       → HaveTypes fs (decoded_parts b o (member_parts n from fs)) × AreStorable (decoded_parts b o (member_parts n from fs))
   fields-good no_fields n o b from h = (tt, tt)
   fields-good (field name t s a fs) n o b from h =
-      let both = and-both (has_fixed_layout t && (is_size_valid s (size_of t) && is_align_valid a (align_of t))) (have_fixed_layouts fs) h in
-      let fixed = (and-both (has_fixed_layout t) (is_size_valid s (size_of t) && is_align_valid a (align_of t)) both.0).0 in
+      let both = and-both (has_fixed_layout t && are_attributes_valid t s a) (have_fixed_layouts fs) h in
+      let fixed = (and-both (has_fixed_layout t) (are_attributes_valid t s a) both.0).0 in
       let one = fixed-good t n (o + amount (offset_after from (extent_in t s a))) b fixed in
       let rest = fields-good fs n o b (end_after from (extent_in t s a)) both.1 in
       ((one.1, rest.0), (one.0, rest.1))
@@ -163,12 +163,12 @@ fields-open : (fs : Fields) (n m o : ℕ) (b : List ℕ) (from : Option ℕ) →
     → HaveTypes fs (decoded_parts b o (member_parts n from fs)) × AreStorable (decoded_parts b o (member_parts n from fs)) × (last_elements m (decoded_parts b o (member_parts n from fs)) ≡ n)
 fields-open no_fields n m o b from h one = absurd (false≢true h)
 fields-open (field name t z g no_fields) n m o b from h one =
-    let runtime = (and-both (is_runtime_array t) (is_none z && (is_align_valid g (align_of t) && is_some (offset_after from (extent_in t z g)))) h).0 in
+    let runtime = (last-runtime t z g from h).0 in
     let last = elements-good t n (o + amount (offset_after from (extent_in t z g))) b runtime one in
     ((last.0.1, tt), (last.0.0, tt), last.1)
 fields-open (field name t z g (field k u y a fs)) n m o b from h one =
-    let both = and-both (has_fixed_layout t && (is_size_valid z (size_of t) && is_align_valid g (align_of t))) (end_in_runtime_array (end_after from (extent_in t z g)) (field k u y a fs)) h in
-    let fixed = (and-both (has_fixed_layout t) (is_size_valid z (size_of t) && is_align_valid g (align_of t)) both.0).0 in
+    let both = and-both (has_fixed_layout t && are_attributes_valid t z g) (end_in_runtime_array (end_after from (extent_in t z g)) (field k u y a fs)) h in
+    let fixed = (and-both (has_fixed_layout t) (are_attributes_valid t z g) both.0).0 in
     let first = fixed-good t n (o + amount (offset_after from (extent_in t z g))) b fixed in
     let rest = fields-open (field k u y a fs) n (elements (decoded b (o + amount (offset_after from (extent_in t z g))) (layout n t))) o b (end_after from (extent_in t z g)) both.1 one in
     ((first.1, rest.0), (first.0, rest.1), rest.2)
@@ -229,8 +229,8 @@ mutual
   fields-shaped : (fs : Fields) (n : ℕ) (from : Option ℕ) → have_fixed_layouts fs ≡ true → AreShaped (member_parts n from fs)
   fields-shaped no_fields n from h = tt
   fields-shaped (field name t s a fs) n from h =
-      let both = and-both (has_fixed_layout t && (is_size_valid s (size_of t) && is_align_valid a (align_of t))) (have_fixed_layouts fs) h in
-      let fixed = (and-both (has_fixed_layout t) (is_size_valid s (size_of t) && is_align_valid a (align_of t)) both.0).0 in
+      let both = and-both (has_fixed_layout t && are_attributes_valid t s a) (have_fixed_layouts fs) h in
+      let fixed = (and-both (has_fixed_layout t) (are_attributes_valid t s a) both.0).0 in
       (fixed-shaped t n fixed, fields-shaped fs n (end_after from (extent_in t s a)) both.1)
 
 array-shaped : (t : Ty) (n : ℕ) → is_runtime_array t ≡ true → IsShaped (layout n t)
@@ -240,10 +240,10 @@ array-shaped t n h = absurd (false≢true h)
 open-shaped : (fs : Fields) (n : ℕ) (from : Option ℕ) → end_in_runtime_array from fs ≡ true → AreShaped (member_parts n from fs)
 open-shaped no_fields n from h = absurd (false≢true h)
 open-shaped (field name t z g no_fields) n from h =
-    (array-shaped t n (and-both (is_runtime_array t) (is_none z && (is_align_valid g (align_of t) && is_some (offset_after from (extent_in t z g)))) h).0, tt)
+    (array-shaped t n (last-runtime t z g from h).0, tt)
 open-shaped (field name t z g (field k u y a fs)) n from h =
-    let both = and-both (has_fixed_layout t && (is_size_valid z (size_of t) && is_align_valid g (align_of t))) (end_in_runtime_array (end_after from (extent_in t z g)) (field k u y a fs)) h in
-    let fixed = (and-both (has_fixed_layout t) (is_size_valid z (size_of t) && is_align_valid g (align_of t)) both.0).0 in
+    let both = and-both (has_fixed_layout t && are_attributes_valid t z g) (end_in_runtime_array (end_after from (extent_in t z g)) (field k u y a fs)) h in
+    let fixed = (and-both (has_fixed_layout t) (are_attributes_valid t z g) both.0).0 in
     (fixed-shaped t n fixed, open-shaped (field k u y a fs) n (end_after from (extent_in t z g)) both.1)
 
 runtime-shaped : (t : Ty) (n : ℕ) → has_runtime_layout t ≡ true → IsShaped (layout n t)

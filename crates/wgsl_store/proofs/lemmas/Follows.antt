@@ -10,11 +10,11 @@ use Rattle.wgsl_rules.specs.Values as values
 use Rattle.wgsl_rules.specs.Values.{Val, truth, number, record_of, array_of, vector, matrix, atomic_of, pointer, reference, deferred, Vals, no_vals, val, count, item, type_of, first_type, matrix_type, AllOfType, HaveTypes, AreVectors, IsStorable, AreStorable}
 use Rattle.wgsl_rules.specs.Paths.{parts, value_at}
 use Rattle.wgsl_rules.specs.Size.{size_of, align_of, end_after, offset_after, extent_in}
-use Rattle.wgsl_rules.specs.Layout.{size, align, stride, known_stride, scalar_kind, is_from_2_to_4, is_size_valid, is_align_valid, has_fixed_layout, have_fixed_layouts, is_runtime_array, end_in_runtime_array, has_runtime_layout, has_layout, amount, layout_len, Layout, scalar, composite, Parts, no_parts, part, repeated, layout, member_parts, layout_of, runtime_count, elements, last_elements}
+use Rattle.wgsl_rules.specs.Layout.{size, align, stride, known_stride, scalar_kind, is_from_2_to_4, is_size_valid, is_align_valid, has_fixed_layout, have_fixed_layouts, is_runtime_array, end_in_runtime_array, has_runtime_layout, has_layout, amount, layout_len, Layout, scalar, composite, Parts, no_parts, part, repeated, layout, member_parts, layout_of, runtime_count, elements, last_elements, are_attributes_valid}
 use Rattle.wgsl_store.specs.Buffers.{made_of_number, made_of_parts}
 use Rattle.wgsl_store.specs.Ranges.{Range, further, part_at, parts_in, range_in}
 use Rattle.wgsl_store.proofs.lemmas.Known.{and-both}
-use Rattle.wgsl_store.proofs.lemmas.Tidy.{fixed-length, length-fixed}
+use Rattle.wgsl_store.proofs.lemmas.Tidy.{fixed-length, length-fixed, last-runtime}
 
 -- ---- the count does not show in a fixed layout
 
@@ -53,8 +53,8 @@ mutual
   members-any : (fs : Fields) (n m : ℕ) (from : Option ℕ) → have_fixed_layouts fs ≡ true → member_parts n from fs ≡ member_parts m from fs
   members-any no_fields n m from h = refl
   members-any (field name t s a fs) n m from h =
-      let both = and-both (has_fixed_layout t && (is_size_valid s (size_of t) && is_align_valid a (align_of t))) (have_fixed_layouts fs) h in
-      let fixed = and-both (has_fixed_layout t) (is_size_valid s (size_of t) && is_align_valid a (align_of t)) both.0 in
+      let both = and-both (has_fixed_layout t && are_attributes_valid t s a) (have_fixed_layouts fs) h in
+      let fixed = and-both (has_fixed_layout t) (are_attributes_valid t s a) both.0 in
       ap (λ (l : Layout). part (amount (offset_after from (extent_in t s a))) l (member_parts n (end_after from (extent_in t s a)) fs)) (layout-any t n m fixed.0)
       ∙ ap (λ (ps : Parts). part (amount (offset_after from (extent_in t s a))) (layout m t) ps) (members-any fs n m (end_after from (extent_in t s a)) both.1)
 
@@ -137,8 +137,8 @@ mutual
   follow-members no_vals (field name t sz a fs) n from e s h = absurd e
   follow-members (val v vs) no_fields n from e s h = absurd e
   follow-members (val v vs) (field name t sz a fs) n from e s h =
-      let both = and-both (has_fixed_layout t && (is_size_valid sz (size_of t) && is_align_valid a (align_of t))) (have_fixed_layouts fs) h in
-      let fixed = (and-both (has_fixed_layout t) (is_size_valid sz (size_of t) && is_align_valid a (align_of t)) both.0).0 in (
+      let both = and-both (has_fixed_layout t && are_attributes_valid t sz a) (have_fixed_layouts fs) h in
+      let fixed = (and-both (has_fixed_layout t) (are_attributes_valid t sz a) both.0).0 in (
         own-fixed n t v fixed e.0,
         subst (λ (u : Ty). Follows (layout n u) v) e.0 (follows-fixed v n s.0 (ap has_fixed_layout e.0 ∙ fixed)),
         follow-members vs fs n (end_after from (extent_in t sz a)) e.1 s.1 both.1,
@@ -208,13 +208,13 @@ follow-open : (fs : Fields) (vs : Vals) (n k : ℕ) (from : Option ℕ) → Have
 follow-open no_fields vs n k from e s h c = absurd (false≢true h)
 follow-open (field name t sz a fs) no_vals n k from e s h c = absurd e
 follow-open (field name t sz a no_fields) (val v no_vals) n k from e s h c =
-    let runtime = (and-both (is_runtime_array t) (is_none sz && (is_align_valid a (align_of t) && is_some (offset_after from (extent_in t sz a)))) h).0 in
+    let runtime = (last-runtime t sz a from h).0 in
     let last = last-follows v t s.0 e.0 runtime in
     subst (λ (m : ℕ). IsOwn (layout m t) v × Follows (layout m t) v × Unit {0}) (sym c) (last.0, last.1, tt)
 follow-open (field name t sz a no_fields) (val v (val w vs)) n k from e s h c = absurd (e.1)
 follow-open (field name t sz a (field m u z b fs)) (val v vs) n k from e s h c =
-    let both = and-both (has_fixed_layout t && (is_size_valid sz (size_of t) && is_align_valid a (align_of t))) (end_in_runtime_array (end_after from (extent_in t sz a)) (field m u z b fs)) h in
-    let fixed = (and-both (has_fixed_layout t) (is_size_valid sz (size_of t) && is_align_valid a (align_of t)) both.0).0 in (
+    let both = and-both (has_fixed_layout t && are_attributes_valid t sz a) (end_in_runtime_array (end_after from (extent_in t sz a)) (field m u z b fs)) h in
+    let fixed = (and-both (has_fixed_layout t) (are_attributes_valid t sz a) both.0).0 in (
       own-fixed n t v fixed e.0,
       subst (λ (q : Ty). Follows (layout n q) v) e.0 (follows-fixed v n s.0 (ap has_fixed_layout e.0 ∙ fixed)),
       follow-open (field m u z b fs) vs n (elements v) (end_after from (extent_in t sz a)) e.1 s.1 both.1 c,

@@ -8,9 +8,9 @@ use Rattle.wgsl_rules.specs.Kinds.{Kind, bytes_of}
 use Rattle.wgsl_rules.specs.Types as types
 use Rattle.wgsl_rules.specs.Types.{Ty, struct, array, vec, mat, atomic, Fields, no_fields, field}
 use Rattle.wgsl_rules.specs.Size.{size_of, align_of, round_up, Extent, offset_after, end_after, end_of_members, extents, struct_align, extent_in}
-use Rattle.wgsl_rules.specs.Layout.{amount, size, known_stride, stride, scalar_kind, is_from_2_to_4, is_size_valid, is_align_valid, has_fixed_layout, have_fixed_layouts, is_runtime_array, end_in_runtime_array, has_runtime_layout, has_layout, Tail, tail_at, tail_of, last_tail, length_in, layout}
+use Rattle.wgsl_rules.specs.Layout.{amount, size, known_stride, stride, scalar_kind, is_from_2_to_4, is_size_valid, is_align_valid, has_fixed_layout, have_fixed_layouts, is_runtime_array, end_in_runtime_array, has_runtime_layout, has_layout, Tail, tail_at, tail_of, last_tail, length_in, layout, are_attributes_valid}
 use Rattle.wgsl_store.proofs.lemmas.Known.{and-both, some-of, both-known, times-known, rounded-known, stride-known, end-known, ends-known}
-use Rattle.wgsl_store.proofs.lemmas.Tidy.{scalar-is, vector-is, attribute-holds, fixed-length, fixed-tidy}
+use Rattle.wgsl_store.proofs.lemmas.Tidy.{scalar-is, vector-is, attribute-holds, fixed-length, fixed-tidy, last-runtime}
 
 some-is : (a b : ℕ) → ◌≡◌ {A = Option ℕ} (Some a) (Some b) → a ≡ b
 some-is a b e = cc
@@ -92,8 +92,8 @@ positive (struct name no_fields) s h e =
     absurd (nothing b.1 s (rw (← zero) at b.4))
 positive (struct name (field n t sz a fs)) s h e =
     let both = and-both (have_fixed_layouts (field n t sz a fs)) (is_some (size_of (struct name (field n t sz a fs)))) h in
-    let all = and-both (has_fixed_layout t && (is_size_valid sz (size_of t) && is_align_valid a (align_of t))) (have_fixed_layouts fs) both.0 in
-    let fixed = and-both (has_fixed_layout t) (is_size_valid sz (size_of t) && is_align_valid a (align_of t)) all.0 in
+    let all = and-both (has_fixed_layout t && are_attributes_valid t sz a) (have_fixed_layouts fs) both.0 in
+    let fixed = and-both (has_fixed_layout t) (are_attributes_valid t sz a) all.0 in
     let valid = and-both (is_size_valid sz (size_of t)) (is_align_valid a (align_of t)) fixed.1 in
     let b = both-known round_up (struct_align (extents (field n t sz a fs))) (end_of_members (Some 0) (extents (field n t sz a fs))) s e in
     let le = rounded-known b.0 b.1 s b.4 in
@@ -123,10 +123,10 @@ runtime-stride t o h = absurd (false≢true h)
 last-stride : (fs : Fields) (from : Option ℕ) (found : Option Tail) → end_in_runtime_array from fs ≡ true → MatchOption (last_tail found from fs) ⊤ (λ r. 0 < stride r.element)
 last-stride no_fields from found h = absurd (false≢true h)
 last-stride (field name t z g no_fields) from found h =
-    runtime-stride t (amount (offset_after from (extent_in t z g))) (and-both (is_runtime_array t) (is_none z && (is_align_valid g (align_of t) && is_some (offset_after from (extent_in t z g)))) h).0
+    runtime-stride t (amount (offset_after from (extent_in t z g))) (last-runtime t z g from h).0
 last-stride (field name t z g (field n u y k fs)) from found h =
     last-stride (field n u y k fs) (end_after from (extent_in t z g)) (tail_at (amount (offset_after from (extent_in t z g))) t)
-    (and-both (has_fixed_layout t && (is_size_valid z (size_of t) && is_align_valid g (align_of t))) (end_in_runtime_array (end_after from (extent_in t z g)) (field n u y k fs)) h).1
+    (and-both (has_fixed_layout t && are_attributes_valid t z g) (end_in_runtime_array (end_after from (extent_in t z g)) (field n u y k fs)) h).1
 
 pub tail-stride : (t : Ty) → has_layout t ≡ true → MatchOption (tail_of t) ⊤ (λ r. 0 < stride r.element)
 tail-stride t h = by (has_fixed_layout t) refl h

@@ -8,7 +8,7 @@ use Rattle.wgsl_rules.specs.Kinds as kinds
 use Rattle.wgsl_rules.specs.Kinds.{Kind, bytes_of}
 use Rattle.wgsl_rules.specs.Types.{Ty, i32, u32, i64, u64, struct, array, vec, mat, atomic, Fields, no_fields, field}
 use Rattle.wgsl_rules.specs.Size.{size_of, align_of, with_both, sum_of, times, vec3_align, round_up, extents, Extent, offset_after, end_after, end_of_members, struct_align, extent_in}
-use Rattle.wgsl_rules.specs.Layout.{amount, size, align, known_stride, stride, Tail, scalar_kind, atomic_kind, is_from_2_to_4, is_size_valid, is_align_valid, has_fixed_layout, have_fixed_layouts, is_runtime_array, end_in_runtime_array, has_runtime_layout, has_layout, tail_at, last_tail, tail_of, layout_len, Layout, scalar, Parts, no_parts, part, length_in, repeated, leaf, layout, member_parts}
+use Rattle.wgsl_rules.specs.Layout.{amount, size, align, known_stride, stride, Tail, scalar_kind, atomic_kind, is_from_2_to_4, is_size_valid, is_align_valid, has_fixed_layout, have_fixed_layouts, is_runtime_array, end_in_runtime_array, has_runtime_layout, has_layout, tail_at, last_tail, tail_of, layout_len, Layout, scalar, Parts, no_parts, part, length_in, repeated, leaf, layout, member_parts, are_attributes_valid}
 use Rattle.wgsl_store.proofs.lemmas.Known.{and-both, some-of, fits, both-known, times-known, rounded-known, stride-known, offset-known, end-known, ends-known}
 use Rattle.wgsl_store.proofs.lemmas.Ranges.{IsTidy, AreTidy}
 
@@ -139,8 +139,8 @@ attribute-holds (Some a) (Some b) n m h e f = let eb : b ≡ n = cc in let ea : 
 no-tail : (fs : Fields) (from : Option ℕ) → have_fixed_layouts fs ≡ true → last_tail None from fs ≡ None
 no-tail no_fields from h = refl
 no-tail (field name t s a fs) from h =
-    let both = and-both (has_fixed_layout t && (is_size_valid s (size_of t) && is_align_valid a (align_of t))) (have_fixed_layouts fs) h in
-    let fixed = and-both (has_fixed_layout t) (is_size_valid s (size_of t) && is_align_valid a (align_of t)) both.0 in
+    let both = and-both (has_fixed_layout t && are_attributes_valid t s a) (have_fixed_layouts fs) h in
+    let fixed = and-both (has_fixed_layout t) (are_attributes_valid t s a) both.0 in
     let e = no-array t (amount (offset_after from (extent_in t s a))) fixed.0 in
     subst (λ (o : Option Tail). last_tail o (end_after from (extent_in t s a)) fs ≡ None) (sym e) (no-tail fs (end_after from (extent_in t s a)) both.1)
   where
@@ -215,8 +215,8 @@ mutual
       → AreTidy from (member_parts n (Some from) fs) end
   fields-tidy no_fields n from end h e = let same : from ≡ end = cc in omega arith
   fields-tidy (field name t s a fs) n from end h e =
-      let both = and-both (has_fixed_layout t && (is_size_valid s (size_of t) && is_align_valid a (align_of t))) (have_fixed_layouts fs) h in
-      let fixed = and-both (has_fixed_layout t) (is_size_valid s (size_of t) && is_align_valid a (align_of t)) both.0 in
+      let both = and-both (has_fixed_layout t && are_attributes_valid t s a) (have_fixed_layouts fs) h in
+      let fixed = and-both (has_fixed_layout t) (are_attributes_valid t s a) both.0 in
       let valid = and-both (is_size_valid s (size_of t)) (is_align_valid a (align_of t)) fixed.1 in
       let is = fixed-tidy t n fixed.0 in
       let x = ends-known (end_after (Some from) (extent_in t s a)) (extents fs) end e in
@@ -238,16 +238,20 @@ offset-none m = by m.align
 end-none : (m : Extent) → end_after None m ≡ None
 end-none m = ap (λ (o : Option ℕ). with_both sum_of o m.size) (offset-none m)
 
+-- a last member that is a runtime-sized array
+pub last-runtime : (t : Ty) (s a from : Option ℕ) → (is_runtime_array t && (is_none s && is_align_valid a (align_of t)) && is_some (offset_after from (extent_in t s a))) ≡ true
+    → (is_runtime_array t ≡ true) × (is_some (offset_after from (extent_in t s a)) ≡ true)
+last-runtime t s a from h =
+    let both = and-both (is_runtime_array t && (is_none s && is_align_valid a (align_of t))) (is_some (offset_after from (extent_in t s a))) h in
+    ((and-both (is_runtime_array t) (is_none s && is_align_valid a (align_of t)) both.0).0, both.1)
+
 -- where what is in front has no known end, so has what follows
 open-known : (fs : Fields) → end_in_runtime_array None fs ≡ true → ⊥
 open-known no_fields h = false≢true h
 open-known (field name t s a no_fields) h =
-    let one = and-both (is_runtime_array t) (is_none s && (is_align_valid a (align_of t) && is_some (offset_after None (extent_in t s a)))) h in
-    let two = and-both (is_none s) (is_align_valid a (align_of t) && is_some (offset_after None (extent_in t s a))) one.1 in
-    let three = and-both (is_align_valid a (align_of t)) (is_some (offset_after None (extent_in t s a))) two.1 in
-    false≢true (ap (λ (o : Option ℕ). is_some o) (sym (offset-none (extent_in t s a))) ∙ three.1)
+    false≢true (ap (λ (o : Option ℕ). is_some o) (sym (offset-none (extent_in t s a))) ∙ (last-runtime t s a None h).1)
 open-known (field name t s a (field m u z b fs)) h =
-    let both = and-both (has_fixed_layout t && (is_size_valid s (size_of t) && is_align_valid a (align_of t))) (end_in_runtime_array (end_after None (extent_in t s a)) (field m u z b fs)) h in
+    let both = and-both (has_fixed_layout t && are_attributes_valid t s a) (end_in_runtime_array (end_after None (extent_in t s a)) (field m u z b fs)) h in
     open-known (field m u z b fs) (ap (λ (o : Option ℕ). end_in_runtime_array o (field m u z b fs)) (sym (end-none (extent_in t s a))) ∙ both.1)
 
 open-from : (o : Option ℕ) (fs : Fields) → end_in_runtime_array o fs ≡ true → (x : ℕ) × (o ≡ Some x)
@@ -288,14 +292,12 @@ open-tidy : (fs : Fields) (n from : ℕ) (found : Option Tail) → end_in_runtim
 unfolding Ends
 open-tidy no_fields n from found h = absurd (false≢true h)
 open-tidy (field name t s a no_fields) n from found h =
-    let one = and-both (is_runtime_array t) (is_none s && (is_align_valid a (align_of t) && is_some (offset_after (Some from) (extent_in t s a)))) h in
-    let two = and-both (is_none s) (is_align_valid a (align_of t) && is_some (offset_after (Some from) (extent_in t s a))) one.1 in
-    let three = and-both (is_align_valid a (align_of t)) (is_some (offset_after (Some from) (extent_in t s a))) two.1 in
-    let o = some-of (offset_after (Some from) (extent_in t s a)) three.1 in
+    let one = last-runtime t s a (Some from) h in
+    let o = some-of (offset_after (Some from) (extent_in t s a)) one.1 in
     last-open t n from o.0 (offset_after (Some from) (extent_in t s a)) one.0 o.1 (offset-known from (extent_in t s a) o.0 o.1)
 open-tidy (field name t s a (field m u z b fs)) n from found h =
-    let both = and-both (has_fixed_layout t && (is_size_valid s (size_of t) && is_align_valid a (align_of t))) (end_in_runtime_array (end_after (Some from) (extent_in t s a)) (field m u z b fs)) h in
-    let fixed = and-both (has_fixed_layout t) (is_size_valid s (size_of t) && is_align_valid a (align_of t)) both.0 in
+    let both = and-both (has_fixed_layout t && are_attributes_valid t s a) (end_in_runtime_array (end_after (Some from) (extent_in t s a)) (field m u z b fs)) h in
+    let fixed = and-both (has_fixed_layout t) (are_attributes_valid t s a) both.0 in
     let valid = and-both (is_size_valid s (size_of t)) (is_align_valid a (align_of t)) fixed.1 in
     let is = fixed-tidy t n fixed.0 in
     let x = open-from (end_after (Some from) (extent_in t s a)) (field m u z b fs) both.1 in
