@@ -147,22 +147,28 @@ abbrev pub tail_of : Ty → Option Tail
 tail_of (struct name fs) = last_tail None (Some 0) fs
 tail_of t = tail_at 0 t
 
--- how many bytes a value of a type takes that has a layout, with n elements in that array
-abbrev pub layout_len : ℕ → Ty → ℕ
-layout_len n t = elim (tail_of t) [ None ↦ size t | Some r ↦ r.start + n * stride r.element ]
+-- a size that is known of the type alone, else up to the end of n elements of that array
+abbrev pub length_with : ℕ → ℕ → Option Tail → ℕ
+length_with n size None = size
+length_with n size (Some r) = r.start + n * stride r.element
 
--- how many elements that array has in so many bytes: as many as find room, one at least; none where the
--- bytes are too few for a value of the type. 0 where there is no such array
+-- how many bytes a value takes of a type that has a layout, with n elements in that array
+abbrev pub layout_len : ℕ → Ty → ℕ
+layout_len n t = length_with n (size t) (tail_of t)
+
 abbrev pub at_least_one : ℕ → Option ℕ
 at_least_one zero = None
 at_least_one (suc n) = Some (suc n)
 
+-- as many elements as find room in so many bytes, one at least
+abbrev pub count_with : ℕ → ℕ → Option Tail → Option ℕ
+count_with len size None = if nat_le size len then Some 0 else None
+count_with len size (Some r) = if nat_le r.start len then at_least_one ((len - r.start) / stride r.element) else None
+
+-- how many elements that array has in so many bytes, 0 where there is no such array; none where the bytes are
+-- too few for a value of the type
 abbrev pub count_in : ℕ → Ty → Option ℕ
-count_in len t =
-    elim (tail_of t) [
-      | None ↦ if nat_le (size t) len then Some 0 else None
-      | Some r ↦ if nat_le r.start len then at_least_one ((len - r.start) / stride r.element) else None
-    ]
+count_in len t = count_with len (size t) (tail_of t)
 
 -- ---- the layout of a type
 

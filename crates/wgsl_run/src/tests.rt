@@ -6,6 +6,7 @@ mod grammar;
 mod growth;
 mod limits;
 mod rows;
+mod sizes;
 
 use crate::{RunFault, run_script};
 use std::alloc::Global;

@@ -24,11 +24,12 @@ LeavesAreInOrder = (t : Ty) (n : ℕ) → HasLayout t → AreInOrder 0 (leaves (
 abbrev pub AFixedLayoutHasTheSize : Type 0
 AFixedLayoutHasTheSize = (t : Ty) (n : ℕ) → IsTrue (has_fixed_layout t) → (size_of t ≡ Some (layout_len n t)) × (length_in (layout n t) ≡ layout_len n t)
 
--- the part x at the path p of v: its range has its layout and its bytes, which are its own buffer
+-- the part x at the path p of v: its range has its layout, its length and its bytes, which are its own buffer
 pub record IsPartAt (v : Val) (p : List ℕ) (x : Val) : Type 0 where
   pub range_of : Range
   pub there : range (runtime_count v) (type_of v) p ≡ Some range_of
   pub its_layout : range_of.layout ≡ layout_of x
+  pub its_length : length_in range_of.layout ≡ length (buffer x)
   pub inside : range_of.start + length (buffer x) ≤ length (buffer v)
   pub its_bytes : bytes_in (buffer v) range_of ≡ buffer x
 
@@ -42,6 +43,10 @@ ViewsLeadToRanges = (steps : List Step) (v : Val) → IsStorable v → HasLayout
     → IfOk (path_of steps v) (λ p. view_range steps (layout_of v) ≡ range (runtime_count v) (type_of v) p)
 
 -- ---- buffers
+
+-- a buffer has the length of the layout, with as many elements as the value has
+abbrev pub ABufferHasTheLength : Type 0
+ABufferHasTheLength = (v : Val) → HasLayout (type_of v) → length (buffer v) ≡ layout_len (runtime_count v) (type_of v)
 
 -- `decode` gives what reading answers
 abbrev pub DecodingIsReading : Type 0
@@ -67,7 +72,14 @@ AReadValueHasTheBytes = (b : List ℕ) (t : Ty) (v : Val) → AreBytes b → dec
 abbrev pub BuffersTellValuesApart : Type 0
 BuffersTellValuesApart = (v w : Val) → IsStorable v → IsStorable w → HasLayout (type_of v) → type_of w ≡ type_of v → buffer w ≡ buffer v → w ≡ v
 
--- what is put at a path overwrites the range of the part
+-- w, put at the path p of v, overwrites the bytes of the range there, and no other byte of the buffer
+pub record IsPutAt (v : Val) (p : List ℕ) (w : Val) : Type 0 where
+  pub range_of : Range
+  pub there : range (runtime_count v) (type_of v) p ≡ Some range_of
+  pub its_length : length_in range_of.layout ≡ length (buffer w)
+  pub inside : range_of.start + length (buffer w) ≤ length (buffer v)
+  pub its_bytes : buffer (put_tree p w v) ≡ overwritten (buffer v) range_of.start (buffer w)
+
+-- what is put into the place of a part that it fits overwrites the range of that part
 abbrev pub APutOverwritesItsRange : Type 0
-APutOverwritesItsRange = (v w x : Val) (p : List ℕ) → IsStorable v → HasLayout (type_of v) → IsStorable w → value_at p v ≡ Some x → FitsPlace w x
-    → MatchOption (range (runtime_count v) (type_of v) p) ⊥ (λ r. buffer (put_tree p w v) ≡ overwritten (buffer v) r.start (buffer w))
+APutOverwritesItsRange = (v w x : Val) (p : List ℕ) → IsStorable v → HasLayout (type_of v) → IsStorable w → value_at p v ≡ Some x → FitsPlace w x → IsPutAt v p w

@@ -5,6 +5,7 @@ ghost use Rattle.wgsl_store.specs.Laws.{
   AFixedLayoutHasTheSize,
   PathsAndBytesCompose,
   ViewsLeadToRanges,
+  ABufferHasTheLength,
   DecodingIsReading,
   ABufferReadsBack,
   AReadValueHasTheBytes,
@@ -31,6 +32,11 @@ pub fn paths_and_bytes_compose()
 /// A law: a view that leads to a part of a value leads to the range of that part in the layout of its type.
 pub fn views_lead_to_ranges()
     ensures { ViewsLeadToRanges }
+{}
+
+/// A law: a buffer has the length of the layout of its value.
+pub fn a_buffer_has_the_length()
+    ensures { ABufferHasTheLength }
 {}
 
 /// A law: decoding bytes gives the one value of the type that they lay out, and none where they lay out

@@ -47,6 +47,7 @@ compose v x p s h e =
         range_of = r;
         there = leads.there;
         its_layout = leads.own.0;
+        its_length = same_length ∙ sym own_length;
         inside = omega (arith, at_path.inside, own_length, whole_length, same_length);
         its_bytes = bytes-of-part (number_at v) p l r is.0 leads.there ∙ ap (λ (f : List ℕ → ℤ). bytes_with f r.layout) (numbers-below p v x e) ∙ ap (λ (k : Layout). bytes_with (number_at x) k) leads.own.0;
       },

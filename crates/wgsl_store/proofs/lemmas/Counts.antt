@@ -1,5 +1,5 @@
 -- How many elements a buffer has room for: as many as its value has.
-use Rattle.std.proofs.Common.{◌≡◌, ℕ, zero, suc, ◌+◌, ◌-◌, ◌*◌, ◌/◌, ◌<◌, ◌≤◌, Option, Some, None, is_some, is_none, Bool, true, false, refl, sym, ap, ◌∙◌, arith}
+use Rattle.std.proofs.Common.{◌≡◌, ℕ, zero, suc, ◌+◌, ◌-◌, ◌*◌, ◌/◌, ◌<◌, ◌≤◌, Option, Some, None, is_some, Bool, true, false, refl, sym, ap, ◌∙◌, arith}
 use Rattle.std.specs.Prelude.{nat_le, ◌&&◌, ◌||◌, MatchOption, ⊤, if◌then◌else◌}
 use Rattle.std.proofs.lemmas.Bool.{false≢true}
 use Rattle.std.proofs.lemmas.Bool.Decides.{nat_tests}
@@ -8,8 +8,8 @@ use Rattle.wgsl_rules.specs.Kinds as kinds
 use Rattle.wgsl_rules.specs.Kinds.{Kind, bytes_of}
 use Rattle.wgsl_rules.specs.Types.{Ty, struct, array, vec, Fields, no_fields, field}
 use Rattle.wgsl_rules.specs.Values.{Val, truth, number, record_of, array_of, vector, matrix, atomic_of, pointer, reference, deferred, Vals, no_vals, val, count, type_of, type_of_kind, first_type, matrix_type, HaveTypes, IsStorable, AreStorable}
-use Rattle.wgsl_rules.specs.Size.{size_of, align_of, offset_after, end_after, extent_in}
-use Rattle.wgsl_rules.specs.Layout.{size, stride, amount, is_size_valid, is_align_valid, has_fixed_layout, have_fixed_layouts, is_runtime_array, end_in_runtime_array, has_runtime_layout, has_layout, Tail, tail_at, tail_of, last_tail, layout_len, at_least_one, count_in, elements, last_elements, runtime_count, are_attributes_valid}
+use Rattle.wgsl_rules.specs.Size.{size_of, offset_after, end_after, extent_in}
+use Rattle.wgsl_rules.specs.Layout.{size, stride, amount, has_fixed_layout, have_fixed_layouts, is_runtime_array, end_in_runtime_array, has_runtime_layout, has_layout, Tail, tail_at, tail_of, last_tail, layout_len, at_least_one, count_in, elements, last_elements, runtime_count, are_attributes_valid, count_with, length_with}
 use Rattle.wgsl_store.proofs.lemmas.Known.{and-both}
 use Rattle.wgsl_store.proofs.lemmas.Tidy.{fixed-length, length-fixed, last-runtime}
 
@@ -140,14 +140,14 @@ counted-in v m len s h e few = by (has_fixed_layout (type_of v)) refl h
         let is = length-fixed n t none in
         let enough : nat_le (size t) len ≡ true = let le : size t ≤ len = omega arith in grind (arith, nat_tests) in
         let zero_count = count-fixed v s f in
-        ap (λ (o : Option Tail). elim o [ None ↦ if nat_le (size t) len then Some 0 else None | Some r ↦ if nat_le r.start len then at_least_one ((len - r.start) / stride r.element) else None ]) none
+        ap (count_with len (size t)) none
         ∙ ap (λ (b : Bool). if b then Some 0 else None) enough ∙ ap Some (sym zero_count)
 
     runtime : has_runtime_layout t ≡ true → (o : Option Tail) → tail_of t ≡ o → MatchOption o ⊤ (λ r. m < stride r.element) → count_in len t ≡ Some n
     runtime g None is few = absurd (false≢true (ap (λ (o : Option Tail). is_some o) (sym is) ∙ tail-there t g))
     runtime g (Some r) is few =
-        let l : layout_len n t ≡ r.start + n * stride r.element = ap (λ (o : Option Tail). elim o [ None ↦ size t | Some r ↦ r.start + n * stride r.element ]) is in
-        ap (λ (o : Option Tail). elim o [ None ↦ if nat_le (size t) len then Some 0 else None | Some r ↦ if nat_le r.start len then at_least_one ((len - r.start) / stride r.element) else None ]) is
+        let l : layout_len n t ≡ r.start + n * stride r.element = ap (length_with n (size t)) is in
+        ap (count_with len (size t)) is
         ∙ room len n m r (omega arith) few (count-some v s g)
 
     by : (b : Bool) → has_fixed_layout t ≡ b → (b || has_runtime_layout t) ≡ true → count_in len t ≡ Some n

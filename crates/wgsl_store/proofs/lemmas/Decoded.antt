@@ -1,5 +1,5 @@
 -- What is decoded may be stored, is of the type, and is laid out in the bytes: decoding is reading.
-use Rattle.std.proofs.Common.{◌≡◌, ℕ, zero, suc, ◌+◌, ◌-◌, ◌/◌, ◌≤◌, ℤ, pos, List, [], ◌∷◌, ◌++◌, map, length, Option, Some, None, is_some, is_none, option_map, option_and_then, Bool, true, false, if◌then◌else◌, refl, sym, ap, ◌∙◌, subst, arith}
+use Rattle.std.proofs.Common.{◌≡◌, ℕ, zero, suc, ◌+◌, ◌-◌, ◌/◌, ◌≤◌, ℤ, pos, List, [], ◌∷◌, ◌++◌, map, length, Option, Some, None, is_some, option_map, option_and_then, Bool, true, false, if◌then◌else◌, refl, sym, ap, ◌∙◌, subst, arith}
 use Rattle.std.specs.Prelude.{nat_le, ◌&&◌, ◌||◌}
 use Rattle.std.proofs.lemmas.Bool.{false≢true}
 use Rattle.std.proofs.lemmas.Bool.Decides.{nat_tests}
@@ -10,8 +10,8 @@ use Rattle.wgsl_rules.specs.Types as types
 use Rattle.wgsl_rules.specs.Types.{Ty, struct, array, vec, mat, atomic, Fields, no_fields, field}
 use Rattle.wgsl_rules.specs.Values.{Val, array_of, Vals, no_vals, val, count, item, type_of, first_type, matrix_type, array_type, AllOfType, HaveTypes, AreLiterals, AreVectors, IsStorable, AreStorable}
 use Rattle.wgsl_rules.specs.Paths.{parts, value_at}
-use Rattle.wgsl_rules.specs.Size.{size_of, align_of, offset_after, end_after, extent_in}
-use Rattle.wgsl_rules.specs.Layout.{size, align, stride, amount, scalar_kind, is_from_2_to_4, is_size_valid, is_align_valid, has_fixed_layout, have_fixed_layouts, is_runtime_array, end_in_runtime_array, has_runtime_layout, has_layout, known_stride, Tail, tail_of, at_least_one, count_in, layout_of, runtime_count, elements, last_elements, leaf, atomic_kind, Leaf, under, leaves, part_leaves, Layout, scalar, composite, Parts, no_parts, part, repeated, layout, member_parts, are_attributes_valid}
+use Rattle.wgsl_rules.specs.Size.{size_of, offset_after, end_after, extent_in}
+use Rattle.wgsl_rules.specs.Layout.{size, align, stride, amount, scalar_kind, is_from_2_to_4, has_fixed_layout, have_fixed_layouts, is_runtime_array, end_in_runtime_array, has_runtime_layout, has_layout, known_stride, Tail, tail_of, at_least_one, count_in, layout_of, runtime_count, elements, last_elements, leaf, atomic_kind, Leaf, under, leaves, part_leaves, Layout, scalar, composite, Parts, no_parts, part, repeated, layout, member_parts, are_attributes_valid, count_with}
 use Rattle.wgsl_store.specs.Buffers.{number_from, number_of, number_at, Reads, Lays, IsReadOf, decode, read_number, made_of_parts, decoded, decoded_parts}
 use Rattle.wgsl_store.specs.Laws.{DecodingIsReading}
 use Rattle.wgsl_store.proofs.lemmas.Known.{and-both, some-of}
@@ -297,13 +297,13 @@ counted-good b t n h e = by (has_fixed_layout t) refl h
     by : (c : Bool) → has_fixed_layout t ≡ c → (c || has_runtime_layout t) ≡ true → IsCounted t n (decoded b 0 (layout n t)) × IsShaped (layout n t)
     by true f h =
         let good = fixed-good t n 0 b f in
-        let zero_n = none (length b) (ap (λ (o : Option Tail). elim o [ None ↦ if nat_le (size t) (length b) then Some 0 else None | Some r ↦ if nat_le r.start (length b) then at_least_one ((length b - r.start) / stride r.element) else None ]) (sym (fixed-length t n f)) ∙ e) in
+        let zero_n = none (length b) (ap (count_with (length b) (size t)) (sym (fixed-length t n f)) ∙ e) in
         ((good, count-fixed (decoded b 0 (layout n t)) good.0 (ap has_fixed_layout good.1 ∙ f) ∙ zero_n), fixed-shaped t n f)
     by false f h = (runtime-good t n 0 b h (tails (tail_of t) refl), runtime-shaped t n h)
       where
         tails : (o : Option Tail) → tail_of t ≡ o → 1 ≤ n
         tails None is = absurd (false≢true (ap (λ (o : Option Tail). is_some o) (sym is) ∙ tail-there t h))
-        tails (Some r) is = some r (length b) (ap (λ (o : Option Tail). elim o [ None ↦ if nat_le (size t) (length b) then Some 0 else None | Some r ↦ if nat_le r.start (length b) then at_least_one ((length b - r.start) / stride r.element) else None ]) (sym is) ∙ e)
+        tails (Some r) is = some r (length b) (ap (count_with (length b) (size t)) (sym is) ∙ e)
 
 pub decoded-lays : (b : List ℕ) (t : Ty) (n : ℕ) → has_layout t ≡ true → count_in (length b) t ≡ Some n → Lays b t (decoded b 0 (layout n t))
 decoded-lays b t n h e =

@@ -1,5 +1,5 @@
 -- A value follows the layout of its type: its parts are those that the layout places.
-use Rattle.std.proofs.Common.{◌≡◌, ℕ, zero, suc, ◌+◌, ◌≤◌, ℤ, List, [], ◌∷◌, Option, Some, None, is_some, is_none, option_map, option_and_then, Bool, true, false, refl, sym, ap, ◌∙◌, subst, arith}
+use Rattle.std.proofs.Common.{◌≡◌, ℕ, zero, suc, ◌+◌, ◌≤◌, ℤ, List, [], ◌∷◌, Option, Some, None, is_some, option_map, option_and_then, Bool, true, false, refl, sym, ap, ◌∙◌, subst, arith}
 use Rattle.std.specs.Prelude.{nat_le, ◌&&◌, ◌||◌}
 use Rattle.std.proofs.lemmas.Bool.{false≢true}
 use Rattle.wgsl_rules.specs.Kinds as kinds
@@ -9,8 +9,8 @@ use Rattle.wgsl_rules.specs.Types.{Ty, struct, array, vec, mat, atomic, Fields, 
 use Rattle.wgsl_rules.specs.Values as values
 use Rattle.wgsl_rules.specs.Values.{Val, truth, number, record_of, array_of, vector, matrix, atomic_of, pointer, reference, deferred, Vals, no_vals, val, count, item, type_of, first_type, matrix_type, AllOfType, HaveTypes, AreVectors, IsStorable, AreStorable}
 use Rattle.wgsl_rules.specs.Paths.{parts, value_at}
-use Rattle.wgsl_rules.specs.Size.{size_of, align_of, end_after, offset_after, extent_in}
-use Rattle.wgsl_rules.specs.Layout.{size, align, stride, known_stride, scalar_kind, is_from_2_to_4, is_size_valid, is_align_valid, has_fixed_layout, have_fixed_layouts, is_runtime_array, end_in_runtime_array, has_runtime_layout, has_layout, amount, layout_len, Layout, scalar, composite, Parts, no_parts, part, repeated, layout, member_parts, layout_of, runtime_count, elements, last_elements, are_attributes_valid}
+use Rattle.wgsl_rules.specs.Size.{size_of, end_after, offset_after, extent_in}
+use Rattle.wgsl_rules.specs.Layout.{size, align, stride, known_stride, scalar_kind, is_from_2_to_4, has_fixed_layout, have_fixed_layouts, is_runtime_array, end_in_runtime_array, has_runtime_layout, has_layout, amount, layout_len, Layout, scalar, composite, Parts, no_parts, part, repeated, layout, member_parts, layout_of, runtime_count, elements, last_elements, are_attributes_valid}
 use Rattle.wgsl_store.specs.Buffers.{made_of_number, made_of_parts}
 use Rattle.wgsl_store.specs.Ranges.{Range, further, part_at, parts_in, range_in}
 use Rattle.wgsl_store.proofs.lemmas.Known.{and-both}

@@ -8,7 +8,7 @@ use Rattle.wgsl_rules.specs.Kinds as kinds
 use Rattle.wgsl_rules.specs.Kinds.{Kind, bytes_of}
 use Rattle.wgsl_rules.specs.Types.{Ty, i32, u32, i64, u64, struct, array, vec, mat, atomic, Fields, no_fields, field}
 use Rattle.wgsl_rules.specs.Size.{size_of, align_of, with_both, sum_of, times, vec3_align, round_up, extents, Extent, offset_after, end_after, end_of_members, struct_align, extent_in}
-use Rattle.wgsl_rules.specs.Layout.{amount, size, align, known_stride, stride, Tail, scalar_kind, atomic_kind, is_from_2_to_4, is_size_valid, is_align_valid, has_fixed_layout, have_fixed_layouts, is_runtime_array, end_in_runtime_array, has_runtime_layout, has_layout, tail_at, last_tail, tail_of, layout_len, Layout, scalar, Parts, no_parts, part, length_in, repeated, leaf, layout, member_parts, are_attributes_valid}
+use Rattle.wgsl_rules.specs.Layout.{amount, size, align, known_stride, stride, Tail, scalar_kind, atomic_kind, is_from_2_to_4, is_size_valid, is_align_valid, has_fixed_layout, have_fixed_layouts, is_runtime_array, end_in_runtime_array, has_runtime_layout, has_layout, tail_at, last_tail, tail_of, layout_len, Layout, scalar, Parts, no_parts, part, length_in, repeated, leaf, layout, member_parts, are_attributes_valid, length_with}
 use Rattle.wgsl_store.proofs.lemmas.Known.{and-both, some-of, fits, both-known, times-known, rounded-known, stride-known, offset-known, end-known, ends-known}
 use Rattle.wgsl_store.proofs.lemmas.Ranges.{IsTidy, AreTidy}
 
@@ -149,7 +149,7 @@ no-tail (field name t s a fs) from h =
     no-array t o h = refl
 
 pub length-fixed : (n : ℕ) (t : Ty) → tail_of t ≡ None → layout_len n t ≡ size t
-length-fixed n t e = ap (λ (o : Option Tail). elim o [ None ↦ size t | Some r ↦ r.start + n * stride r.element ]) e
+length-fixed n t e = ap (length_with n (size t)) e
 
 array-tidy : (n k : ℕ) (t : Ty) → Is (layout n t) (size_of t) → is_some (size_of (array t (Some k))) ≡ true → Is (layout n (array t (Some k))) (size_of (array t (Some k)))
 array-tidy n k t is h =
@@ -327,7 +327,7 @@ struct-open : (n : ℕ) (name : List ℕ) (fs : Fields) (found : Option Tail) �
 unfolding Ends
 struct-open n name fs None e h = absurd h
 struct-open n name fs (Some r) e h =
-    let len : layout_len n (struct name fs) ≡ r.start + n * stride r.element = ap (λ (o : Option Tail). elim o [ None ↦ size (struct name fs) | Some r ↦ r.start + n * stride r.element ]) e in
+    let len : layout_len n (struct name fs) ≡ r.start + n * stride r.element = ap (length_with n (size (struct name fs))) e in
     (subst (λ (to : ℕ). AreTidy 0 (member_parts n (Some 0) fs) to) (sym len) h, refl)
 
 runtime-tidy : (t : Ty) (n : ℕ) → has_runtime_layout t ≡ true → Tidy n t
