@@ -134,7 +134,7 @@ held-below : (p : List ℕ) (w : Val) (o : Option Val) → ((x : Val) → is_som
 held-below p w None f h = absurd (false≢true h)
 held-below p w (Some x) f h = f x h
 
-put-held : (p : List ℕ) (w v : Val) → is_some (value_at p v) ≡ true → value_at p (put_tree p w v) ≡ Some w
+pub put-held : (p : List ℕ) (w v : Val) → is_some (value_at p v) ≡ true → value_at p (put_tree p w v) ≡ Some w
 put-held [] w v h = refl
 put-held (i ∷ p) w v h =
     ap (λ (vs : Vals). option_and_then (value_at p) (item i vs)) (parts-replaced i (put_tree p w) v)
@@ -156,7 +156,7 @@ begins-on i j p q e b = (b.0, ap (λ k. k ∷ (p ++ b.0)) e ∙ ap (λ r. j ∷ 
 apart-on : (i j : ℕ) (p q : List ℕ) → Apart (i ∷ p) (j ∷ q) → i ≡ j → Apart p q
 apart-on i j p q h e = (λ b. h.0 (begins-on i j p q e b), λ b. h.1 (begins-on j i q p (sym e) b))
 
-put-apart : (p q : List ℕ) (w v : Val) → Apart p q → value_at q (put_tree p w v) ≡ value_at q v
+pub put-apart : (p q : List ℕ) (w v : Val) → Apart p q → value_at q (put_tree p w v) ≡ value_at q v
 put-apart [] q w v h = absurd (h.0 (q, refl))
 put-apart (i ∷ p) [] w v h = absurd (h.1 (i ∷ p, refl))
 put-apart (i ∷ p) (j ∷ q) w v h =

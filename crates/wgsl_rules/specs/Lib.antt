@@ -1,10 +1,7 @@
 pub mod Access
-pub mod Buffers
-pub mod Bytes
 pub mod Codes
 pub mod Conversion
 pub mod Equal
-pub mod Flat
 pub mod Kinds
 pub mod Laws
 pub mod Layout

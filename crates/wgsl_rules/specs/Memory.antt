@@ -4,10 +4,9 @@ use Rattle.std.specs.Prelude.{◌≡◌, ℕ, zero, suc, List, [], ◌∷◌, �
 use Rattle.wgsl_rules.specs.Access.{can_read, can_write}
 use Rattle.wgsl_rules.specs.Types.{Ty}
 use Rattle.wgsl_rules.specs.Values as values
-use Rattle.wgsl_rules.specs.Values.{Step, Reference, Val, type_of, IsStorable}
+use Rattle.wgsl_rules.specs.Values.{Step, Reference, Val, type_of}
 use Rattle.wgsl_rules.specs.Refusals.{Refusal, not_read, not_write, write_ref_type, Outcome, and_then}
 use Rattle.wgsl_rules.specs.Paths.{or_refused, viewed, put_viewed, fits}
-use Rattle.wgsl_rules.specs.Layout.{HasLayout}
 use Rattle.wgsl_rules.specs.declared.syntax.AddressSpace.{AddressSpace}
 use Rattle.wgsl_rules.specs.declared.syntax.AccessMode.{AccessMode}
 
@@ -22,15 +21,6 @@ held cells r = held_at cells r.cell r.view
 -- the cell of the reference is there, and its view leads to a value of its type
 abbrev pub IsKept : List Val → Reference → Type 0
 IsKept cells r = IsOkAnd (held cells r) (λ v. type_of v ≡ r.ty)
-
--- what a cell may hold so far: a storable value of a type that has a layout
-abbrev pub IsCell : Val → Type 0
-IsCell v = IsStorable v × HasLayout (type_of v)
-
--- each cell holds such a value
-abbrev pub IsSound : List Val → Type 0
-IsSound [] = Unit {0}
-IsSound (v ∷ vs) = IsCell v × IsSound vs
 
 abbrev pub AllKept : List Val → List Reference → Type 0
 AllKept cells [] = Unit {0}

@@ -6,6 +6,8 @@ mod conv;
 mod display;
 mod eq;
 pub mod laws;
+mod layout;
+mod measures;
 mod number;
 mod parts;
 mod size;

@@ -1,198 +1,87 @@
-//! Sizes and alignments, in bytes (WGSL: alignment and size).
+//! Sizes and alignments, in bytes (WGSL: alignment and size; structure member layout).
 
-ghost use Rattle.std.specs.Prelude.{◌≡◌, Some, None};
-ghost use Rattle.wgsl_rules.specs.Size.{
-  size_of,
-  align_of,
-  extent,
-  extents,
-  extent_of,
-  is_component_count,
-  is_word,
-  vec_size,
-  vec_align,
-  struct_size,
-  struct_align,
-  greatest_align,
-  end_of_members,
-  end_after,
-  align_after,
-  offset_after,
-};
-ghost use Rattle.wgsl_rules.specs.View.{type_view, struct_view, member_view, members_view};
+ghost use Rattle.std.specs.Prelude.{◌≡◌};
+ghost use Rattle.wgsl_rules.specs.Size.{size_of, align_of, min_size_of, vec3_align, vec_align};
+ghost use Rattle.wgsl_rules.specs.View.{type_view, struct_view};
 
-use crate::number::{rounded, rounded_if_known, sum};
-use crate::ty::{StructMemberType, StructType, Type};
-
-/// How many bytes a member takes, and to what its place is rounded up.
-#[derive(Clone, Copy, Debug, PartialEq, Eq)]
-pub(crate) struct Extent {
-    pub(crate) size: Option<u32>,
-    pub(crate) align: Option<u32>,
-}
-
-const UNKNOWN: Extent = Extent {
-    size: None,
-    align: None,
-};
-
-fn is_component_count(n: u8) -> bool
-    ensures { result ≡ is_component_count n }
-{
-    2 <= n && n <= 4
-}
-
-fn offset_after(from: Option<u32>, member: Extent) -> Option<u32>
-    ensures { result ≡ offset_after from member }
-{
-    rounded(member.align?, from?)
-}
-
-fn end_after(from: Option<u32>, member: Extent) -> Option<u32>
-    ensures { result ≡ end_after from member }
-{
-    sum(offset_after(from, member)?, member.size?)
-}
-
-fn align_after(from: Option<u32>, member: Extent) -> Option<u32>
-    ensures { result ≡ align_after from member }
-{
-    Some(from?.max(member.align?))
-}
+use crate::number::times;
+use crate::ty::{StructType, Type};
 
 impl Type {
     /// How many bytes a value of the type takes; `None` where the type has no known size, or where
-    /// the size, or the place of a part, passes 4294967295.
+    /// a size, or the place of a part, passes 4294967295 (WGSL: alignment and size).
     ///
-    /// Known are `u32`, vectors of 2 to 4 `u32`, and structures without attributes of these
-    /// (WGSL: alignment and size).
+    /// A type may have a size and no layout: [`Type::has_layout`].
     pub fn size_of(&self) -> Option<u32>
         ensures { result ≡ size_of (type_view self.now) }
     {
-        self.extent().size
+        self.measures().size
     }
 
     /// The number that the address of a value of the type is a multiple of, in bytes; `None` where
-    /// it is not known. Known for the types of [`Type::size_of`], those among them that are too
-    /// large included (WGSL: alignment and size).
+    /// it is not known (WGSL: alignment and size). 0 of a structure without members.
     pub fn align_of(&self) -> Option<u32>
         ensures { result ≡ align_of (type_view self.now) }
     {
-        self.extent().align
+        self.measures().align
     }
 
-    // Size and alignment in one go down the type: each of them alone needs both of its parts.
-    #[cycle(sizes)]
-    fn extent(&self) -> Extent
-        ensures { result ≡ record { size = size_of (type_view self.now); align = align_of (type_view self.now) } }
+    /// As [`Type::size_of`]; of a runtime-sized array, how many bytes it takes with one element
+    /// (WGSL: minimum buffer binding size).
+    pub fn min_size_of(&self) -> Option<u32>
+        ensures { result ≡ min_size_of (type_view self.now) }
     {
         match self {
-            Type::U32 => Extent {
-                size: Some(4),
-                align: Some(4),
-            },
-            Type::Vec(n, ty) => Extent {
-                size: ty.vec_size(*n),
-                align: ty.vec_align(*n),
-            },
-            Type::Struct(ty) => ty.extent(),
-            Type::Bool | Type::AbstractInt | Type::AbstractFloat | Type::I32 => UNKNOWN,
-            Type::F32 | Type::F16 | Type::I64 | Type::U64 | Type::F64 => UNKNOWN,
-            Type::Array(_, _) | Type::Mat(_, _, _) | Type::Atomic(_) => UNKNOWN,
-            Type::Ptr(_, _, _) | Type::Ref(_, _, _) => UNKNOWN,
-            Type::Texture(_) | Type::Sampler(_) => UNKNOWN,
+            Type::Array(element, n) => {
+                let stride = element.measures().stride();
+                match n {
+                    Some(n) => times(*n, stride),
+                    None => stride,
+                }
+            }
+            _ => self.size_of(),
         }
     }
 
-    fn is_word(&self) -> bool
-        ensures { result ≡ is_word (type_view self.now) }
+    /// The alignment of a vector of n components of this type, which has this size.
+    pub(crate) fn vec_align(&self, n: u8, size: Option<u32>) -> Option<u32>
+        ensures { result ≡ vec_align n (type_view self.now) size }
     {
-        matches!(self, Type::U32)
-    }
-
-    // The size of a vector of n components of this type.
-    fn vec_size(&self, n: u8) -> Option<u32>
-        ensures { result ≡ vec_size n (type_view self.now) }
-    {
-        if is_component_count(n) && self.is_word() {
-            Some(u32::from(n) * 4)
+        if n == 3 {
+            self.vec3_align()
         } else {
-            None
+            times(usize::from(n), size)
         }
     }
 
-    // The alignment of a vector of n components of this type.
-    fn vec_align(&self, n: u8) -> Option<u32>
-        ensures { result ≡ vec_align n (type_view self.now) }
+    fn vec3_align(&self) -> Option<u32>
+        ensures { result ≡ vec3_align (type_view self.now) }
     {
-        if is_component_count(n) && self.is_word() {
-            Some(if n == 3 { 16 } else { u32::from(n) * 4 })
-        } else {
-            None
+        match self {
+            Type::I32 | Type::U32 | Type::F32 => Some(16),
+            Type::F16 => Some(8),
+            Type::Bool | Type::AbstractInt | Type::AbstractFloat => None,
+            Type::I64 | Type::U64 | Type::F64 => None,
+            Type::Struct(_) | Type::Array(_, _) | Type::Vec(_, _) | Type::Mat(_, _, _) => None,
+            Type::Atomic(_) | Type::Ptr(_, _, _) | Type::Ref(_, _, _) => None,
+            Type::Texture(_) | Type::Sampler(_) => None,
         }
     }
 }
 
 impl StructType {
     /// As [`Type::size_of`] of the structure: the end of the last member, rounded up to the
-    /// alignment. `None` without members (WGSL: structure member layout).
+    /// alignment (WGSL: structure member layout). `None` without members.
     pub fn size_of(&self) -> Option<u32>
         ensures { result ≡ size_of (struct_view self.now) }
     {
-        self.extent().size
+        self.measures().size
     }
 
-    /// As [`Type::align_of`] of the structure: the greatest alignment of a member. `None` without
-    /// members (WGSL: structure member layout).
+    /// As [`Type::align_of`] of the structure: the greatest alignment of a member. 0 without members.
     pub fn align_of(&self) -> Option<u32>
         ensures { result ≡ align_of (struct_view self.now) }
     {
-        self.extent().align
-    }
-
-    #[cycle(sizes)]
-    fn extent(&self) -> Extent
-        ensures { result ≡ record { size = size_of (struct_view self.now); align = align_of (struct_view self.now) } }
-    {
-        match self.members.as_slice() {
-            [] => UNKNOWN,
-            members => {
-                let (end, align) = members_extent(members);
-                Extent {
-                    size: rounded_if_known(align, end),
-                    align,
-                }
-            }
-        }
-    }
-}
-
-// The end of the last member, and the greatest alignment of a member.
-#[cycle(sizes)]
-fn members_extent(members: &[StructMemberType]) -> (Option<u32>, Option<u32>)
-    ensures end { result.0 ≡ end_of_members (Some 0) (extents (members_view members.now)) }
-    ensures greatest { result.1 ≡ greatest_align (Some 0) (extents (members_view members.now)) }
-{
-    let mut end = Some(0u32);
-    let mut greatest = Some(0u32);
-    for member in members {
-        let extent = member.extent();
-        end = end_after(end, extent);
-        greatest = align_after(greatest, extent);
-    }
-    (end, greatest)
-}
-
-impl StructMemberType {
-    // The size and the alignment of a member without attributes.
-    #[cycle(sizes)]
-    fn extent(&self) -> Extent
-        ensures { result ≡ extent_of (member_view self.now) }
-    {
-        if self.size.is_none() && self.align.is_none() {
-            self.ty.extent()
-        } else {
-            UNKNOWN
-        }
+        self.measures().align
     }
 }

@@ -7,8 +7,8 @@ use Rattle.wgsl_rules.specs.Kinds as kinds
 use Rattle.wgsl_rules.specs.Kinds.{Kind, wrap, bytes_of}
 use Rattle.wgsl_rules.specs.Types.{Ty, u32, struct, vec, Fields, no_fields, field}
 use Rattle.wgsl_rules.specs.Values.{Val}
-use Rattle.wgsl_rules.specs.Layout.{size, place_after, Leaf, under, repeated, leaves, member_leaves}
-use Rattle.wgsl_rules.specs.Buffers.{number_at, number_from, covers, byte_of, byte_at, buffer, Reads, Lays, is_covered, without_padding}
+use Rattle.wgsl_run.specs.Layout.{size, place_after, Leaf, under, repeated, leaves, member_leaves}
+use Rattle.wgsl_run.specs.Buffers.{number_at, number_from, covers, byte_of, byte_at, buffer, Reads, Lays, is_covered, without_padding}
 
 -- every leaf is that of a u32
 abbrev AllWords : List Leaf → Type 0

@@ -10,8 +10,8 @@ use Rattle.wgsl_rules.specs.Values as values
 use Rattle.wgsl_rules.specs.Values.{Step, member, index, Val, number, record_of, vector, array_of, matrix, Vals, no_vals, val, item, count, type_of, first_type, matrix_type, type_of_kind, IsStorable, AreStorable, AreMembers, AllOfType, AreLiterals}
 use Rattle.wgsl_rules.specs.Refusals.{Refusal, component, out_of_bounds, Outcome, and_then}
 use Rattle.wgsl_rules.specs.Paths.{parts, placed, index_in, member_named, or_refused, part_at, stepped, viewed, replace_item, with_parts, put_viewed, same_paths, all_same_paths, fits}
-use Rattle.wgsl_rules.specs.Layout.{size, place_after}
-use Rattle.wgsl_rules.specs.Memory.{IsCell}
+use Rattle.wgsl_run.specs.Layout.{size, place_after}
+use Rattle.wgsl_run.specs.Cells.{IsCell}
 use Rattle.wgsl_run.specs.Walk.{HaveEnd}
 use Rattle.wgsl_rules.proofs.Paths.{or_refused-ok, placed-both, stepped-item}
 use Rattle.wgsl_run.proofs.Steps.{then-ok, put-step}

@@ -8,8 +8,8 @@ use Rattle.wgsl_rules.specs.Types.{Ty, u32, struct, vec, Fields, no_fields, fiel
 use Rattle.wgsl_rules.specs.Values as values
 use Rattle.wgsl_rules.specs.Values.{Val, number, record_of, vector, Vals, no_vals, val, count, item, type_of, IsStorable}
 use Rattle.wgsl_rules.specs.Paths.{value_at}
-use Rattle.wgsl_rules.specs.Layout.{has_layout, HasLayout, size, place_after, under, repeated, leaves, member_leaves}
-use Rattle.wgsl_rules.specs.Buffers.{number_of, number_at, buffer, buffer_of}
+use Rattle.wgsl_run.specs.Layout.{has_layout, HasLayout, size, place_after, under, repeated, leaves, member_leaves}
+use Rattle.wgsl_run.specs.Buffers.{number_of, number_at, buffer, buffer_of}
 use Rattle.wgsl_run.specs.Walk.{encode, encode_all, encode_members, members_end, fields_end, HaveEnd}
 use Rattle.wgsl_run.proofs.Sizes.{placed, end-le, struct-known, vec-known}
 use Rattle.wgsl_run.proofs.Typed.{HasType, HaveTypes, AreWords, type_of-is, typed}

@@ -9,8 +9,8 @@ use Rattle.wgsl_rules.specs.Types.{Ty, u32, struct, vec, Fields, no_fields, fiel
 use Rattle.wgsl_rules.specs.Values as values
 use Rattle.wgsl_rules.specs.Values.{Val, number, record_of, vector, Vals, no_vals, val, count, item, type_of, first_type, AllOfType, AreLiterals, IsStorable, AreStorable}
 use Rattle.wgsl_rules.specs.Paths.{value_at}
-use Rattle.wgsl_rules.specs.Layout.{HasLayout, size, place_after, Leaf, under, repeated, leaves, member_leaves}
-use Rattle.wgsl_rules.specs.Buffers.{number_of, number_at, number_from, Reads, Lays}
+use Rattle.wgsl_run.specs.Layout.{HasLayout, size, place_after, Leaf, under, repeated, leaves, member_leaves}
+use Rattle.wgsl_run.specs.Buffers.{number_of, number_at, number_from, Reads, Lays}
 use Rattle.wgsl_run.specs.Walk.{word, words, decode, decode_members, HaveEnd}
 use Rattle.wgsl_run.proofs.Sizes.{placed, struct-known, vec-known}
 use Rattle.wgsl_run.proofs.Typed.{HasType, HaveTypes, AreWords, typed}

@@ -6,7 +6,8 @@ use Rattle.wgsl_rules.specs.Types.{Ty}
 use Rattle.wgsl_rules.specs.Values.{Step, Reference, Val, type_of, IsStorable}
 use Rattle.wgsl_rules.specs.Refusals.{not_read, not_write, write_ref_type, Outcome, and_then}
 use Rattle.wgsl_rules.specs.Paths.{stepped, viewed, put_viewed, fits}
-use Rattle.wgsl_rules.specs.Memory.{held_at, held, IsKept, IsCell, IsSound, AllKept, put_cells, written, whole_of_new, going_on, deeper}
+use Rattle.wgsl_rules.specs.Memory.{held_at, held, IsKept, AllKept, put_cells, written, whole_of_new, going_on, deeper}
+use Rattle.wgsl_run.specs.Cells.{IsCell, IsSound}
 use Rattle.wgsl_rules.specs.Access.{can_read, can_write}
 use Rattle.wgsl_rules.specs.declared.syntax.AddressSpace.{AddressSpace}
 use Rattle.wgsl_rules.specs.declared.syntax.AccessMode.{AccessMode}

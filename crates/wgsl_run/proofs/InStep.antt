@@ -13,12 +13,13 @@ use Rattle.wgsl_rules.specs.Equal.{same_is}
 use Rattle.wgsl_rules.specs.Paths.{or_refused, viewed, put_viewed, same_paths, fits}
 use Rattle.wgsl_rules.specs.declared.syntax.AddressSpace.{AddressSpace}
 use Rattle.wgsl_rules.specs.declared.syntax.AccessMode.{AccessMode}
-use Rattle.wgsl_rules.specs.Buffers.{buffer, Lays}
-use Rattle.wgsl_rules.specs.Bytes.{overwritten}
+use Rattle.wgsl_run.specs.Buffers.{buffer, Lays}
+use Rattle.wgsl_run.specs.Bytes.{overwritten}
 use Rattle.wgsl_rules.specs.Memory as memory
-use Rattle.wgsl_rules.specs.Memory.{State, Answer, value, done, no_handle, refused, held_at, held, IsKept, AllKept, IsSound, put_cells, going_on, read, deeper, written, at_handle, or_unchanged, with_handle, whole_of_new}
-use Rattle.wgsl_rules.specs.Flat as flat
-use Rattle.wgsl_rules.specs.Flat.{Flat, Cell, Range, After, cell_of, flat_of, bytes_in, Names, view_range, overwritten_at, put_bytes, IsAllowed, IsFound, IsAtHandle, with_part, with_bytes}
+use Rattle.wgsl_rules.specs.Memory.{State, Answer, value, done, no_handle, refused, held_at, held, IsKept, AllKept, put_cells, going_on, read, deeper, written, at_handle, or_unchanged, with_handle, whole_of_new}
+use Rattle.wgsl_run.specs.Cells.{IsCell, IsSound}
+use Rattle.wgsl_run.specs.Flat as flat
+use Rattle.wgsl_run.specs.Flat.{Flat, Cell, Range, After, cell_of, flat_of, bytes_in, Names, view_range, overwritten_at, put_bytes, IsAllowed, IsFound, IsAtHandle, with_part, with_bytes}
 use Rattle.wgsl_run.specs.InStep.{ValuesAndBytesAreInStep}
 use Rattle.wgsl_run.proofs.Alike.{alike-type, cell-alike, viewed-cell, put-alike}
 use Rattle.wgsl_run.proofs.Heap.{answered, handle-kept, sound-at}
@@ -53,7 +54,7 @@ names cells r x s e t =
     }
 
 -- what is put into a cell overwrites the range in its bytes
-cell-put : (steps : List Step) (v w x : Val) → memory.IsCell v → IsStorable w → viewed steps v ≡ Ok x → type_of w ≡ type_of x → cell_of (put_viewed steps w v) ≡ overwritten_at steps (buffer w) (cell_of v)
+cell-put : (steps : List Step) (v w x : Val) → IsCell v → IsStorable w → viewed steps v ≡ Ok x → type_of w ≡ type_of x → cell_of (put_viewed steps w v) ≡ overwritten_at steps (buffer w) (cell_of v)
 cell-put steps v w x c s e t =
     let (n, b) = in-bytes steps v x c e in
     let new = put_viewed steps w v in

@@ -6,10 +6,10 @@ use Rattle.wgsl_rules.specs.Types.{u32, struct, Fields, no_fields, field}
 use Rattle.wgsl_rules.specs.Values.{Step, Val, number, record_of, vector, Vals, no_vals, val, item, count, type_of, first_type, HaveTypes, AllOfType, IsStorable, AreStorable}
 use Rattle.wgsl_rules.specs.Refusals.{Outcome, and_then}
 use Rattle.wgsl_rules.specs.Paths.{parts, stepped, path_of, viewed, replace_item, with_parts, put_viewed}
-use Rattle.wgsl_rules.specs.Layout.{HasLayout, amount, size, place_after, leaves}
-use Rattle.wgsl_rules.specs.Buffers.{number_at, byte_at, buffer}
-use Rattle.wgsl_rules.specs.Memory.{IsCell}
-use Rattle.wgsl_rules.specs.Bytes.{member_place, place, range_start, overwritten, APutOverwritesItsRange}
+use Rattle.wgsl_run.specs.Layout.{HasLayout, amount, size, place_after, leaves}
+use Rattle.wgsl_run.specs.Buffers.{number_at, byte_at, buffer}
+use Rattle.wgsl_run.specs.Cells.{IsCell}
+use Rattle.wgsl_run.specs.Bytes.{member_place, place, range_start, overwritten, APutOverwritesItsRange}
 use Rattle.wgsl_run.specs.Walk.{encode, encode_all, encode_members, members_end, HaveEnd}
 use Rattle.wgsl_run.proofs.Sizes.{placed, struct-known, vec-known}
 use Rattle.wgsl_run.proofs.Buffers.{buffer-encode}

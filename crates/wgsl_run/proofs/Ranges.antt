@@ -7,11 +7,11 @@ use Rattle.wgsl_rules.specs.Types.{Ty, struct, Fields, no_fields, field}
 use Rattle.wgsl_rules.specs.Values.{Step, member, index, Val, record_of, array_of, vector, matrix, Vals, no_vals, val, item, count, type_of, first_type, HaveTypes, AllOfType, IsStorable}
 use Rattle.wgsl_rules.specs.Refusals.{component, out_of_bounds, Outcome, and_then}
 use Rattle.wgsl_rules.specs.Paths.{parts, placed, index_named, member_named, stepped, path_of, viewed, put_viewed}
-use Rattle.wgsl_rules.specs.Layout.{amount, size, place_after}
-use Rattle.wgsl_rules.specs.Buffers.{buffer}
-use Rattle.wgsl_rules.specs.Memory.{IsCell}
-use Rattle.wgsl_rules.specs.Bytes.{member_place, place, range_start, overwritten}
-use Rattle.wgsl_rules.specs.Flat.{Range, member_range, step_range, further, view_range}
+use Rattle.wgsl_run.specs.Layout.{amount, size, place_after}
+use Rattle.wgsl_run.specs.Buffers.{buffer}
+use Rattle.wgsl_run.specs.Cells.{IsCell}
+use Rattle.wgsl_run.specs.Bytes.{member_place, place, range_start, overwritten}
+use Rattle.wgsl_run.specs.Flat.{Range, member_range, step_range, further, view_range}
 use Rattle.wgsl_run.proofs.Overwritten.{path-ok, length-buffer, put-overwrites}
 use Rattle.wgsl_rules.proofs.Paths.{named-both, or_refused-ok, placed-both, stepped-item}
 use Rattle.wgsl_run.proofs.Steps.{then-ok}

@@ -6,9 +6,9 @@ use Rattle.wgsl_rules.specs.Kinds as kinds
 use Rattle.wgsl_rules.specs.Types.{Ty, struct, Fields, field}
 use Rattle.wgsl_rules.specs.Values.{number, record_of, vector, Vals, no_vals, val}
 use Rattle.wgsl_rules.specs.View.{Field, type_view, struct_view, member_view, members_view}
-use Rattle.wgsl_rules.specs.Size.{align_of}
-use Rattle.wgsl_rules.specs.Layout.{HasLayout, amount, size, place_after}
-use Rattle.wgsl_rules.specs.Buffers.{number_from}
+use Rattle.wgsl_run.specs.Size.{align_of}
+use Rattle.wgsl_run.specs.Layout.{HasLayout, amount, size, place_after}
+use Rattle.wgsl_run.specs.Buffers.{number_from}
 use Rattle.wgsl_rules.specs.declared.ty.StructMemberType.{StructMemberType, the_lemmas as member_lemmas}
 use Rattle.wgsl_rules.specs.declared.ty.StructType.{StructType, out-StructType}
 use Rattle.wgsl_rules.proofs.Views.{struct_view-is}

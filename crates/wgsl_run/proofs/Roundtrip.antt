@@ -9,9 +9,9 @@ use Rattle.wgsl_rules.specs.Kinds as kinds
 use Rattle.wgsl_rules.specs.Kinds.{InKind, wrap}
 use Rattle.wgsl_rules.specs.Types.{u32, struct, Fields, no_fields, field}
 use Rattle.wgsl_rules.specs.Values.{Val, number, record_of, vector, Vals, no_vals, val, count, type_of, first_type, HaveTypes, AllOfType, AreStorable}
-use Rattle.wgsl_rules.specs.Layout.{size, place_after}
-use Rattle.wgsl_rules.specs.Buffers.{number_from, buffer, Lays}
-use Rattle.wgsl_rules.specs.Memory.{IsCell}
+use Rattle.wgsl_run.specs.Layout.{size, place_after}
+use Rattle.wgsl_run.specs.Buffers.{number_from, buffer, Lays}
+use Rattle.wgsl_run.specs.Cells.{IsCell}
 use Rattle.wgsl_run.specs.Walk.{encode, encode_all, encode_members, members_end, word, words, decode, decode_members, HaveEnd}
 use Rattle.wgsl_run.proofs.Sizes.{placed, struct-known, vec-known}
 use Rattle.wgsl_run.proofs.Buffers.{buffer-encode}

@@ -8,7 +8,8 @@ use Rattle.wgsl_rules.specs.Refusals.{not_write, write_ref_type, Outcome, and_th
 use Rattle.wgsl_rules.specs.Paths.{fits}
 use Rattle.wgsl_rules.specs.Memory as memory
 use Rattle.wgsl_rules.specs.Memory.{State, Call, Answer, value, no_handle, held, held_at, IsKept, put_cells, read, deeper, written, at_handle, or_unchanged, with_handle, whole_of_new, IsStep, IsRun}
-use Rattle.wgsl_rules.specs.Flat.{flat_of}
+use Rattle.wgsl_run.specs.Cells.{IsCell}
+use Rattle.wgsl_run.specs.Flat.{flat_of}
 use Rattle.wgsl_run.specs.Calls.{IsSoundCall}
 use Rattle.wgsl_run.specs.InStep.{IsGood, RunsAreInStep}
 use Rattle.wgsl_run.proofs.Heap.{LeadsTo, answered, IsSound-push, sound-put, kept-put, kept-push, handle-kept, all_kept-push, all_kept-after, whole-kept, deeper-kept}
@@ -47,7 +48,7 @@ write-good s r w v true good storable is =
     subst (λ (o : Outcome Val). IsGood (or_unchanged s (and_then o (put-if s r w)) (with-cells s)).state) (sym is) (put-good s r w v (fits w v) good storable is refl)
 write-good s r w v false good storable is = good
 
-new-good : (s : State) (v : Val) (reached : memory.After) (whole : Reference) → IsGood s → memory.IsCell v → IsKept (s.cells ++ v ∷ []) whole → with_handle s (s.cells ++ v ∷ []) whole ≡ reached → IsGood reached.state
+new-good : (s : State) (v : Val) (reached : memory.After) (whole : Reference) → IsGood s → IsCell v → IsKept (s.cells ++ v ∷ []) whole → with_handle s (s.cells ++ v ∷ []) whole ≡ reached → IsGood reached.state
 new-good s v reached whole good c kept e =
     let cells = s.cells ++ v ∷ [] in
     let others = all_kept-after s.cells cells s.handles good.kept (λ q k. kept-push s.cells q.cell q.view v q.ty k) in

@@ -5,8 +5,8 @@ use Rattle.std.specs.Int.{next_multiple_of}
 use Rattle.std.proofs.lemmas.Bool.{false≢true}
 use Rattle.std.proofs.lemmas.Bool.Decides.{nat_tests}
 use Rattle.wgsl_rules.specs.Types.{Ty, u32, struct, vec, Fields, no_fields, field}
-use Rattle.wgsl_rules.specs.Size.{fitting, round_up, sum_of, with_both, extent, extents, end_after, end_of_members, struct_align, size_of, align_of, is_word, is_component_count}
-use Rattle.wgsl_rules.specs.Layout.{HasLayout, amount, size, align, place_after}
+use Rattle.wgsl_run.specs.Size.{fitting, round_up, sum_of, with_both, extent, extents, end_after, end_of_members, struct_align, size_of, align_of, is_word, is_component_count}
+use Rattle.wgsl_run.specs.Layout.{HasLayout, amount, size, align, place_after}
 use Rattle.wgsl_run.specs.Walk.{members_after, fields_end, HaveEnd}
 
 -- what is known of a member that follows what ends at `end`

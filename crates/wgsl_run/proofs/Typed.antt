@@ -6,7 +6,7 @@ use Rattle.wgsl_rules.specs.Kinds.{InKind}
 use Rattle.wgsl_rules.specs.Types.{Ty, u32, struct, vec, Fields, no_fields, field}
 use Rattle.wgsl_rules.specs.Values as values
 use Rattle.wgsl_rules.specs.Values.{Val, truth, number, record_of, array_of, vector, matrix, Vals, no_vals, val, count, type_of, first_type, matrix_type, AllOfType, AreLiterals, IsStorable, AreStorable}
-use Rattle.wgsl_rules.specs.Layout.{HasLayout, size, place_after}
+use Rattle.wgsl_run.specs.Layout.{HasLayout, size, place_after}
 use Rattle.wgsl_run.specs.Walk.{HaveEnd}
 use Rattle.wgsl_run.proofs.Sizes.{placed, struct-known, vec-known}
 

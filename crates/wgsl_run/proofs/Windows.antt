@@ -4,8 +4,8 @@ use Rattle.std.proofs.lemmas.Bool.Decides.{nat_tests}
 use Rattle.std.specs.Prelude.{nat_le, nat_lt, ◌&&◌}
 use Rattle.std.specs.List.{range_with_len}
 use Rattle.wgsl_rules.specs.Kinds.{bytes_of}
-use Rattle.wgsl_rules.specs.Layout.{Leaf, under}
-use Rattle.wgsl_rules.specs.Buffers.{covers, byte_at, byte_of}
+use Rattle.wgsl_run.specs.Layout.{Leaf, under}
+use Rattle.wgsl_run.specs.Buffers.{covers, byte_at, byte_of}
 
 -- n bytes from position a on
 abbrev pub window : (List ℕ → ℤ) → List Leaf → ℕ → ℕ → List ℕ

@@ -8,9 +8,9 @@ use Rattle.std.proofs.lemmas.List.FromFn.{length-map-range_with_len}
 use Rattle.wgsl_rules.specs.Types.{Ty, u32, struct, vec, Fields, no_fields, field}
 use Rattle.wgsl_rules.specs.Values as values
 use Rattle.wgsl_rules.specs.Values.{Val, record_of, vector, Vals, no_vals, val, count, type_of, first_type, AllOfType, IsLiteral, IsStorable, AreStorable}
-use Rattle.wgsl_rules.specs.Size.{size_of}
-use Rattle.wgsl_rules.specs.Layout.{HasLayout, size, align, place_after, leaves}
-use Rattle.wgsl_rules.specs.Buffers.{number_at, byte_at}
+use Rattle.wgsl_run.specs.Size.{size_of}
+use Rattle.wgsl_run.specs.Layout.{HasLayout, size, align, place_after, leaves}
+use Rattle.wgsl_run.specs.Buffers.{number_at, byte_at}
 use Rattle.wgsl_run.specs.View.{value_of, vals_view, struct_view, vec_view, instance_step, struct_step, vec_step}
 use Rattle.wgsl_run.specs.Walk.{encode, encode_members, members_end, IsLaid, AreLaid, HaveEnd}
 use Rattle.wgsl_run.specs.declared.inst.LiteralInstance.TheVariants as literals

@@ -1,7 +1,8 @@
 -- What calls and their answers stand for in the model.
 use Rattle.std.specs.Prelude.{Option, Some, Result, Ok, Err, option_map, string_bytes}
 use Rattle.wgsl_rules.specs.Memory as memory
-use Rattle.wgsl_rules.specs.Memory.{Call, Answer, IsCell}
+use Rattle.wgsl_rules.specs.Memory.{Call, Answer}
+use Rattle.wgsl_run.specs.Cells.{IsCell}
 use Rattle.wgsl_rules.specs.Values.{IsStorable}
 use Rattle.wgsl_run.specs.Errors.{refusal_of}
 use Rattle.wgsl_run.specs.View.{value_of}

@@ -1,7 +1,8 @@
 -- Typed values and a memory of bytes stay in step.
 use Rattle.std.specs.Prelude.{Option, List, [], ◌∷◌}
-use Rattle.wgsl_rules.specs.Flat.{IsFlatStep, IsFlatRun, flat_of}
-use Rattle.wgsl_rules.specs.Memory.{State, Call, Answer, AllKept, IsSound, IsStep, IsRun}
+use Rattle.wgsl_run.specs.Flat.{IsFlatStep, IsFlatRun, flat_of}
+use Rattle.wgsl_rules.specs.Memory.{State, Call, Answer, AllKept, IsStep, IsRun}
+use Rattle.wgsl_run.specs.Cells.{IsSound}
 use Rattle.wgsl_run.specs.Calls.{IsSoundCall}
 
 -- each cell holds what a cell may hold, and each handle names a value of its type

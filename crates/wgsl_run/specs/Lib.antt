@@ -1,11 +1,17 @@
+pub mod Buffers
+pub mod Bytes
 pub mod Calls
+pub mod Cells
 pub mod Errors
 pub mod Faults
+pub mod Flat
 pub mod InStep
+pub mod Layout
 pub mod Lines
 pub mod Parts
 pub mod References
 pub mod Rows
+pub mod Size
 pub mod Texts
 pub mod View
 pub mod Walk

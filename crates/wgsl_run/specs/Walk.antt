@@ -5,9 +5,9 @@ use Rattle.wgsl_rules.specs.Kinds as kinds
 use Rattle.wgsl_rules.specs.Kinds.{wrap}
 use Rattle.wgsl_rules.specs.Types.{Ty, struct, vec, Fields, no_fields, field}
 use Rattle.wgsl_rules.specs.Values.{Val, number, record_of, vector, Vals, no_vals, val, type_of, IsStorable}
-use Rattle.wgsl_rules.specs.Size.{end_of_members, extents}
-use Rattle.wgsl_rules.specs.Layout.{HasLayout, amount, size, place_after}
-use Rattle.wgsl_rules.specs.Buffers.{number_from}
+use Rattle.wgsl_run.specs.Size.{end_of_members, extents}
+use Rattle.wgsl_run.specs.Layout.{HasLayout, amount, size, place_after}
+use Rattle.wgsl_run.specs.Buffers.{number_from}
 
 -- the bytes of a value of a type that has a layout
 abbrev mutual

@@ -2,9 +2,9 @@
 
 ghost use Rattle.std.specs.Prelude.{◌≡◌, ◌+◌, ◌*◌, ◌-◌, ◌≤◌, ◌<◌, ◌++◌, length, replicate, vec_len, IfOk, IfErr, IfSome, OnOk, option_map};
 ghost use Rattle.std.specs.Int.{next_multiple_of};
-ghost use Rattle.wgsl_rules.specs.Buffers.{buffer, buffer_of, number_from, IsReadOf, without_padding};
-ghost use Rattle.wgsl_rules.specs.Layout.{HasLayout, size, align};
-ghost use Rattle.wgsl_rules.specs.Size.{size_of};
+ghost use Rattle.wgsl_run.specs.Buffers.{buffer, buffer_of, number_from, IsReadOf, without_padding};
+ghost use Rattle.wgsl_run.specs.Layout.{HasLayout, size, align};
+ghost use Rattle.wgsl_run.specs.Size.{size_of};
 ghost use Rattle.wgsl_rules.specs.Values.{IsStorable, type_of};
 ghost use Rattle.wgsl_rules.specs.View.{type_view, members_view};
 ghost use Rattle.wgsl_run.specs.View.{value_of, vals_view};
@@ -12,6 +12,7 @@ ghost use Rattle.wgsl_run.specs.Walk.{encode, encode_all, encode_members, IsLaid
 
 use crate::error::Error;
 use crate::inst::{Instance, LiteralInstance, StructInstance, VecInstance};
+use crate::size::{align_of, size_of, struct_align_of, struct_size_of};
 use std::alloc::{AllocError, Global};
 use wgsl_rules::{StructMemberType, StructType, Type};
 
@@ -42,7 +43,7 @@ impl Instance {
         ensures again { IfOk result (λ v. IfSome v (λ x. buffer (value_of x) ≡ without_padding bytes.now (type_view ty.now))) }
         ensures memory { IfErr result (λ e. e ≡ Error.Memory) }
     {
-        let Some(size) = ty.size_of() else {
+        let Some(size) = size_of(ty) else {
             return Ok(None);
         };
         if bytes.len() < size as usize {
@@ -59,7 +60,7 @@ impl Instance {
     {
         match self {
             Instance::Literal(LiteralInstance::U32(_)) => Some(4),
-            Instance::Struct(s) => s.ty.size_of(),
+            Instance::Struct(s) => struct_size_of(&s.ty),
             Instance::Vec(v) => Some(v.components.len() as u32 * 4),
         }
     }
@@ -71,7 +72,7 @@ impl Instance {
     {
         match self {
             Instance::Literal(LiteralInstance::U32(_)) => 4,
-            Instance::Struct(s) => s.ty.align_of().unwrap(),
+            Instance::Struct(s) => struct_align_of(&s.ty).unwrap(),
             Instance::Vec(v) => {
                 let n = v.components.len() as u32;
                 if n == 3 { 16 } else { n * 4 }
@@ -207,8 +208,8 @@ fn read_members(
     let mut end = 0usize;
     for member in members {
         // Where the end of the members is known, so are the alignment and the size of each.
-        let align = member.ty.align_of().unwrap();
-        let size = member.ty.size_of().unwrap();
+        let align = align_of(&member.ty).unwrap();
+        let size = size_of(&member.ty).unwrap();
         let place = end.next_multiple_of(align as usize);
         values.push(read_value(alloc, bytes, start + place, &member.ty)?)?;
         end = place + size as usize;

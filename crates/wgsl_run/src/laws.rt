@@ -1,6 +1,6 @@
 //! Laws of the memory and of its bytes. The calls do nothing.
 
-ghost use Rattle.wgsl_rules.specs.Bytes.{APutOverwritesItsRange};
+ghost use Rattle.wgsl_run.specs.Bytes.{APutOverwritesItsRange};
 ghost use Rattle.wgsl_run.specs.InStep.{RunsAreInStep, ValuesAndBytesAreInStep};
 
 /// A law: what a write through a reference changes in the bytes of its cell. A value that is put into

@@ -18,6 +18,7 @@ mod output;
 mod reference;
 mod script;
 mod session;
+mod size;
 mod store;
 mod structs;
 #[cfg(test)]

@@ -1,7 +1,8 @@
 //! References to parts of cells (WGSL: memory views; reference and pointer types).
 
 ghost use Rattle.std.specs.Prelude.{◌≡◌, ◌++◌, ◌∷◌, [], IfOk, IfErr, OnOk, OnErr, string_bytes};
-ghost use Rattle.wgsl_rules.specs.Memory.{IsCell, IsKept, whole_of_new, deeper, deeper_by, read, written};
+ghost use Rattle.wgsl_rules.specs.Memory.{IsKept, whole_of_new, deeper, deeper_by, read, written};
+ghost use Rattle.wgsl_run.specs.Cells.{IsCell};
 ghost use Rattle.wgsl_rules.specs.Values.{Reference, IsStorable, member, index};
 ghost use Rattle.wgsl_rules.specs.View.{type_view};
 ghost use Rattle.wgsl_run.specs.Errors.{Gives};

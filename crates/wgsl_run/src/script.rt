@@ -1,7 +1,7 @@
 //! Scripts: a line a call.
 
 ghost use Rattle.std.specs.Prelude.{◌≡◌, IfOk, Err};
-ghost use Rattle.wgsl_rules.specs.Buffers.{Lays};
+ghost use Rattle.wgsl_run.specs.Buffers.{Lays};
 ghost use Rattle.wgsl_rules.specs.Values.{Val};
 ghost use Rattle.wgsl_rules.specs.View.{type_view};
 ghost use Rattle.wgsl_run.specs.View.{value_of};

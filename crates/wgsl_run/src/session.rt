@@ -34,9 +34,10 @@ impl Model for Session {
 
 impl Session {
     ghost use Rattle.std.specs.Prelude.{◌≡◌, [], IfOk, option_map, slice_get, string_bytes};
-    ghost use Rattle.wgsl_rules.specs.Flat.{IsFlatStep, flat_of};
+    ghost use Rattle.wgsl_run.specs.Flat.{IsFlatStep, flat_of};
     ghost use Rattle.wgsl_rules.specs.Memory as memory;
-    ghost use Rattle.wgsl_rules.specs.Memory.{IsStep, IsReached, IsCell, IsKept, with_handle};
+    ghost use Rattle.wgsl_rules.specs.Memory.{IsStep, IsReached, IsKept, with_handle};
+    ghost use Rattle.wgsl_run.specs.Cells.{IsCell};
     ghost use Rattle.wgsl_rules.specs.Values.{IsStorable};
     ghost use Rattle.wgsl_run.specs.View.{value_of};
     ghost use Rattle.wgsl_run.specs.InStep.{IsGood};

@@ -16,7 +16,7 @@ impl Model for Store {
     ghost use Rattle.std.specs.Coded.{coded_list};
     ghost use Rattle.wgsl_rules.specs.Values.{Val};
     ghost use Rattle.wgsl_rules.specs.Codes.{val_code};
-    ghost use Rattle.wgsl_rules.specs.Memory.{IsSound};
+    ghost use Rattle.wgsl_run.specs.Cells.{IsSound};
     ghost use Rattle.wgsl_run.specs.View.{value_of};
 
     ghost Value = { List Val };
@@ -30,7 +30,8 @@ impl Model for Store {
 
 impl Store {
     ghost use Rattle.std.specs.Prelude.{◌≡◌, ◌<◌, ◌++◌, ◌∷◌, [], length, IfOk, IsOkAnd, OnOk, OnErr, Some, slice_get};
-    ghost use Rattle.wgsl_rules.specs.Memory.{IsCell, IsSound, IsKept, held_at, put_cells};
+    ghost use Rattle.wgsl_rules.specs.Memory.{IsKept, held_at, put_cells};
+    ghost use Rattle.wgsl_run.specs.Cells.{IsCell, IsSound};
     ghost use Rattle.wgsl_rules.specs.Values.{Reference, IsStorable, type_of};
     ghost use Rattle.wgsl_run.specs.View.{value_of, steps_of};
 

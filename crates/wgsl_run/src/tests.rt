@@ -9,6 +9,7 @@ mod limits;
 mod literals;
 mod operators;
 mod rows;
+mod sizes;
 mod texts;
 mod types;
 mod values;

@@ -81,19 +81,20 @@ fn assert_size(rt: &impl Abort, ty: &Type, size: Option<u32>, align: Option<u32>
 #[test]
 fn sizes_and_alignments(rt: HostRuntime) -> Result<(), AllocError> {
     let alloc = rt.alloc();
-    assert_size(&rt, &Type::I32, None, None);
+    assert_size(&rt, &Type::I32, Some(4), Some(4));
+    assert_size(&rt, &Type::AbstractInt, None, None);
     assert_size(&rt, &Type::U32, Some(4), Some(4));
     assert_size(&rt, &vector(alloc, 2, Type::U32)?, Some(8), Some(8));
     assert_size(&rt, &vector(alloc, 3, Type::U32)?, Some(12), Some(16));
     assert_size(&rt, &vector(alloc, 4, Type::U32)?, Some(16), Some(16));
     assert_size(&rt, &pair(alloc)?, Some(32), Some(16));
-    assert_size(&rt, &structure(alloc, "S", Vec::new(alloc))?, None, None);
+    assert_size(&rt, &structure(alloc, "S", Vec::new(alloc))?, None, Some(0));
     let attribute = member(alloc, "a", Type::U32, Some(8))?;
     assert_size(
         &rt,
         &structure(alloc, "S", vec![in alloc; attribute]?)?,
-        None,
-        None,
+        Some(8),
+        Some(4),
     );
     Ok(())
 }

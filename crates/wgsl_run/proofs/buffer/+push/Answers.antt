@@ -1,6 +1,6 @@
 use Rattle.std.proofs.Common.{Result, Ok, Err, ◌≡◌, ◌+◌, ◌-◌, length, drop, vec_len, rules, arith, ap, ◌∙◌, length-append}
 use Rattle.std.specs.Result.{OnOk}
-use Rattle.wgsl_rules.specs.Layout.{size, place_after}
+use Rattle.wgsl_run.specs.Layout.{size, place_after}
 use Rattle.wgsl_rules.specs.Values.{type_of}
 use Rattle.wgsl_rules.specs.View.{struct_view as struct_type_view}
 use Rattle.wgsl_run.specs.View.{value_of, vals_view}

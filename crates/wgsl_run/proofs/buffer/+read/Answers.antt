@@ -1,5 +1,5 @@
 use Rattle.std.proofs.Common.{◌≡◌, ◌+◌, length, arith, rules, refl, string_bytes, sym, ap, ◌∙◌}
-use Rattle.wgsl_rules.specs.Layout.{amount, size, align, place_after}
+use Rattle.wgsl_run.specs.Layout.{amount, size, align, place_after}
 use Rattle.wgsl_rules.specs.View.{type_view, struct_view, members_view}
 use Rattle.wgsl_rules.specs.Values.{vector}
 use Rattle.wgsl_rules.proofs.Views.{view-Struct, view-Vec}

@@ -1,7 +1,7 @@
 use Rattle.std.proofs.Common.{◌≤◌, length, arith, sym, ap, ◌∙◌}
 use Rattle.std.specs.Prelude.{is_some}
 use Rattle.std.proofs.lemmas.Bool.{false≢true}
-use Rattle.wgsl_rules.specs.Layout.{amount, size}
+use Rattle.wgsl_run.specs.Layout.{amount, size}
 use Rattle.wgsl_rules.specs.View.{type_view}
 use Rattle.wgsl_run.specs.Walk.{decode}
 use Rattle.wgsl_run.proofs.Again.{AreBytes, buffer-again}

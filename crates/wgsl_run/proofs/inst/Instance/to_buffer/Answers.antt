@@ -1,6 +1,6 @@
 use Rattle.std.proofs.Common.{Some, sym, ap, ◌∙◌}
 use Rattle.std.specs.Prelude.{is_some}
-use Rattle.wgsl_rules.specs.Layout.{HasLayout}
+use Rattle.wgsl_run.specs.Layout.{HasLayout}
 use Rattle.wgsl_rules.specs.Values.{type_of}
 use Rattle.wgsl_run.specs.View.{value_of}
 use Rattle.wgsl_run.proofs.Buffers.{buffer-encode, buffer-some}

@@ -3,9 +3,9 @@
 use Rattle.std.specs.Prelude.{◌≡◌, ℕ, zero, suc, ◌+◌, ◌*◌, ◌≤◌, List, [], ◌∷◌, ◌++◌, length, take, drop, option_map, Ok}
 use Rattle.wgsl_rules.specs.Values.{Step, Val, record_of, vector, Vals, no_vals, val, item, type_of, first_type, IsStorable}
 use Rattle.wgsl_rules.specs.Paths.{parts, path_of, viewed, put_viewed}
-use Rattle.wgsl_rules.specs.Layout.{amount, size, place_after}
-use Rattle.wgsl_rules.specs.Buffers.{buffer}
-use Rattle.wgsl_rules.specs.Memory.{IsCell}
+use Rattle.wgsl_run.specs.Layout.{amount, size, place_after}
+use Rattle.wgsl_run.specs.Buffers.{buffer}
+use Rattle.wgsl_run.specs.Cells.{IsCell}
 
 -- where member i begins, of the members that follow what ends at `end`
 abbrev pub member_place : ℕ → ℕ → Vals → ℕ

@@ -1,10 +1,10 @@
 use Rattle.std.proofs.Common.{◌≡◌, ◌∙◌, ◌≤◌, ℕ, Some, Option, List, [], ◌∷◌, length, refl, ap, arith}
-use Rattle.wgsl_rules.specs.Size.{extents, struct_size, struct_align, greatest_align, end_of_members, with_both, round_up}
+use Rattle.wgsl_run.specs.Size.{extents, struct_size, struct_align, greatest_align, end_of_members, with_both, round_up}
 use Rattle.wgsl_rules.specs.View.{members_view}
-use Rattle.wgsl_rules.specs.declared.size.Extent.{Extent}
+use Rattle.wgsl_run.specs.declared.size.Extent.{Extent}
 use Rattle.wgsl_rules.specs.declared.ty.StructMemberType.{StructMemberType}
 use Rattle.wgsl_rules.proofs.Views.{struct_view-is}
-use Rattle.wgsl_rules.proofs.+sizes.Goals as goal
+use Rattle.wgsl_run.proofs.size.+sizes.Goals as goal
 
 -- the size and the alignment of a struct with members
 abbrev whole : List StructMemberType → Extent
@@ -14,7 +14,7 @@ extent-members : (ms : List StructMemberType) → 1 ≤ length ms → (end align
 extent-members [] h end align size e a s = absurd (omega arith)
 extent-members (m ∷ ms) h end align size e a s = rw s (rw a (rw e refl))
 
-pub ty::StructType::extent-returns-in_default : goal.ty::StructType::extent-returns-in_default
-ty::StructType::extent-returns-in_default t c =
+pub struct_extent-returns-in_default : goal.struct_extent-returns-in_default
+struct_extent-returns-in_default t c =
     rw struct_view-is (extent-members c.as_slice.result.now (omega arith) _ _ _ c.members_extent-end.ensures.end c.members_extent-end.ensures.greatest c.rounded_if_known.ensures
     ∙ ap whole c.as_slice.ensures.value)

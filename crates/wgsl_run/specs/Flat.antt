@@ -7,9 +7,9 @@ use Rattle.wgsl_rules.specs.Values as values
 use Rattle.wgsl_rules.specs.Values.{Step, Reference, Val, type_of}
 use Rattle.wgsl_rules.specs.Refusals.{Refusal, not_read, not_write, write_ref_type}
 use Rattle.wgsl_rules.specs.Paths.{viewed, fits}
-use Rattle.wgsl_rules.specs.Layout.{size, place_after}
-use Rattle.wgsl_rules.specs.Buffers.{buffer, Lays}
-use Rattle.wgsl_rules.specs.Bytes.{overwritten}
+use Rattle.wgsl_run.specs.Layout.{size, place_after}
+use Rattle.wgsl_run.specs.Buffers.{buffer, Lays}
+use Rattle.wgsl_run.specs.Bytes.{overwritten}
 use Rattle.wgsl_rules.specs.Memory as memory
 use Rattle.wgsl_rules.specs.Memory.{State, StateOf, AfterOf, Call, Answer, value, done, no_handle, refused, unchanged, with_handle, going_on}
 use Rattle.wgsl_rules.specs.declared.syntax.AddressSpace.{AddressSpace}

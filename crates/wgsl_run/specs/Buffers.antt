@@ -6,7 +6,7 @@ use Rattle.wgsl_rules.specs.Kinds.{bytes_of, modulo, floor_div, wrap}
 use Rattle.wgsl_rules.specs.Types.{Ty}
 use Rattle.wgsl_rules.specs.Values.{Val, number, atomic_of, deferred, type_of, IsStorable}
 use Rattle.wgsl_rules.specs.Paths.{value_at}
-use Rattle.wgsl_rules.specs.Layout.{Leaf, leaves, size, has_layout, HasLayout}
+use Rattle.wgsl_run.specs.Layout.{Leaf, leaves, size, has_layout, HasLayout}
 
 -- the number of a scalar or an atomic
 abbrev pub number_of : Option Val → ℤ

@@ -1,0 +1,34 @@
+use Rattle.std.proofs.Common.{◌≡◌, ◌∙◌, ◌+◌, Bool, Option, ℕ, is_some, drop, ap}
+use Rattle.std.specs.Prelude.{◌&&◌}
+use Rattle.wgsl_rules.specs.Layout.{is_fixed_member, is_runtime_member, have_fixed_layouts}
+use Rattle.wgsl_rules.specs.Size.{Extent, extents, extent_of, end_of_members, greatest_align, end_after, offset_after, align_after}
+use Rattle.wgsl_rules.specs.View.{member_view, members_view}
+use Rattle.wgsl_rules.proofs.Members.{next, ends}
+use Rattle.wgsl_rules.proofs.+measures.Goals as goal
+
+pub measures::measure_members-loop-member-preserved : goal.measures::measure_members-loop-member-preserved
+measures::measure_members-loop-member-preserved t c =
+    let ms = c.args.members.now in
+    let l = c.loop-member in
+    let m = c.measures.ensures in
+    let with = c.with-so_far.ensures in
+    let f = member_view c.member-item.result in
+    let fs = members_view (drop (l.member-index + 1) ms) in
+    let n = next ms l.member-index c.member-item.result c.loop-member-test.true c.member-item.is in
+    let size = m.size in let align = m.align in
+    let extent : record { size = c.measures.result.size; align = c.measures.result.align } ≡ extent_of f = cc in
+    let end = with.end ∙ ap (λ (x : Extent). end_after l.so_far.end x) extent in
+    let fixed = with.fixed ∙ ap (λ (b : Bool). l.so_far.are_fixed && b) m.fixed in
+    let runtime =
+    with.runtime ∙ ap (λ (b : Bool). l.so_far.are_fixed && (b && is_some (offset_after l.so_far.end (record { size = c.measures.result.size; align = c.measures.result.align })))) m.runtime
+    ∙ ap (λ (x : Extent). l.so_far.are_fixed && (is_runtime_member f && is_some (offset_after l.so_far.end x))) extent in
+    record {
+      end = ap (λ (o : Option ℕ). end_of_members o (extents fs)) end ∙ n.end l.so_far.end ∙ l.invariant.end;
+      align = ap (λ (o : Option ℕ). greatest_align o (extents fs)) (with.align ∙ ap (λ (x : Extent). align_after l.so_far.align x) extent) ∙ n.align l.so_far.align ∙ l.invariant.align;
+      fixed = ap (λ (b : Bool). b && have_fixed_layouts fs) fixed ∙ n.fixed l.so_far.are_fixed ∙ l.invariant.fixed;
+      runtime =
+          ap (λ (b : Bool). ends b c.with-so_far.result.are_fixed c.with-so_far.result.end fs) runtime
+          ∙ ap (λ (b : Bool). ends (l.so_far.are_fixed && (is_runtime_member f && is_some (offset_after l.so_far.end (extent_of f)))) b c.with-so_far.result.end fs) fixed
+          ∙ ap (λ (o : Option ℕ). ends (l.so_far.are_fixed && (is_runtime_member f && is_some (offset_after l.so_far.end (extent_of f)))) (l.so_far.are_fixed && is_fixed_member f) o fs) end
+          ∙ n.runtime l.so_far.end_in_runtime_array l.so_far.are_fixed l.so_far.end ∙ l.invariant.runtime;
+    }

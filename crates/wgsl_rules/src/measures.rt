@@ -1,0 +1,237 @@
+//! What is known of a type: its size, its alignment and its layout, found in one walk down the type.
+
+ghost use Rattle.std.specs.Prelude.{◌≡◌, Some, false, is_some, max, ◌&&◌};
+ghost use Rattle.wgsl_rules.specs.Layout.{
+  has_fixed_layout,
+  have_fixed_layouts,
+  is_fixed_member,
+  is_runtime_array,
+  is_runtime_member,
+  end_in_runtime_array,
+};
+ghost use Rattle.wgsl_rules.specs.Size.{
+  size_of,
+  align_of,
+  extent_of,
+  extents,
+  end_of_members,
+  struct_align,
+  align_after,
+  end_after,
+  round_up,
+  with_both,
+  stride_of,
+};
+ghost use Rattle.wgsl_rules.specs.View.{type_view, struct_view, member_view, members_view};
+
+use crate::layout::{is_align_valid, is_from_2_to_4, is_size_valid};
+use crate::number::{rounded_if_known, sum_if_known, times};
+use crate::ty::{StructMemberType, StructType, Type};
+
+/// Of a type, or of a member with its attributes: how many bytes it takes, what its place is a
+/// multiple of, and whether it has a fixed layout, or is a runtime-sized array that has one.
+#[derive(Clone, Copy)]
+pub(crate) struct Measures {
+    pub(crate) size: Option<u32>,
+    pub(crate) align: Option<u32>,
+    pub(crate) is_fixed: bool,
+    pub(crate) is_runtime_array: bool,
+}
+
+/// Of the members of a structure: where the last ends, the greatest alignment, whether all have
+/// fixed layouts, and whether the last is a runtime-sized array and the others have.
+#[derive(Clone, Copy)]
+pub(crate) struct Members {
+    pub(crate) end: Option<u32>,
+    pub(crate) align: Option<u32>,
+    pub(crate) are_fixed: bool,
+    pub(crate) end_in_runtime_array: bool,
+}
+
+impl Measures {
+    const UNKNOWN: Measures = Measures {
+        size: None,
+        align: None,
+        is_fixed: false,
+        is_runtime_array: false,
+    };
+
+    // Of a scalar of so many bytes.
+    fn of_scalar(bytes: u32, is_fixed: bool) -> Self
+        ensures size { result.size ≡ Some bytes }
+        ensures align { result.align ≡ Some bytes }
+        ensures fixed { result.is_fixed ≡ is_fixed }
+        ensures runtime { result.is_runtime_array ≡ false }
+    {
+        Measures {
+            size: Some(bytes),
+            align: Some(bytes),
+            is_fixed,
+            is_runtime_array: false,
+        }
+    }
+
+    /// From one element of an array of these to the next.
+    pub(crate) fn stride(self) -> Option<u32>
+        ensures { result ≡ stride_of self.align self.size }
+    {
+        rounded_if_known(self.align, self.size)
+    }
+}
+
+impl Members {
+    const NONE: Members = Members {
+        end: Some(0),
+        align: Some(0),
+        are_fixed: true,
+        end_in_runtime_array: false,
+    };
+
+    // These and one member more.
+    fn with(self, member: Measures) -> Self
+        ensures end { result.end ≡ end_after self.end (record { size = member.size; align = member.align }) }
+        ensures align { result.align ≡ align_after self.align (record { size = member.size; align = member.align }) }
+        ensures fixed { result.are_fixed ≡ (self.are_fixed && member.is_fixed) }
+        ensures runtime { result.end_in_runtime_array ≡ (self.are_fixed && (member.is_runtime_array && is_some (with_both round_up member.align self.end))) }
+    {
+        let offset = rounded_if_known(member.align, self.end);
+        Members {
+            end: sum_if_known(offset, member.size),
+            align: greater(self.align, member.align),
+            are_fixed: self.are_fixed && member.is_fixed,
+            end_in_runtime_array: self.are_fixed && member.is_runtime_array && offset.is_some(),
+        }
+    }
+
+    /// The size of the structure: the end of the last member, rounded up to the alignment.
+    pub(crate) fn size(self) -> Option<u32>
+        ensures { result ≡ with_both round_up self.align self.end }
+    {
+        rounded_if_known(self.align, self.end)
+    }
+}
+
+// The greater of the two, where both are known.
+fn greater(a: Option<u32>, b: Option<u32>) -> Option<u32>
+    ensures { result ≡ with_both (λ x y. Some (max x y)) a b }
+{
+    Some(a?.max(b?))
+}
+
+impl Type {
+    #[cycle(measures)]
+    pub(crate) fn measures(&self) -> Measures
+        ensures size { result.size ≡ size_of (type_view self.now) }
+        ensures align { result.align ≡ align_of (type_view self.now) }
+        ensures fixed { result.is_fixed ≡ has_fixed_layout (type_view self.now) }
+        ensures runtime { result.is_runtime_array ≡ is_runtime_array (type_view self.now) }
+    {
+        match self {
+            Type::I32 | Type::U32 => Measures::of_scalar(4, true),
+            Type::I64 | Type::U64 => Measures::of_scalar(8, true),
+            Type::Atomic(content) => Measures::of_scalar(4, content.is_atomic_content()),
+            Type::Bool | Type::F32 => Measures::of_scalar(4, false),
+            Type::F16 => Measures::of_scalar(2, false),
+            Type::F64 => Measures::of_scalar(8, false),
+            Type::Vec(n, component) => {
+                let size = component.measures().size;
+                Measures {
+                    size: times(usize::from(*n), size),
+                    align: component.vec_align(*n, size),
+                    is_fixed: is_from_2_to_4(*n) && component.is_host_scalar(),
+                    is_runtime_array: false,
+                }
+            }
+            Type::Mat(columns, rows, component) => {
+                let align = component.vec_align(*rows, component.measures().size);
+                let size = times(usize::from(*columns), align);
+                let is_shape = is_from_2_to_4(*columns) && is_from_2_to_4(*rows);
+                Measures {
+                    size,
+                    align,
+                    is_fixed: is_shape && component.is_host_scalar() && size.is_some(),
+                    is_runtime_array: false,
+                }
+            }
+            Type::Array(element, n) => {
+                let element = element.measures();
+                let stride = element.stride();
+                match n {
+                    Some(n) => {
+                        let size = times(*n, stride);
+                        Measures {
+                            size,
+                            align: element.align,
+                            is_fixed: 1 <= *n && element.is_fixed && size.is_some(),
+                            is_runtime_array: false,
+                        }
+                    }
+                    None => Measures {
+                        size: None,
+                        align: element.align,
+                        is_fixed: false,
+                        is_runtime_array: element.is_fixed && stride.is_some(),
+                    },
+                }
+            }
+            Type::Struct(ty) => ty.measures(),
+            Type::AbstractInt | Type::AbstractFloat => Measures::UNKNOWN,
+            Type::Ptr(_, _, _) | Type::Ref(_, _, _) => Measures::UNKNOWN,
+            Type::Texture(_) | Type::Sampler(_) => Measures::UNKNOWN,
+        }
+    }
+}
+
+impl StructType {
+    #[cycle(measures)]
+    pub(crate) fn measures(&self) -> Measures
+        ensures size { result.size ≡ size_of (struct_view self.now) }
+        ensures align { result.align ≡ align_of (struct_view self.now) }
+        ensures fixed { result.is_fixed ≡ has_fixed_layout (struct_view self.now) }
+        ensures runtime { result.is_runtime_array ≡ false }
+    {
+        let members = measure_members(self.members.as_slice());
+        let size = members.size();
+        Measures {
+            size,
+            align: members.align,
+            is_fixed: members.are_fixed && size.is_some(),
+            is_runtime_array: false,
+        }
+    }
+}
+
+#[cycle(measures)]
+pub(crate) fn measure_members(members: &[StructMemberType]) -> Members
+    ensures end { result.end ≡ end_of_members (Some 0) (extents (members_view members.now)) }
+    ensures align { result.align ≡ struct_align (extents (members_view members.now)) }
+    ensures fixed { result.are_fixed ≡ have_fixed_layouts (members_view members.now) }
+    ensures runtime { result.end_in_runtime_array ≡ end_in_runtime_array (Some 0) (members_view members.now) }
+{
+    let mut so_far = Members::NONE;
+    for member in members {
+        so_far = so_far.with(member.measures());
+    }
+    so_far
+}
+
+impl StructMemberType {
+    // With its attributes, which take the place of what its type has.
+    #[cycle(measures)]
+    fn measures(&self) -> Measures
+        ensures size { result.size ≡ (extent_of (member_view self.now)).size }
+        ensures align { result.align ≡ (extent_of (member_view self.now)).align }
+        ensures fixed { result.is_fixed ≡ is_fixed_member (member_view self.now) }
+        ensures runtime { result.is_runtime_array ≡ is_runtime_member (member_view self.now) }
+    {
+        let own = self.ty.measures();
+        let is_size_valid = is_size_valid(self.size, own.size);
+        let is_align_valid = is_align_valid(self.align, own.align);
+        Measures {
+            size: self.size.or(own.size),
+            align: self.align.or(own.align),
+            is_fixed: own.is_fixed && is_size_valid && is_align_valid,
+            is_runtime_array: own.is_runtime_array && self.size.is_none() && is_align_valid,
+        }
+    }
+}

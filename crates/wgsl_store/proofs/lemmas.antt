@@ -1,0 +1,16 @@
+pub mod Back
+pub mod Compose
+pub mod Counts
+pub mod Decoded
+pub mod Follows
+pub mod Known
+pub mod Numbers
+pub mod Overwritten
+pub mod Padding
+pub mod Places
+pub mod Positive
+pub mod Puts
+pub mod Ranges
+pub mod Roundtrip
+pub mod Tidy
+pub mod ViewPaths
