@@ -1,3 +1,4 @@
 pub mod Iterators
+pub mod Matrices
 pub mod Parts
 pub mod View

@@ -5,6 +5,7 @@
 mod conv;
 mod inst;
 mod iter;
+mod matrix;
 mod parts;
 mod view;
 
