@@ -36,7 +36,8 @@ impl MatInstance {
         Ok(VecInstance { components })
     }
 
-    /// The matrix with the rows for columns (WGSL: transpose).
+    /// The matrix with the rows for columns (WGSL: transpose). The condition: the matrix is
+    /// well-formed.
     pub fn transpose(&self, alloc: Global) -> Result<MatInstance, AllocError>
         requires { IsStorable (mat_view self.now) }
         ensures { IfOk result (λ m. mat_view m ≡ transposed (mat_view self.now)) }
