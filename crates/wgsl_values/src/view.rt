@@ -67,10 +67,11 @@ impl Instance {
         self.as_struct()?.member(name)
     }
 
-    /// The part that the view leads to (WGSL: memory views). It takes no memory.
+    /// The part that the view leads to (WGSL: memory views).
     ///
     /// The first step that leads nowhere is refused, with the type of the value that it was taken
-    /// from: `Component` for a name, `NotIndexable` or `OutOfBounds` for an index.
+    /// from: `Component` for a name, `NotIndexable` or `OutOfBounds` for an index. Memory is taken
+    /// for the type and the name of a refusal alone. The condition: the value is well-formed.
     pub fn view(&self, alloc: Global, view: &MemView) -> Result<&Instance, Error>
         requires { IsWellFormed (value_of self.now) }
         ensures { Gives (λ v. value_of v.now) result (viewed (steps_of view.now) (value_of self.now)) }
