@@ -2,6 +2,7 @@ pub mod Back
 pub mod Compose
 pub mod Counts
 pub mod Decoded
+pub mod Fixed
 pub mod Follows
 pub mod Known
 pub mod Numbers

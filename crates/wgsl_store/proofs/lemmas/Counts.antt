@@ -1,6 +1,6 @@
 -- How many elements a buffer has room for: as many as its value has.
 use Rattle.std.proofs.Common.{◌≡◌, ℕ, zero, suc, ◌+◌, ◌-◌, ◌*◌, ◌/◌, ◌<◌, ◌≤◌, Option, Some, None, is_some, Bool, true, false, refl, sym, ap, ◌∙◌, arith}
-use Rattle.std.specs.Prelude.{nat_le, ◌&&◌, ◌||◌, MatchOption, ⊤, if◌then◌else◌}
+use Rattle.std.specs.Prelude.{nat_le, ◌||◌, MatchOption, ⊤, if◌then◌else◌}
 use Rattle.std.proofs.lemmas.Bool.{false≢true}
 use Rattle.std.proofs.lemmas.Bool.Decides.{nat_tests}
 use lib.Arith.{digits_div}
@@ -9,9 +9,10 @@ use Rattle.wgsl_rules.specs.Kinds.{Kind, bytes_of}
 use Rattle.wgsl_rules.specs.Types.{Ty, struct, array, vec, Fields, no_fields, field}
 use Rattle.wgsl_rules.specs.Values.{Val, truth, number, record_of, array_of, vector, matrix, atomic_of, pointer, reference, deferred, Vals, no_vals, val, count, type_of, type_of_kind, first_type, matrix_type, HaveTypes, IsStorable, AreStorable}
 use Rattle.wgsl_rules.specs.Size.{size_of, offset_after, end_after, extent_in}
-use Rattle.wgsl_rules.specs.Layout.{size, stride, amount, has_fixed_layout, have_fixed_layouts, is_runtime_array, end_in_runtime_array, has_runtime_layout, has_layout, Tail, tail_at, tail_of, last_tail, layout_len, at_least_one, count_in, elements, last_elements, runtime_count, are_attributes_valid, count_with, length_with}
+use Rattle.wgsl_rules.specs.Layout.{size, stride, amount, has_fixed_layout, have_fixed_layouts, is_runtime_array, end_in_runtime_array, has_runtime_layout, has_layout, Tail, tail_at, tail_of, last_tail, layout_len, at_least_one, count_in, elements, last_elements, runtime_count, count_with, length_with}
+use Rattle.wgsl_store.proofs.lemmas.Fixed.{first-fixed, last-runtime}
 use Rattle.wgsl_store.proofs.lemmas.Known.{and-both}
-use Rattle.wgsl_store.proofs.lemmas.Tidy.{fixed-length, length-fixed, last-runtime}
+use Rattle.wgsl_store.proofs.lemmas.Tidy.{fixed-length, length-fixed}
 
 -- ---- no elements in a value of a fixed layout
 
@@ -25,9 +26,8 @@ last-fixed no_fields no_vals m e a h = e
 last-fixed no_fields (val v vs) m e a h = absurd a
 last-fixed (field name t s g fs) no_vals m e a h = absurd a
 last-fixed (field name t s g fs) (val v vs) m e a h =
-    let both = and-both (has_fixed_layout t && are_attributes_valid t s g) (have_fixed_layouts fs) h in
-    let fixed = (and-both (has_fixed_layout t) (are_attributes_valid t s g) both.0).0 in
-    last-fixed fs vs (elements v) (elements-fixed v (ap has_fixed_layout a.0 ∙ fixed)) a.1 both.1
+    let made = first-fixed t s g (have_fixed_layouts fs) h in
+    last-fixed fs vs (elements v) (elements-fixed v (ap has_fixed_layout a.0 ∙ made.fixed)) a.1 made.rest
 
 pub count-fixed : (v : Val) → IsStorable v → has_fixed_layout (type_of v) ≡ true → runtime_count v ≡ 0
 count-fixed (record_of (struct name fs) vs) s h = last-fixed fs vs 0 refl s.0 (and-both (have_fixed_layouts fs) (is_some (size_of (struct name fs))) h).0
@@ -75,8 +75,8 @@ last-some (field name t z g no_fields) (val v no_vals) m from a s h =
     elements-some v s.0 (ap is_runtime_array a.0 ∙ runtime)
 last-some (field name t z g no_fields) (val v (val w vs)) m from a s h = absurd (a.1)
 last-some (field name t z g (field n u y k fs)) (val v vs) m from a s h =
-    let both = and-both (has_fixed_layout t && are_attributes_valid t z g) (end_in_runtime_array (end_after from (extent_in t z g)) (field n u y k fs)) h in
-    last-some (field n u y k fs) vs (elements v) (end_after from (extent_in t z g)) a.1 s.1 both.1
+    let made = first-fixed t z g (end_in_runtime_array (end_after from (extent_in t z g)) (field n u y k fs)) h in
+    last-some (field n u y k fs) vs (elements v) (end_after from (extent_in t z g)) a.1 s.1 made.rest
 
 pub count-some : (v : Val) → IsStorable v → has_runtime_layout (type_of v) ≡ true → 1 ≤ runtime_count v
 count-some (truth b) s h = absurd (false≢true h)
@@ -102,8 +102,8 @@ last-there (field name t z g no_fields) from found h = by t (last-runtime t z g 
     by (array u None) h = refl
     by u h = absurd (false≢true h)
 last-there (field name t z g (field n u y k fs)) from found h =
-    let both = and-both (has_fixed_layout t && are_attributes_valid t z g) (end_in_runtime_array (end_after from (extent_in t z g)) (field n u y k fs)) h in
-    last-there (field n u y k fs) (end_after from (extent_in t z g)) (tail_at (amount (offset_after from (extent_in t z g))) t) both.1
+    let made = first-fixed t z g (end_in_runtime_array (end_after from (extent_in t z g)) (field n u y k fs)) h in
+    last-there (field n u y k fs) (end_after from (extent_in t z g)) (tail_at (amount (offset_after from (extent_in t z g))) t) made.rest
 
 pub tail-there : (t : Ty) → has_runtime_layout t ≡ true → is_some (tail_of t) ≡ true
 tail-there (struct name fs) h = last-there fs (Some 0) None h

@@ -1,6 +1,6 @@
 -- What is decoded may be stored, is of the type, and is laid out in the bytes: decoding is reading.
 use Rattle.std.proofs.Common.{◌≡◌, ℕ, zero, suc, ◌+◌, ◌-◌, ◌/◌, ◌≤◌, ℤ, pos, List, [], ◌∷◌, ◌++◌, map, length, Option, Some, None, is_some, option_map, option_and_then, Bool, true, false, if◌then◌else◌, refl, sym, ap, ◌∙◌, subst, arith}
-use Rattle.std.specs.Prelude.{nat_le, ◌&&◌, ◌||◌}
+use Rattle.std.specs.Prelude.{nat_le, ◌||◌}
 use Rattle.std.proofs.lemmas.Bool.{false≢true}
 use Rattle.std.proofs.lemmas.Bool.Decides.{nat_tests}
 use Rattle.std.proofs.lemmas.Int.{ints}
@@ -11,11 +11,12 @@ use Rattle.wgsl_rules.specs.Types.{Ty, struct, array, vec, mat, atomic, Fields, 
 use Rattle.wgsl_rules.specs.Values.{Val, array_of, Vals, no_vals, val, count, item, type_of, first_type, matrix_type, array_type, AllOfType, HaveTypes, AreLiterals, AreVectors, IsStorable, AreStorable}
 use Rattle.wgsl_rules.specs.Paths.{parts, value_at}
 use Rattle.wgsl_rules.specs.Size.{size_of, offset_after, end_after, extent_in}
-use Rattle.wgsl_rules.specs.Layout.{size, align, stride, amount, scalar_kind, is_from_2_to_4, has_fixed_layout, have_fixed_layouts, is_runtime_array, end_in_runtime_array, has_runtime_layout, has_layout, known_stride, Tail, tail_of, at_least_one, count_in, layout_of, runtime_count, elements, last_elements, leaf, atomic_kind, Leaf, under, leaves, part_leaves, Layout, scalar, composite, Parts, no_parts, part, repeated, layout, member_parts, are_attributes_valid, count_with}
+use Rattle.wgsl_rules.specs.Layout.{size, align, stride, amount, scalar_kind, is_from_2_to_4, has_fixed_layout, have_fixed_layouts, is_runtime_array, end_in_runtime_array, has_runtime_layout, has_layout, known_stride, Tail, tail_of, at_least_one, count_in, layout_of, runtime_count, elements, last_elements, leaf, atomic_kind, Leaf, under, leaves, part_leaves, Layout, scalar, composite, Parts, no_parts, part, repeated, layout, member_parts, count_with}
 use Rattle.wgsl_store.specs.Buffers.{number_from, number_of, number_at, Reads, Lays, IsReadOf, decode, read_number, made_of_parts, decoded, decoded_parts}
 use Rattle.wgsl_store.specs.Laws.{DecodingIsReading}
+use Rattle.wgsl_store.proofs.lemmas.Fixed.{first-fixed, fixed-array, fixed-mat, last-runtime}
 use Rattle.wgsl_store.proofs.lemmas.Known.{and-both, some-of}
-use Rattle.wgsl_store.proofs.lemmas.Tidy.{fixed-length, last-runtime}
+use Rattle.wgsl_store.proofs.lemmas.Tidy.{fixed-length}
 use Rattle.wgsl_store.proofs.lemmas.Counts.{count-fixed, tail-there}
 use Rattle.wgsl_store.proofs.lemmas.Compose.{ReadsFrom, number-made, laid-decodes, laid-once}
 
@@ -120,14 +121,11 @@ mutual
   fixed-good (atomic t) n o b h = absurd (false≢true h)
   fixed-good (vec k t) n o b h = let both = and-both (is_from_2_to_4 k) (is_some (scalar_kind t)) h in vector-good k n t o b both.0 both.1
   fixed-good (mat c r t) n o b h =
-      let one = and-both (is_from_2_to_4 c) (is_from_2_to_4 r && (is_some (scalar_kind t) && is_some (size_of (mat c r t)))) h in
-      let two = and-both (is_from_2_to_4 r) (is_some (scalar_kind t) && is_some (size_of (mat c r t))) one.1 in
-      let three = and-both (is_some (scalar_kind t)) (is_some (size_of (mat c r t))) two.1 in
-      matrix-good c r n t o b one.0 two.0 three.0
+      let made = fixed-mat c r t h in
+      matrix-good c r n t o b made.columns made.rows made.scalar
   fixed-good (array t (Some k)) n o b h =
-      let one = and-both (nat_le 1 k) (has_fixed_layout t && is_some (size_of (array t (Some k)))) h in
-      let two = and-both (has_fixed_layout t) (is_some (size_of (array t (Some k)))) one.1 in
-      array-good false k n t o b (stride t) (let f = one.0 in grind (arith, nat_tests)) (λ o. fixed-good t n o b two.0)
+      let made = fixed-array k t h in
+      array-good false k n t o b (stride t) (let f = made.count in grind (arith, nat_tests)) (λ o. fixed-good t n o b made.element)
   fixed-good (array t None) n o b h = absurd (false≢true h)
   fixed-good (struct name fs) n o b h =
       let both = and-both (have_fixed_layouts fs) (is_some (size_of (struct name fs))) h in
@@ -138,10 +136,9 @@ mutual
       → HaveTypes fs (decoded_parts b o (member_parts n from fs)) × AreStorable (decoded_parts b o (member_parts n from fs))
   fields-good no_fields n o b from h = (tt, tt)
   fields-good (field name t s a fs) n o b from h =
-      let both = and-both (has_fixed_layout t && are_attributes_valid t s a) (have_fixed_layouts fs) h in
-      let fixed = (and-both (has_fixed_layout t) (are_attributes_valid t s a) both.0).0 in
-      let one = fixed-good t n (o + amount (offset_after from (extent_in t s a))) b fixed in
-      let rest = fields-good fs n o b (end_after from (extent_in t s a)) both.1 in
+      let made = first-fixed t s a (have_fixed_layouts fs) h in
+      let one = fixed-good t n (o + amount (offset_after from (extent_in t s a))) b made.fixed in
+      let rest = fields-good fs n o b (end_after from (extent_in t s a)) made.rest in
       ((one.1, rest.0), (one.0, rest.1))
 
 -- ---- layouts that are or end in a runtime-sized array
@@ -167,10 +164,9 @@ fields-open (field name t z g no_fields) n m o b from h one =
     let last = elements-good t n (o + amount (offset_after from (extent_in t z g))) b runtime one in
     ((last.0.1, tt), (last.0.0, tt), last.1)
 fields-open (field name t z g (field k u y a fs)) n m o b from h one =
-    let both = and-both (has_fixed_layout t && are_attributes_valid t z g) (end_in_runtime_array (end_after from (extent_in t z g)) (field k u y a fs)) h in
-    let fixed = (and-both (has_fixed_layout t) (are_attributes_valid t z g) both.0).0 in
-    let first = fixed-good t n (o + amount (offset_after from (extent_in t z g))) b fixed in
-    let rest = fields-open (field k u y a fs) n (elements (decoded b (o + amount (offset_after from (extent_in t z g))) (layout n t))) o b (end_after from (extent_in t z g)) both.1 one in
+    let made = first-fixed t z g (end_in_runtime_array (end_after from (extent_in t z g)) (field k u y a fs)) h in
+    let first = fixed-good t n (o + amount (offset_after from (extent_in t z g))) b made.fixed in
+    let rest = fields-open (field k u y a fs) n (elements (decoded b (o + amount (offset_after from (extent_in t z g))) (layout n t))) o b (end_after from (extent_in t z g)) made.rest one in
     ((first.1, rest.0), (first.0, rest.1), rest.2)
 
 runtime-good : (t : Ty) (n o : ℕ) (b : List ℕ) → has_runtime_layout t ≡ true → 1 ≤ n → IsCounted t n (decoded b o (layout n t))
@@ -214,14 +210,11 @@ mutual
   fixed-shaped (atomic t) n h = atomic-shaped (atomic t) (atomic_kind t) h
   fixed-shaped (vec k t) n h = (λ vs. refl, shaped-repeated (layout n t) (size t) 0 k (scalar-shaped t n (and-both (is_from_2_to_4 k) (is_some (scalar_kind t)) h).1))
   fixed-shaped (mat c r t) n h =
-      let one = and-both (is_from_2_to_4 c) (is_from_2_to_4 r && (is_some (scalar_kind t) && is_some (size_of (mat c r t)))) h in
-      let two = and-both (is_from_2_to_4 r) (is_some (scalar_kind t) && is_some (size_of (mat c r t))) one.1 in
-      let three = and-both (is_some (scalar_kind t)) (is_some (size_of (mat c r t))) two.1 in
-      (λ vs. refl, shaped-repeated (layout n (vec r t)) (align (vec r t)) 0 c (λ vs. refl, shaped-repeated (layout n t) (size t) 0 r (scalar-shaped t n three.0)))
+      let made = fixed-mat c r t h in
+      (λ vs. refl, shaped-repeated (layout n (vec r t)) (align (vec r t)) 0 c (λ vs. refl, shaped-repeated (layout n t) (size t) 0 r (scalar-shaped t n made.scalar)))
   fixed-shaped (array t (Some k)) n h =
-      let one = and-both (nat_le 1 k) (has_fixed_layout t && is_some (size_of (array t (Some k)))) h in
-      let two = and-both (has_fixed_layout t) (is_some (size_of (array t (Some k)))) one.1 in
-      (λ vs. refl, shaped-repeated (layout n t) (stride t) 0 k (fixed-shaped t n two.0))
+      let made = fixed-array k t h in
+      (λ vs. refl, shaped-repeated (layout n t) (stride t) 0 k (fixed-shaped t n made.element))
   fixed-shaped (array t None) n h = absurd (false≢true h)
   fixed-shaped (struct name fs) n h = (λ vs. refl, fields-shaped fs n (Some 0) (and-both (have_fixed_layouts fs) (is_some (size_of (struct name fs))) h).0)
   fixed-shaped t n h = absurd (false≢true h)
@@ -229,9 +222,8 @@ mutual
   fields-shaped : (fs : Fields) (n : ℕ) (from : Option ℕ) → have_fixed_layouts fs ≡ true → AreShaped (member_parts n from fs)
   fields-shaped no_fields n from h = tt
   fields-shaped (field name t s a fs) n from h =
-      let both = and-both (has_fixed_layout t && are_attributes_valid t s a) (have_fixed_layouts fs) h in
-      let fixed = (and-both (has_fixed_layout t) (are_attributes_valid t s a) both.0).0 in
-      (fixed-shaped t n fixed, fields-shaped fs n (end_after from (extent_in t s a)) both.1)
+      let made = first-fixed t s a (have_fixed_layouts fs) h in
+      (fixed-shaped t n made.fixed, fields-shaped fs n (end_after from (extent_in t s a)) made.rest)
 
 array-shaped : (t : Ty) (n : ℕ) → is_runtime_array t ≡ true → IsShaped (layout n t)
 array-shaped (array t None) n h = (λ vs. refl, shaped-repeated (layout n t) (stride t) 0 n (fixed-shaped t n (and-both (has_fixed_layout t) (is_some (known_stride t)) h).0))
@@ -242,9 +234,8 @@ open-shaped no_fields n from h = absurd (false≢true h)
 open-shaped (field name t z g no_fields) n from h =
     (array-shaped t n (last-runtime t z g from h).0, tt)
 open-shaped (field name t z g (field k u y a fs)) n from h =
-    let both = and-both (has_fixed_layout t && are_attributes_valid t z g) (end_in_runtime_array (end_after from (extent_in t z g)) (field k u y a fs)) h in
-    let fixed = (and-both (has_fixed_layout t) (are_attributes_valid t z g) both.0).0 in
-    (fixed-shaped t n fixed, open-shaped (field k u y a fs) n (end_after from (extent_in t z g)) both.1)
+    let made = first-fixed t z g (end_in_runtime_array (end_after from (extent_in t z g)) (field k u y a fs)) h in
+    (fixed-shaped t n made.fixed, open-shaped (field k u y a fs) n (end_after from (extent_in t z g)) made.rest)
 
 runtime-shaped : (t : Ty) (n : ℕ) → has_runtime_layout t ≡ true → IsShaped (layout n t)
 runtime-shaped (struct name fs) n h = (λ vs. refl, open-shaped fs n (Some 0) h)

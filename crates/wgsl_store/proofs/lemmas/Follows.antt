@@ -1,6 +1,6 @@
 -- A value follows the layout of its type: its parts are those that the layout places.
 use Rattle.std.proofs.Common.{◌≡◌, ℕ, zero, suc, ◌+◌, ◌≤◌, ℤ, List, [], ◌∷◌, Option, Some, None, is_some, option_map, option_and_then, Bool, true, false, refl, sym, ap, ◌∙◌, subst, arith}
-use Rattle.std.specs.Prelude.{nat_le, ◌&&◌, ◌||◌}
+use Rattle.std.specs.Prelude.{◌&&◌, ◌||◌}
 use Rattle.std.proofs.lemmas.Bool.{false≢true}
 use Rattle.wgsl_rules.specs.Kinds as kinds
 use Rattle.wgsl_rules.specs.Kinds.{Kind, InKind}
@@ -10,11 +10,12 @@ use Rattle.wgsl_rules.specs.Values as values
 use Rattle.wgsl_rules.specs.Values.{Val, truth, number, record_of, array_of, vector, matrix, atomic_of, pointer, reference, deferred, Vals, no_vals, val, count, item, type_of, first_type, matrix_type, AllOfType, HaveTypes, AreVectors, IsStorable, AreStorable}
 use Rattle.wgsl_rules.specs.Paths.{parts, value_at}
 use Rattle.wgsl_rules.specs.Size.{size_of, end_after, offset_after, extent_in}
-use Rattle.wgsl_rules.specs.Layout.{size, align, stride, known_stride, scalar_kind, is_from_2_to_4, has_fixed_layout, have_fixed_layouts, is_runtime_array, end_in_runtime_array, has_runtime_layout, has_layout, amount, layout_len, Layout, scalar, composite, Parts, no_parts, part, repeated, layout, member_parts, layout_of, runtime_count, elements, last_elements, are_attributes_valid}
+use Rattle.wgsl_rules.specs.Layout.{size, align, stride, known_stride, scalar_kind, is_from_2_to_4, has_fixed_layout, have_fixed_layouts, is_runtime_array, end_in_runtime_array, has_runtime_layout, has_layout, amount, layout_len, Layout, scalar, composite, Parts, no_parts, part, repeated, layout, member_parts, layout_of, runtime_count, elements, last_elements}
 use Rattle.wgsl_store.specs.Buffers.{made_of_number, made_of_parts}
 use Rattle.wgsl_store.specs.Ranges.{Range, further, part_at, parts_in, range_in}
+use Rattle.wgsl_store.proofs.lemmas.Fixed.{first-fixed, fixed-array, fixed-mat, last-runtime}
 use Rattle.wgsl_store.proofs.lemmas.Known.{and-both}
-use Rattle.wgsl_store.proofs.lemmas.Tidy.{fixed-length, length-fixed, last-runtime}
+use Rattle.wgsl_store.proofs.lemmas.Tidy.{fixed-length, length-fixed}
 
 -- ---- the count does not show in a fixed layout
 
@@ -35,14 +36,11 @@ mutual
   pub layout-any : (t : Ty) (n m : ℕ) → has_fixed_layout t ≡ true → layout n t ≡ layout m t
   layout-any (vec k t) n m h = ap (λ (l : Layout). composite (vec k t) (size (vec k t)) (repeated l (size t) 0 k)) (scalar-any t n m (and-both (is_from_2_to_4 k) (is_some (scalar_kind t)) h).1)
   layout-any (mat c r t) n m h =
-      let one = and-both (is_from_2_to_4 c) (is_from_2_to_4 r && (is_some (scalar_kind t) && is_some (size_of (mat c r t)))) h in
-      let two = and-both (is_from_2_to_4 r) (is_some (scalar_kind t) && is_some (size_of (mat c r t))) one.1 in
-      let three = and-both (is_some (scalar_kind t)) (is_some (size_of (mat c r t))) two.1 in
-      ap (λ (l : Layout). composite (mat c r t) (size (mat c r t)) (repeated (composite (vec r t) (size (vec r t)) (repeated l (size t) 0 r)) (align (vec r t)) 0 c)) (scalar-any t n m three.0)
+      let made = fixed-mat c r t h in
+      ap (λ (l : Layout). composite (mat c r t) (size (mat c r t)) (repeated (composite (vec r t) (size (vec r t)) (repeated l (size t) 0 r)) (align (vec r t)) 0 c)) (scalar-any t n m made.scalar)
   layout-any (array t (Some k)) n m h =
-      let one = and-both (nat_le 1 k) (has_fixed_layout t && is_some (size_of (array t (Some k)))) h in
-      let two = and-both (has_fixed_layout t) (is_some (size_of (array t (Some k)))) one.1 in
-      ap (λ (l : Layout). composite (array t (Some k)) (size (array t (Some k))) (repeated l (stride t) 0 k)) (layout-any t n m two.0)
+      let made = fixed-array k t h in
+      ap (λ (l : Layout). composite (array t (Some k)) (size (array t (Some k))) (repeated l (stride t) 0 k)) (layout-any t n m made.element)
   layout-any (array t None) n m h = absurd (false≢true h)
   layout-any (struct name fs) n m h =
       let both = and-both (have_fixed_layouts fs) (is_some (size_of (struct name fs))) h in
@@ -53,10 +51,9 @@ mutual
   members-any : (fs : Fields) (n m : ℕ) (from : Option ℕ) → have_fixed_layouts fs ≡ true → member_parts n from fs ≡ member_parts m from fs
   members-any no_fields n m from h = refl
   members-any (field name t s a fs) n m from h =
-      let both = and-both (has_fixed_layout t && are_attributes_valid t s a) (have_fixed_layouts fs) h in
-      let fixed = and-both (has_fixed_layout t) (are_attributes_valid t s a) both.0 in
-      ap (λ (l : Layout). part (amount (offset_after from (extent_in t s a))) l (member_parts n (end_after from (extent_in t s a)) fs)) (layout-any t n m fixed.0)
-      ∙ ap (λ (ps : Parts). part (amount (offset_after from (extent_in t s a))) (layout m t) ps) (members-any fs n m (end_after from (extent_in t s a)) both.1)
+      let made = first-fixed t s a (have_fixed_layouts fs) h in
+      ap (λ (l : Layout). part (amount (offset_after from (extent_in t s a))) l (member_parts n (end_after from (extent_in t s a)) fs)) (layout-any t n m made.fixed)
+      ∙ ap (λ (ps : Parts). part (amount (offset_after from (extent_in t s a))) (layout m t) ps) (members-any fs n m (end_after from (extent_in t s a)) made.rest)
 
 -- ---- values that follow a layout
 
@@ -96,10 +93,8 @@ vectors-first (val v vs) le h = absurd (h.0)
 matrix-follows : (n c : ℕ) (u : Ty) (vs : Vals) (r : ℕ) (t : Ty) → u ≡ vec r t → has_fixed_layout (matrix_type c u) ≡ true
     → (has_fixed_layout u ≡ true → FollowAll (repeated (layout n u) (align u) 0 c) vs) → Follows (layout n (matrix_type c u)) (matrix vs)
 matrix-follows n c (vec k s) vs r t e h f =
-    let one = and-both (is_from_2_to_4 c) (is_from_2_to_4 k && (is_some (scalar_kind s) && is_some (size_of (mat c k s)))) h in
-    let two = and-both (is_from_2_to_4 k) (is_some (scalar_kind s) && is_some (size_of (mat c k s))) one.1 in
-    let three = and-both (is_some (scalar_kind s)) (is_some (size_of (mat c k s))) two.1 in
-    (refl, f (ap (λ (b : Bool). b && is_some (scalar_kind s)) two.0 ∙ three.0))
+    let made = fixed-mat c k s h in
+    (refl, f (ap (λ (b : Bool). b && is_some (scalar_kind s)) made.rows ∙ made.scalar))
 matrix-follows n c u vs r t e h f = absurd (cc)
 
 mutual
@@ -116,9 +111,8 @@ mutual
   follows-fixed (record_of t vs) n s h = absurd (s.0)
   follows-fixed (array_of true vs) n s h = absurd (false≢true h)
   follows-fixed (array_of false vs) n s h =
-      let one = and-both (nat_le 1 (count vs)) (has_fixed_layout (first_type vs) && is_some (size_of (array (first_type vs) (Some (count vs))))) h in
-      let two = and-both (has_fixed_layout (first_type vs)) (is_some (size_of (array (first_type vs) (Some (count vs))))) one.1 in
-      (refl, follow-all vs (first_type vs) n (stride (first_type vs)) 0 two.0 s.1 s.2)
+      let made = fixed-array (count vs) (first_type vs) h in
+      (refl, follow-all vs (first_type vs) n (stride (first_type vs)) 0 made.element s.1 s.2)
   follows-fixed (vector vs) n s h =
       let both = and-both (is_from_2_to_4 (count vs)) (is_some (scalar_kind (first_type vs))) h in
       (refl, follow-all vs (first_type vs) n (size (first_type vs)) 0 (scalar-fixed (first_type vs) both.1) s.3 s.4)
@@ -137,11 +131,10 @@ mutual
   follow-members no_vals (field name t sz a fs) n from e s h = absurd e
   follow-members (val v vs) no_fields n from e s h = absurd e
   follow-members (val v vs) (field name t sz a fs) n from e s h =
-      let both = and-both (has_fixed_layout t && are_attributes_valid t sz a) (have_fixed_layouts fs) h in
-      let fixed = (and-both (has_fixed_layout t) (are_attributes_valid t sz a) both.0).0 in (
-        own-fixed n t v fixed e.0,
-        subst (λ (u : Ty). Follows (layout n u) v) e.0 (follows-fixed v n s.0 (ap has_fixed_layout e.0 ∙ fixed)),
-        follow-members vs fs n (end_after from (extent_in t sz a)) e.1 s.1 both.1,
+      let made = first-fixed t sz a (have_fixed_layouts fs) h in (
+        own-fixed n t v made.fixed e.0,
+        subst (λ (u : Ty). Follows (layout n u) v) e.0 (follows-fixed v n s.0 (ap has_fixed_layout e.0 ∙ made.fixed)),
+        follow-members vs fs n (end_after from (extent_in t sz a)) e.1 s.1 made.rest,
       )
 
   pub follow-all : (vs : Vals) (t : Ty) (n stride from : ℕ) → has_fixed_layout t ≡ true → AllOfType t vs → AreStorable vs → FollowAll (repeated (layout n t) stride from (count vs)) vs
@@ -213,11 +206,10 @@ follow-open (field name t sz a no_fields) (val v no_vals) n k from e s h c =
     subst (λ (m : ℕ). IsOwn (layout m t) v × Follows (layout m t) v × Unit {0}) (sym c) (last.0, last.1, tt)
 follow-open (field name t sz a no_fields) (val v (val w vs)) n k from e s h c = absurd (e.1)
 follow-open (field name t sz a (field m u z b fs)) (val v vs) n k from e s h c =
-    let both = and-both (has_fixed_layout t && are_attributes_valid t sz a) (end_in_runtime_array (end_after from (extent_in t sz a)) (field m u z b fs)) h in
-    let fixed = (and-both (has_fixed_layout t) (are_attributes_valid t sz a) both.0).0 in (
-      own-fixed n t v fixed e.0,
-      subst (λ (q : Ty). Follows (layout n q) v) e.0 (follows-fixed v n s.0 (ap has_fixed_layout e.0 ∙ fixed)),
-      follow-open (field m u z b fs) vs n (elements v) (end_after from (extent_in t sz a)) e.1 s.1 both.1 c,
+    let made = first-fixed t sz a (end_in_runtime_array (end_after from (extent_in t sz a)) (field m u z b fs)) h in (
+      own-fixed n t v made.fixed e.0,
+      subst (λ (q : Ty). Follows (layout n q) v) e.0 (follows-fixed v n s.0 (ap has_fixed_layout e.0 ∙ made.fixed)),
+      follow-open (field m u z b fs) vs n (elements v) (end_after from (extent_in t sz a)) e.1 s.1 made.rest c,
     )
 
 follows-runtime : (v : Val) → IsStorable v → has_runtime_layout (type_of v) ≡ true → Follows (layout_of v) v

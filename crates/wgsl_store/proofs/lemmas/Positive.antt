@@ -1,6 +1,6 @@
 -- A fixed layout has a size of one byte at least, and so has the stride of a runtime-sized array.
 use Rattle.std.proofs.Common.{◌≡◌, ℕ, ◌*◌, ◌<◌, ◌≤◌, List, [], ◌∷◌, Option, Some, None, is_some, Bool, true, false, refl, sym, ap, ◌∙◌, subst, arith}
-use Rattle.std.specs.Prelude.{nat_le, ◌&&◌, ◌||◌, MatchOption, ⊤}
+use Rattle.std.specs.Prelude.{◌||◌, MatchOption, ⊤}
 use Rattle.std.proofs.lemmas.Bool.{false≢true}
 use Rattle.std.proofs.lemmas.Bool.Decides.{nat_tests}
 use Rattle.wgsl_rules.specs.Kinds as kinds
@@ -8,9 +8,10 @@ use Rattle.wgsl_rules.specs.Kinds.{Kind, bytes_of}
 use Rattle.wgsl_rules.specs.Types as types
 use Rattle.wgsl_rules.specs.Types.{Ty, struct, array, vec, mat, atomic, Fields, no_fields, field}
 use Rattle.wgsl_rules.specs.Size.{size_of, align_of, round_up, Extent, offset_after, end_after, end_of_members, extents, struct_align, extent_in}
-use Rattle.wgsl_rules.specs.Layout.{amount, size, known_stride, stride, scalar_kind, is_from_2_to_4, is_size_valid, is_align_valid, has_fixed_layout, have_fixed_layouts, is_runtime_array, end_in_runtime_array, has_runtime_layout, has_layout, Tail, tail_at, tail_of, last_tail, length_in, layout, are_attributes_valid}
+use Rattle.wgsl_rules.specs.Layout.{amount, size, known_stride, stride, scalar_kind, is_from_2_to_4, has_fixed_layout, have_fixed_layouts, is_runtime_array, end_in_runtime_array, has_runtime_layout, has_layout, Tail, tail_at, tail_of, last_tail, length_in, layout}
+use Rattle.wgsl_store.proofs.lemmas.Fixed.{first-fixed, fixed-array, fixed-mat, last-runtime}
 use Rattle.wgsl_store.proofs.lemmas.Known.{and-both, some-of, both-known, times-known, rounded-known, stride-known, end-known, ends-known}
-use Rattle.wgsl_store.proofs.lemmas.Tidy.{scalar-is, vector-is, attribute-holds, fixed-length, fixed-tidy, last-runtime}
+use Rattle.wgsl_store.proofs.lemmas.Tidy.{scalar-is, vector-is, attribute-holds, fixed-length, fixed-tidy}
 
 some-is : (a b : ℕ) → ◌≡◌ {A = Option ℕ} (Some a) (Some b) → a ≡ b
 some-is a b e = cc
@@ -64,24 +65,21 @@ positive (vec k t) s h e =
     let both = and-both (is_from_2_to_4 k) (is_some (scalar_kind t)) h in
     vector-positive 0 k t s both.0 both.1 e
 positive (mat c r t) s h e =
-    let one = and-both (is_from_2_to_4 c) (is_from_2_to_4 r && (is_some (scalar_kind t) && is_some (size_of (mat c r t)))) h in
-    let two = and-both (is_from_2_to_4 r) (is_some (scalar_kind t) && is_some (size_of (mat c r t))) one.1 in
-    let three = and-both (is_some (scalar_kind t)) (is_some (size_of (mat c r t))) two.1 in
+    let made = fixed-mat c r t h in
     let m = times-known c (align_of (vec r t)) s e in
-    let v = vector-is 0 r t two.0 three.0 in
-    let size_one = vector-positive 0 r t (size (vec r t)) two.0 three.0 v.sized in
+    let v = vector-is 0 r t made.rows made.scalar in
+    let size_one = vector-positive 0 r t (size (vec r t)) made.rows made.scalar v.sized in
     let le = v.below_align m.0 m.1 in
-    let p = product c m.0 (from-2 c one.0) (omega arith) in
+    let p = product c m.0 (from-2 c made.columns) (omega arith) in
     let eq = m.2 in
     omega arith
 positive (array t (Some k)) s h e =
-    let one = and-both (nat_le 1 k) (has_fixed_layout t && is_some (size_of (array t (Some k)))) h in
-    let two = and-both (has_fixed_layout t) (is_some (size_of (array t (Some k)))) one.1 in
+    let made = fixed-array k t h in
     let m = times-known k (known_stride t) s e in
     let st = stride-known (align_of t) (size_of t) m.0 m.1 in
-    let p1 = positive t st.0 two.0 st.1 in
+    let p1 = positive t st.0 made.element st.1 in
     let le = st.2 in
-    let count : 1 ≤ k = let f = one.0 in grind (arith, nat_tests) in
+    let count : 1 ≤ k = let f = made.count in grind (arith, nat_tests) in
     let p = product k m.0 count (omega arith) in
     let eq = m.2 in
     omega arith
@@ -92,17 +90,15 @@ positive (struct name no_fields) s h e =
     absurd (nothing b.1 s (rw (← zero) at b.4))
 positive (struct name (field n t sz a fs)) s h e =
     let both = and-both (have_fixed_layouts (field n t sz a fs)) (is_some (size_of (struct name (field n t sz a fs)))) h in
-    let all = and-both (has_fixed_layout t && are_attributes_valid t sz a) (have_fixed_layouts fs) both.0 in
-    let fixed = and-both (has_fixed_layout t) (are_attributes_valid t sz a) all.0 in
-    let valid = and-both (is_size_valid sz (size_of t)) (is_align_valid a (align_of t)) fixed.1 in
+    let made = first-fixed t sz a (have_fixed_layouts fs) both.0 in
     let b = both-known round_up (struct_align (extents (field n t sz a fs))) (end_of_members (Some 0) (extents (field n t sz a fs))) s e in
     let le = rounded-known b.0 b.1 s b.4 in
     let x = ends-known (end_after (Some 0) (extent_in t sz a)) (extents fs) b.1 b.3 in
     let k = end-known 0 (extent_in t sz a) x.0 x.1 in
     let rest = end-later (extents fs) x.0 b.1 (ap (λ (o : Option ℕ). end_of_members o (extents fs)) (sym x.1) ∙ b.3) in
-    let g = fixed-known t fixed.0 in
-    let own = positive t g.0 fixed.0 g.1 in
-    let less = attribute-holds sz (size_of t) g.0 k.1 valid.0 g.1 k.3 in
+    let g = fixed-known t made.fixed in
+    let own = positive t g.0 made.fixed g.1 in
+    let less = attribute-holds sz (size_of t) g.0 k.1 made.attribute g.1 k.3 in
     let eq = k.5 in
     omega arith
 positive t s h e = absurd (false≢true h)
@@ -126,7 +122,7 @@ last-stride (field name t z g no_fields) from found h =
     runtime-stride t (amount (offset_after from (extent_in t z g))) (last-runtime t z g from h).0
 last-stride (field name t z g (field n u y k fs)) from found h =
     last-stride (field n u y k fs) (end_after from (extent_in t z g)) (tail_at (amount (offset_after from (extent_in t z g))) t)
-    (and-both (has_fixed_layout t && are_attributes_valid t z g) (end_in_runtime_array (end_after from (extent_in t z g)) (field n u y k fs)) h).1
+    (first-fixed t z g (end_in_runtime_array (end_after from (extent_in t z g)) (field n u y k fs)) h).rest
 
 pub tail-stride : (t : Ty) → has_layout t ≡ true → MatchOption (tail_of t) ⊤ (λ r. 0 < stride r.element)
 tail-stride t h = by (has_fixed_layout t) refl h

@@ -1,6 +1,6 @@
 -- The parts of every layout are in order, and a fixed layout has the size of its type.
-use Rattle.std.proofs.Common.{◌≡◌, ℕ, zero, suc, ◌+◌, ◌*◌, ◌≤◌, List, Option, Some, None, is_some, is_none, IsSomeAnd, Bool, true, false, refl, sym, ap, ◌∙◌, subst, arith}
-use Rattle.std.specs.Prelude.{nat_le, ◌&&◌, ◌||◌, ◌==◌, if◌then◌else◌}
+use Rattle.std.proofs.Common.{◌≡◌, ℕ, zero, suc, ◌+◌, ◌*◌, ◌≤◌, List, Option, Some, None, is_some, IsSomeAnd, Bool, true, false, refl, sym, ap, ◌∙◌, subst, arith}
+use Rattle.std.specs.Prelude.{nat_le, ◌||◌, ◌==◌, if◌then◌else◌}
 use Rattle.std.specs.Option.{option_or}
 use Rattle.std.proofs.lemmas.Bool.{false≢true}
 use Rattle.std.proofs.lemmas.Bool.Decides.{nat_tests}
@@ -8,7 +8,8 @@ use Rattle.wgsl_rules.specs.Kinds as kinds
 use Rattle.wgsl_rules.specs.Kinds.{Kind, bytes_of}
 use Rattle.wgsl_rules.specs.Types.{Ty, i32, u32, i64, u64, struct, array, vec, mat, atomic, Fields, no_fields, field}
 use Rattle.wgsl_rules.specs.Size.{size_of, align_of, with_both, sum_of, times, vec3_align, round_up, extents, Extent, offset_after, end_after, end_of_members, struct_align, extent_in}
-use Rattle.wgsl_rules.specs.Layout.{amount, size, align, known_stride, stride, Tail, scalar_kind, atomic_kind, is_from_2_to_4, is_size_valid, is_align_valid, has_fixed_layout, have_fixed_layouts, is_runtime_array, end_in_runtime_array, has_runtime_layout, has_layout, tail_at, last_tail, tail_of, layout_len, Layout, scalar, Parts, no_parts, part, length_in, repeated, leaf, layout, member_parts, are_attributes_valid, length_with}
+use Rattle.wgsl_rules.specs.Layout.{amount, size, align, known_stride, stride, Tail, scalar_kind, atomic_kind, is_from_2_to_4, is_size_valid, has_fixed_layout, have_fixed_layouts, is_runtime_array, end_in_runtime_array, has_runtime_layout, has_layout, tail_at, last_tail, tail_of, layout_len, Layout, scalar, Parts, no_parts, part, length_in, repeated, leaf, layout, member_parts, length_with}
+use Rattle.wgsl_store.proofs.lemmas.Fixed.{first-fixed, fixed-array, fixed-mat, last-runtime}
 use Rattle.wgsl_store.proofs.lemmas.Known.{and-both, some-of, fits, both-known, times-known, rounded-known, stride-known, offset-known, end-known, ends-known}
 use Rattle.wgsl_store.proofs.lemmas.Ranges.{IsTidy, AreTidy}
 
@@ -139,10 +140,9 @@ attribute-holds (Some a) (Some b) n m h e f = let eb : b ≡ n = cc in let ea : 
 no-tail : (fs : Fields) (from : Option ℕ) → have_fixed_layouts fs ≡ true → last_tail None from fs ≡ None
 no-tail no_fields from h = refl
 no-tail (field name t s a fs) from h =
-    let both = and-both (has_fixed_layout t && are_attributes_valid t s a) (have_fixed_layouts fs) h in
-    let fixed = and-both (has_fixed_layout t) (are_attributes_valid t s a) both.0 in
-    let e = no-array t (amount (offset_after from (extent_in t s a))) fixed.0 in
-    subst (λ (o : Option Tail). last_tail o (end_after from (extent_in t s a)) fs ≡ None) (sym e) (no-tail fs (end_after from (extent_in t s a)) both.1)
+    let made = first-fixed t s a (have_fixed_layouts fs) h in
+    let e = no-array t (amount (offset_after from (extent_in t s a))) made.fixed in
+    subst (λ (o : Option Tail). last_tail o (end_after from (extent_in t s a)) fs ≡ None) (sym e) (no-tail fs (end_after from (extent_in t s a)) made.rest)
   where
     no-array : (t : Ty) (o : ℕ) → has_fixed_layout t ≡ true → tail_at o t ≡ None
     no-array (array t None) o h = absurd (false≢true h)
@@ -198,14 +198,11 @@ mutual
       let v = vector-is n k t both.0 both.1 in
       (v.tidy, v.sized)
   fixed-tidy (mat c r t) n h =
-      let one = and-both (is_from_2_to_4 c) (is_from_2_to_4 r && (is_some (scalar_kind t) && is_some (size_of (mat c r t)))) h in
-      let two = and-both (is_from_2_to_4 r) (is_some (scalar_kind t) && is_some (size_of (mat c r t))) one.1 in
-      let three = and-both (is_some (scalar_kind t)) (is_some (size_of (mat c r t))) two.1 in
-      matrix-tidy n c r t two.0 three.0 three.1
+      let made = fixed-mat c r t h in
+      matrix-tidy n c r t made.rows made.scalar made.sized
   fixed-tidy (array t (Some k)) n h =
-      let one = and-both (nat_le 1 k) (has_fixed_layout t && is_some (size_of (array t (Some k)))) h in
-      let two = and-both (has_fixed_layout t) (is_some (size_of (array t (Some k)))) one.1 in
-      array-tidy n k t (fixed-tidy t n two.0) two.1
+      let made = fixed-array k t h in
+      array-tidy n k t (fixed-tidy t n made.element) made.sized
   fixed-tidy (struct name fs) n h =
       let both = and-both (have_fixed_layouts fs) (is_some (size_of (struct name fs))) h in
       struct-tidy n name fs both.0 both.1 (λ end e. fields-tidy fs n 0 end both.0 e)
@@ -215,16 +212,14 @@ mutual
       → AreTidy from (member_parts n (Some from) fs) end
   fields-tidy no_fields n from end h e = let same : from ≡ end = cc in omega arith
   fields-tidy (field name t s a fs) n from end h e =
-      let both = and-both (has_fixed_layout t && are_attributes_valid t s a) (have_fixed_layouts fs) h in
-      let fixed = and-both (has_fixed_layout t) (are_attributes_valid t s a) both.0 in
-      let valid = and-both (is_size_valid s (size_of t)) (is_align_valid a (align_of t)) fixed.1 in
-      let is = fixed-tidy t n fixed.0 in
+      let made = first-fixed t s a (have_fixed_layouts fs) h in
+      let is = fixed-tidy t n made.fixed in
       let x = ends-known (end_after (Some from) (extent_in t s a)) (extents fs) end e in
       let k = end-known from (extent_in t s a) x.0 x.1 in
-      let less = attribute-holds s (size_of t) (length_in (layout n t)) k.1 valid.0 is.1 k.3 in
+      let less = attribute-holds s (size_of t) (length_in (layout n t)) k.1 made.attribute is.1 k.3 in
       let ends : end_of_members (Some x.0) (extents fs) ≡ Some end = subst (λ (o : Option ℕ). end_of_members o (extents fs) ≡ Some end) x.1 e in
       member-tidy n from k.0 x.0 end (offset_after (Some from) (extent_in t s a)) (end_after (Some from) (extent_in t s a)) (layout n t) fs k.2 x.1 k.4 is.0 (omega (arith, k.5))
-      (fields-tidy fs n x.0 end both.1 ends)
+      (fields-tidy fs n x.0 end made.rest ends)
 
 -- ---- layouts that are or end in a runtime-sized array
 
@@ -238,21 +233,14 @@ offset-none m = by m.align
 end-none : (m : Extent) → end_after None m ≡ None
 end-none m = ap (λ (o : Option ℕ). with_both sum_of o m.size) (offset-none m)
 
--- a last member that is a runtime-sized array
-pub last-runtime : (t : Ty) (s a from : Option ℕ) → (is_runtime_array t && (is_none s && is_align_valid a (align_of t)) && is_some (offset_after from (extent_in t s a))) ≡ true
-    → (is_runtime_array t ≡ true) × (is_some (offset_after from (extent_in t s a)) ≡ true)
-last-runtime t s a from h =
-    let both = and-both (is_runtime_array t && (is_none s && is_align_valid a (align_of t))) (is_some (offset_after from (extent_in t s a))) h in
-    ((and-both (is_runtime_array t) (is_none s && is_align_valid a (align_of t)) both.0).0, both.1)
-
 -- where what is in front has no known end, so has what follows
 open-known : (fs : Fields) → end_in_runtime_array None fs ≡ true → ⊥
 open-known no_fields h = false≢true h
 open-known (field name t s a no_fields) h =
     false≢true (ap (λ (o : Option ℕ). is_some o) (sym (offset-none (extent_in t s a))) ∙ (last-runtime t s a None h).1)
 open-known (field name t s a (field m u z b fs)) h =
-    let both = and-both (has_fixed_layout t && are_attributes_valid t s a) (end_in_runtime_array (end_after None (extent_in t s a)) (field m u z b fs)) h in
-    open-known (field m u z b fs) (ap (λ (o : Option ℕ). end_in_runtime_array o (field m u z b fs)) (sym (end-none (extent_in t s a))) ∙ both.1)
+    let made = first-fixed t s a (end_in_runtime_array (end_after None (extent_in t s a)) (field m u z b fs)) h in
+    open-known (field m u z b fs) (ap (λ (o : Option ℕ). end_in_runtime_array o (field m u z b fs)) (sym (end-none (extent_in t s a))) ∙ made.rest)
 
 open-from : (o : Option ℕ) (fs : Fields) → end_in_runtime_array o fs ≡ true → (x : ℕ) × (o ≡ Some x)
 open-from None fs h = absurd (open-known fs h)
@@ -296,15 +284,13 @@ open-tidy (field name t s a no_fields) n from found h =
     let o = some-of (offset_after (Some from) (extent_in t s a)) one.1 in
     last-open t n from o.0 (offset_after (Some from) (extent_in t s a)) one.0 o.1 (offset-known from (extent_in t s a) o.0 o.1)
 open-tidy (field name t s a (field m u z b fs)) n from found h =
-    let both = and-both (has_fixed_layout t && are_attributes_valid t s a) (end_in_runtime_array (end_after (Some from) (extent_in t s a)) (field m u z b fs)) h in
-    let fixed = and-both (has_fixed_layout t) (are_attributes_valid t s a) both.0 in
-    let valid = and-both (is_size_valid s (size_of t)) (is_align_valid a (align_of t)) fixed.1 in
-    let is = fixed-tidy t n fixed.0 in
-    let x = open-from (end_after (Some from) (extent_in t s a)) (field m u z b fs) both.1 in
+    let made = first-fixed t s a (end_in_runtime_array (end_after (Some from) (extent_in t s a)) (field m u z b fs)) h in
+    let is = fixed-tidy t n made.fixed in
+    let x = open-from (end_after (Some from) (extent_in t s a)) (field m u z b fs) made.rest in
     let k = end-known from (extent_in t s a) x.0 x.1 in
-    let less = attribute-holds s (size_of t) (length_in (layout n t)) k.1 valid.0 is.1 k.3 in
+    let less = attribute-holds s (size_of t) (length_in (layout n t)) k.1 made.attribute is.1 k.3 in
     let tail = tail_at (amount (offset_after (Some from) (extent_in t s a))) t in
-    let on = open-tidy (field m u z b fs) n x.0 tail (ap (λ (o : Option ℕ). end_in_runtime_array o (field m u z b fs)) (sym x.1) ∙ both.1) in
+    let on = open-tidy (field m u z b fs) n x.0 tail (ap (λ (o : Option ℕ). end_in_runtime_array o (field m u z b fs)) (sym x.1) ∙ made.rest) in
     joined n from k.0 x.0 tail (offset_after (Some from) (extent_in t s a)) (end_after (Some from) (extent_in t s a)) (layout n t) (field m u z b fs) k.2 x.1 k.4 is.0 (omega (arith, k.5)) on
   where
     joined : (n from o x : ℕ) (found : Option Tail) (off aft : Option ℕ) (l : Layout) (gs : Fields) → off ≡ Some o → aft ≡ Some x → from ≤ o → IsTidy l → o + length_in l ≤ x

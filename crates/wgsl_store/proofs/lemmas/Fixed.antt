@@ -1,0 +1,52 @@
+-- What a layout says of the parts of a type.
+use Rattle.std.proofs.Common.{◌≡◌, ℕ, Option, Some, is_some, is_none, Bool, true}
+use Rattle.std.specs.Prelude.{nat_le, ◌&&◌}
+use Rattle.wgsl_rules.specs.Types.{Ty, array, mat}
+use Rattle.wgsl_rules.specs.Size.{size_of, align_of, offset_after, extent_in}
+use Rattle.wgsl_rules.specs.Layout.{scalar_kind, is_from_2_to_4, is_size_valid, is_align_valid, are_attributes_valid, has_fixed_layout, is_runtime_array}
+use Rattle.wgsl_store.proofs.lemmas.Known.{and-both}
+
+pub record IsFixedMat (c r : ℕ) (t : Ty) : Type 0 where
+  pub columns : is_from_2_to_4 c ≡ true
+  pub rows : is_from_2_to_4 r ≡ true
+  pub scalar : is_some (scalar_kind t) ≡ true
+  pub sized : is_some (size_of (mat c r t)) ≡ true
+
+pub fixed-mat : (c r : ℕ) (t : Ty) → has_fixed_layout (mat c r t) ≡ true → IsFixedMat c r t
+fixed-mat c r t h =
+    let one = and-both (is_from_2_to_4 c) (is_from_2_to_4 r && (is_some (scalar_kind t) && is_some (size_of (mat c r t)))) h in
+    let two = and-both (is_from_2_to_4 r) (is_some (scalar_kind t) && is_some (size_of (mat c r t))) one.1 in
+    let three = and-both (is_some (scalar_kind t)) (is_some (size_of (mat c r t))) two.1 in
+    record { columns = one.0; rows = two.0; scalar = three.0; sized = three.1 }
+
+pub record IsFixedArray (n : ℕ) (t : Ty) : Type 0 where
+  pub count : nat_le 1 n ≡ true
+  pub element : has_fixed_layout t ≡ true
+  pub sized : is_some (size_of (array t (Some n))) ≡ true
+
+pub fixed-array : (n : ℕ) (t : Ty) → has_fixed_layout (array t (Some n)) ≡ true → IsFixedArray n t
+fixed-array n t h =
+    let one = and-both (nat_le 1 n) (has_fixed_layout t && is_some (size_of (array t (Some n)))) h in
+    let two = and-both (has_fixed_layout t) (is_some (size_of (array t (Some n)))) one.1 in
+    record { count = one.0; element = two.0; sized = two.1 }
+
+-- of a member of the type with these attributes, and of what follows it
+pub record IsFixedFirst (t : Ty) (s : Option ℕ) (follows : Bool) : Type 0 where
+  pub fixed : has_fixed_layout t ≡ true
+  pub attribute : is_size_valid s (size_of t) ≡ true
+  pub rest : follows ≡ true
+
+pub first-fixed : (t : Ty) (s a : Option ℕ) (follows : Bool) → ((has_fixed_layout t && are_attributes_valid t s a) && follows) ≡ true → IsFixedFirst t s follows
+first-fixed t s a follows h =
+    let one = and-both (has_fixed_layout t && are_attributes_valid t s a) follows h in
+    let two = and-both (has_fixed_layout t) (are_attributes_valid t s a) one.0 in
+    let three = and-both (is_size_valid s (size_of t)) (is_align_valid a (align_of t)) two.1 in
+    record { fixed = two.0; attribute = three.0; rest = one.1 }
+
+-- a last member that is a runtime-sized array
+pub last-runtime : (t : Ty) (s a from : Option ℕ) → (is_runtime_array t && (is_none s && is_align_valid a (align_of t)) && is_some (offset_after from (extent_in t s a))) ≡ true
+    → (is_runtime_array t ≡ true) × (is_some (offset_after from (extent_in t s a)) ≡ true)
+last-runtime t s a from h =
+    let one = and-both (is_runtime_array t && (is_none s && is_align_valid a (align_of t))) (is_some (offset_after from (extent_in t s a))) h in
+    let two = and-both (is_runtime_array t) (is_none s && is_align_valid a (align_of t)) one.0 in
+    (two.0, one.1)
