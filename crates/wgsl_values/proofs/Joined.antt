@@ -1,4 +1,4 @@
--- The text of the first of a list of types or template arguments, joined, and one more of them.
+-- The joined texts of the first things of a list, and of one more: types and template arguments.
 use Rattle.std.proofs.Common.{◌≡◌, ℕ, zero, suc, ◌+◌, ◌<◌, ◌==◌, false, List, [], ◌∷◌, ◌++◌, take, length, get_or, map, sym, ap, ◌∙◌, arith, append_assoc, append-nil, codes}
 use Rattle.std.proofs.lemmas.Bool.Decides.{nat_tests}
 use Rattle.std.specs.List.{flat_map, join_by}
@@ -24,7 +24,7 @@ joined-suc f view (x ∷ xs) (suc i) d h =
     rw later
     (ap (λ (t : List ℕ). f (view x) ++ t) (behind_more f view xs i d (omega arith)) ∙ sym (append_assoc (f (view x)) (flat_map (λ y. codes ", " ++ f y) (map view (take i xs))) _))
 
-joined_more : {X Y : Type 0} (f : Y → List ℕ) (view : X → Y) (xs : List X) (i : ℕ) (d : X) → i < length xs
+pub joined_more : {X Y : Type 0} (f : Y → List ℕ) (view : X → Y) (xs : List X) (i : ℕ) (d : X) → i < length xs
     → join_by f (codes ", ") (map view (take (i + 1) xs)) ≡ join_by f (codes ", ") (map view (take i xs)) ++ (text_before_item (i == 0) ++ f (view (get_or xs i d)))
 joined_more f view xs i d h =
     let next : i + 1 ≡ suc i = omega arith in

@@ -78,7 +78,8 @@ impl Display for MatInstance {
     }
 }
 
-/// The type, and the number in parentheses, as `atomic<i32>(5i)`.
+/// The type, and the number in parentheses, as `atomic<i32>(5i)`; both are empty where it holds no
+/// literal.
 impl Display for AtomicInstance {
     ghost output = { λ a. Some (text_of_value (atomic_view a)) };
 
@@ -193,14 +194,12 @@ fn write_mat<W: fmt::Write>(f: &mut fmt::Formatter<W>, value: &MatInstance) -> f
 }
 
 #[cycle(texts)]
-fn write_items<W: fmt::Write>(f: &mut fmt::Formatter<W>, items: &Vec<Instance>) -> fmt::Result
-    ensures { WritesOnOk W.write_str_gives f.old result (text_of_items (vals_view items.now.items)) f.new }
+fn write_items<W: fmt::Write>(f: &mut fmt::Formatter<W>, items: &[Instance]) -> fmt::Result
+    ensures { WritesOnOk W.write_str_gives f.old result (text_of_items (vals_view items.now)) f.new }
 {
-    let mut is_first = true;
-    'items: for item in items {
-        f.write_str(before_item(is_first))?;
+    for (i, item) in items.iter().enumerate() {
+        f.write_str(before_item(i == 0))?;
         write_value(f, item)?;
-        is_first = false;
     }
     Ok(())
 }

@@ -1,6 +1,6 @@
 use Rattle.std.proofs.Common.{arith}
 use Rattle.std.proofs.lemmas.Grind.{common_steps}
-use Rattle.wgsl_values.proofs.Texts.{text_of_struct, text_of_array, text_of_vec, text_of_mat, items_more}
+use Rattle.wgsl_values.proofs.CompositeTexts.{text_of_struct, text_of_array, text_of_vec, text_of_mat, items_more}
 use Rattle.wgsl_values.proofs.display.+texts.Goals as goal
 
 pub write_struct-returns : goal.write_struct-returns
@@ -15,5 +15,5 @@ write_vec-returns g t c = grind (arith, common_steps, text_of_vec)
 pub write_mat-returns : goal.write_mat-returns
 write_mat-returns g t c = grind (arith, common_steps, text_of_mat)
 
-pub write_items-items-preserved : goal.write_items-items-preserved
-write_items-items-preserved g t c = grind (arith, common_steps, items_more)
+pub write_items-loop-i-preserved : goal.write_items-loop-i-preserved
+write_items-loop-i-preserved g t c = grind (arith, common_steps, items_more)
