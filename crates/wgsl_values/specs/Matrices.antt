@@ -2,11 +2,12 @@
 use Rattle.std.specs.Prelude.{ℕ, zero, suc, Option, Some, None}
 use Rattle.wgsl_rules.specs.Values.{Val, vector, matrix, Vals, no_vals, val, count, item}
 use Rattle.wgsl_rules.specs.Paths.{parts}
+use Rattle.wgsl_values.specs.Parts.{components}
 
 -- how many rows a matrix of these columns has: as many as its first column has components
 abbrev pub row_count : Vals → ℕ
 row_count no_vals = 0
-row_count (val column columns) = count (parts column)
+row_count (val column columns) = count (components column)
 
 -- the values, behind the first one if it exists
 abbrev pub behind : Option Val → Vals → Vals

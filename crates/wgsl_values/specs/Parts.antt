@@ -1,6 +1,6 @@
 -- The parts of values, as the calls that look at them answer.
 use Rattle.std.specs.Prelude.{ℕ, Bool, false, Option, Some, None, option_and_then}
-use Rattle.wgsl_rules.specs.Values.{Val, record_of, array_of, vector, matrix, Vals, no_vals, val, count, item}
+use Rattle.wgsl_rules.specs.Values.{Val, record_of, array_of, vector, matrix, Vals, no_vals, item}
 
 -- ---- the composites among the values (WGSL: composite types)
 
@@ -29,11 +29,6 @@ is_runtime_sized v = false
 abbrev pub components : Val → Vals
 components (vector vs) = vs
 components v = no_vals
-
--- how many rows a matrix of these columns has: as many as its first column has components
-abbrev pub rows_of : Vals → ℕ
-rows_of no_vals = 0
-rows_of (val column columns) = count (components column)
 
 -- the component in the column and the row
 abbrev pub component_at : ℕ → ℕ → Vals → Option Val

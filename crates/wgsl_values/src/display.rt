@@ -4,7 +4,6 @@ ghost use Rattle.std.specs.Prelude.{◌≡◌, Some};
 ghost use Rattle.std.specs.Fmt.{WritesOnOk};
 ghost use Rattle.wgsl_rules.specs.Paths.{parts};
 ghost use Rattle.wgsl_rules.specs.Values.{count};
-ghost use Rattle.wgsl_values.specs.Matrices.{row_count};
 ghost use Rattle.wgsl_values.specs.Texts.{
   text_of_value,
   text_of_items,
@@ -187,7 +186,7 @@ fn write_mat<W: fmt::Write>(f: &mut fmt::Formatter<W>, value: &MatInstance) -> f
     ensures { WritesOnOk W.write_str_gives f.old result (text_of_value (mat_view value.now)) f.new }
 {
     let c = value.columns.len();
-    let r = rows(&value.columns);
+    let r = value.r();
     write!(f, "mat{c}x{r}(")?;
     write_items(f, &value.columns)?;
     f.write_str(")")
@@ -208,26 +207,4 @@ pub(crate) fn before_item(is_first: bool) -> &'static str
     ensures { result.now ≡ text_before_item is_first }
 {
     if is_first { "" } else { ", " }
-}
-
-/// How many rows a matrix of these columns has: as many as the first column has components.
-fn rows(columns: &[Instance]) -> usize
-    ensures { result ≡ row_count (vals_view columns.now) }
-{
-    match columns.first() {
-        Some(column) => part_count(column),
-        None => 0,
-    }
-}
-
-fn part_count(value: &Instance) -> usize
-    ensures { result ≡ count (parts (value_of value.now)) }
-{
-    match value {
-        Instance::Struct(s) => s.members.len(),
-        Instance::Array(a) => a.components.len(),
-        Instance::Vec(v) => v.components.len(),
-        Instance::Mat(m) => m.columns.len(),
-        _ => 0,
-    }
 }

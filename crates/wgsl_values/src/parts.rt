@@ -13,13 +13,13 @@ ghost use Rattle.wgsl_rules.specs.Values.{
 };
 ghost use Rattle.wgsl_rules.specs.View.{struct_view as struct_type_view, type_view};
 ghost use Rattle.wgsl_scalar.specs.Literals.{literal_of};
+ghost use Rattle.wgsl_values.specs.Matrices.{row_count};
 ghost use Rattle.wgsl_values.specs.Parts.{
   as_record,
   as_vector,
   component_at,
   indexed_parts,
   is_runtime_sized,
-  rows_of,
 };
 ghost use Rattle.wgsl_values.specs.View.{
   value_of,
@@ -245,7 +245,7 @@ impl Index<usize> for VecInstance {
 impl MatInstance {
     /// How many rows there are: as many as the first column has components.
     pub fn r(&self) -> usize
-        ensures { result ≡ rows_of (parts (mat_view self.now)) }
+        ensures { result ≡ row_count (parts (mat_view self.now)) }
     {
         match self.columns.first().and_then(Instance::as_vec) {
             Some(column) => column.n(),
