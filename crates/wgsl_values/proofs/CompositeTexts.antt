@@ -9,6 +9,7 @@ use Rattle.wgsl_values.specs.declared.inst.ArrayInstance.{ArrayInstance}
 use Rattle.wgsl_values.specs.declared.inst.MatInstance.{MatInstance}
 use Rattle.wgsl_values.specs.declared.inst.StructInstance.{StructInstance}
 use Rattle.wgsl_values.specs.declared.inst.VecInstance.{VecInstance}
+use Rattle.wgsl_rules.specs.Paths.{parts}
 use Rattle.wgsl_values.specs.Matrices.{row_count}
 use Rattle.wgsl_values.specs.Texts.{text_of_value, text_of_items, text_of_more_items, text_before_item}
 use Rattle.wgsl_values.specs.View.{value_of, array_view, mat_view, struct_view, vec_view, vals_view}
@@ -24,7 +25,7 @@ text_of_array a = rw (array_view-is a) refl
 pub text_of_vec : (v : VecInstance) → text_of_value (vec_view v) ≡ codes "vec" ++ (decimal (length v.components.items) ++ (codes "(" ++ (text_of_items (vals_view v.components.items) ++ codes ")")))
 text_of_vec v = rw (vec_view-is v, count-vals_view v.components.items) refl
 
-pub text_of_mat : (m : MatInstance) → text_of_value (mat_view m) ≡ codes "mat" ++ (decimal (length m.columns.items) ++ (codes "x" ++ (decimal (row_count (vals_view m.columns.items)) ++ (codes "(" ++ (text_of_items (vals_view m.columns.items) ++ codes ")")))))
+pub text_of_mat : (m : MatInstance) → text_of_value (mat_view m) ≡ codes "mat" ++ (decimal (length m.columns.items) ++ (codes "x" ++ (decimal (row_count (parts (mat_view m))) ++ (codes "(" ++ (text_of_items (vals_view m.columns.items) ++ codes ")")))))
 text_of_mat m = rw (mat_view-is m, count-vals_view m.columns.items) refl
 
 text_of_more_items-is : (vs : List Instance) → text_of_more_items (vals_view vs) ≡ flat_map (λ v. codes ", " ++ text_of_value v) (map value_of vs)

@@ -2,8 +2,6 @@
 
 ghost use Rattle.std.specs.Prelude.{◌≡◌, Some};
 ghost use Rattle.std.specs.Fmt.{WritesOnOk};
-ghost use Rattle.wgsl_rules.specs.Paths.{parts};
-ghost use Rattle.wgsl_rules.specs.Values.{count};
 ghost use Rattle.wgsl_values.specs.Texts.{
   text_of_value,
   text_of_items,
