@@ -3,8 +3,11 @@ pub mod Buffers
 pub mod Bytes
 pub mod Codes
 pub mod Conversion
+pub mod Converted
+pub mod ConvertedLaws
 pub mod Equal
 pub mod Flat
+pub mod InCommon
 pub mod Kinds
 pub mod Laws
 pub mod Layout
