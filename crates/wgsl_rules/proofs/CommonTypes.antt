@@ -6,13 +6,13 @@ use Rattle.std.proofs.lemmas.List.{get_or-drop, length-drop}
 use Rattle.std.proofs.lemmas.Slice.Eq.{bytes_eq-Decides}
 use Rattle.std.specs.List.{ends_with}
 use Rattle.wgsl_rules.specs.Access.{can_read}
-use Rattle.wgsl_rules.specs.Conversion.{rank, unequal_rank, zero_if, only_if, struct_rank, is_abstract_name, rank_from_int, rank_from_float, common_type, CommonTypeIsSymmetric, concretized, concrete_scalar}
+use Rattle.wgsl_rules.specs.Conversion.{rank, unequal_rank, zero_if, only_if, struct_rank, is_abstract_name, common_type, CommonTypeIsSymmetric, concretized}
 use Rattle.wgsl_rules.specs.Converted.{type_converted}
 use Rattle.wgsl_rules.specs.ConvertedLaws.{rank-same}
 use Rattle.wgsl_rules.specs.Equal.{same-Decides, same-equiv, number_decided}
 use Rattle.wgsl_rules.specs.InCommon.{both, both_in, in_common}
 use Rattle.wgsl_rules.specs.Same.{same, same_number}
-use Rattle.wgsl_rules.specs.Types.{Ty, abstract_int, abstract_float, struct, array, vec, mat, ref, Fields}
+use Rattle.wgsl_rules.specs.Types.{Ty, abstract_int, abstract_float, f32, struct, array, vec, mat, ref}
 use Rattle.wgsl_rules.specs.Values.{Val, deferred, type_of}
 use Rattle.wgsl_rules.specs.declared.syntax.AddressSpace.{AddressSpace}
 use Rattle.wgsl_rules.specs.declared.syntax.AccessMode.{AccessMode}
@@ -147,25 +147,44 @@ in_common-swapped f a b x y h =
     let e = both_in-swapped f a b x y (common_type (type_of a) (type_of b)) h in
     rw (common_types_commute (type_of b) (type_of a)) e
 
+-- ---- the type inside another
+
+zero_twice : (b : Bool) (o : Option ℕ) → zero_if b (zero_if b o) ≡ zero_if b o
+zero_twice true o = refl
+zero_twice false o = refl
+
+-- a test that is made twice, beside one that holds
+doubled : (b c : Bool) (o : Option ℕ) → c ≡ true → zero_if (b && c) (only_if c (zero_if b o)) ≡ zero_if b o
+doubled true true o e = refl
+doubled false true o e = refl
+doubled b false o e = cc
+
+before : (b c : Bool) (o : Option ℕ) → c ≡ true → zero_if (c && b) (only_if c (zero_if b o)) ≡ zero_if b o
+before b true o e = zero_twice b o
+before b false o e = cc
+
+pub rank-array : (s t : Ty) (n : Option ℕ) → rank (array s n) (array t n) ≡ rank s t
+rank-array s t n = doubled (same s t) (same_number n n) (unequal_rank s t) ((number_decided n n).1 refl)
+
+pub rank-vec : (s t : Ty) (n : ℕ) → rank (vec n s) (vec n t) ≡ rank s t
+rank-vec s t n = before (same s t) (n == n) (unequal_rank s t) (eq-eqb n n refl)
+
+pub rank-mat : (s t : Ty) (c r : ℕ) → rank (mat c r s) (mat c r t) ≡ rank s t
+rank-mat s t c r = rw (eq-eqb c c refl, eq-eqb r r refl) (zero_twice (same s t) (unequal_rank s t))
+
+pub ruleset inner_ranks = (rank-array, rank-vec, rank-mat)
+
 -- ---- the concrete type
-
-zero_known : (b : Bool) (o : Option ℕ) → is_some o ≡ true → is_some (zero_if b o) ≡ true
-zero_known true o h = refl
-zero_known false o h = h
-
-when : (b c : Bool) (o : Option ℕ) → c ≡ true → is_some o ≡ true → is_some (zero_if b (only_if c o)) ≡ true
-when b true o e h = zero_known b o h
-when b false o e h = cc
 
 pub concrete_rank : (t : Ty) → is_some (rank t (concretized t)) ≡ true
 concrete_rank abstract_int = refl
 concrete_rank abstract_float = refl
-concrete_rank (array t n) = when _ (same_number n n) (rank t (concretized t)) ((number_decided n n).1 refl) (concrete_rank t)
-concrete_rank (vec n t) = when _ (n == n) (rank t (concretized t)) (eq-eqb n n refl) (concrete_rank t)
-concrete_rank (mat c r abstract_int) = when _ ((c == c) && (r == r)) (Some 6) (rw (eq-eqb c c refl) (eq-eqb r r refl)) refl
-concrete_rank (mat c r abstract_float) = when _ ((c == c) && (r == r)) (Some 1) (rw (eq-eqb c c refl) (eq-eqb r r refl)) refl
+concrete_rank (array t n) = ap is_some (rank-array t (concretized t) n) ∙ concrete_rank t
+concrete_rank (vec n t) = ap is_some (rank-vec t (concretized t) n) ∙ concrete_rank t
+concrete_rank (mat c r abstract_int) = ap is_some (rank-mat abstract_int f32 c r)
+concrete_rank (mat c r abstract_float) = ap is_some (rank-mat abstract_float f32 c r)
 concrete_rank t = ap is_some (rank-same t)
 
--- a type is converted to the concrete one that it ends in
+-- a type converts to the concrete one that it ends in
 pub concretized-converts : (s t : Ty) → t ≡ concretized s → Some (deferred t) ≡ type_converted (deferred s) (concretized s)
 concretized-converts s t e = rw (concrete_rank s, e) refl

@@ -1,9 +1,10 @@
 -- What a value, or a type, is in another type (WGSL: feasible automatic conversions; conversion rank).
-use Rattle.std.specs.Prelude.{ℕ, ℤ, Bool, Option, Some, None, is_some, option_map, ◌==◌, if◌then◌else◌}
+use Rattle.std.specs.Prelude.{ℕ, ℤ, Bool, true, false, Option, Some, None, is_some, option_map, ◌==◌, if◌then◌else◌}
 use Rattle.wgsl_rules.specs.Conversion.{rank}
 use Rattle.wgsl_rules.specs.Kinds as kinds
 use Rattle.wgsl_rules.specs.Kinds.{Kind, in_kind}
 use Rattle.wgsl_rules.specs.Same.{same, same_number}
+use Rattle.wgsl_rules.specs.TypeParts.{with_inner}
 use Rattle.wgsl_rules.specs.Types as types
 use Rattle.wgsl_rules.specs.Types.{Ty}
 use Rattle.wgsl_rules.specs.Values.{Val, truth, number, array_of, vector, matrix, deferred, Vals, no_vals, val, count, type_of}
@@ -50,21 +51,19 @@ abbrev mutual
   all_converted no_vals t = Some no_vals
   all_converted (val v vs) t = joined (converted v t) (all_converted vs t)
 
--- the columns of a matrix, each scalar in the type
-abbrev pub columns_converted : Vals → Ty → Option Vals
-columns_converted no_vals t = Some no_vals
-columns_converted (val (vector us) vs) t = joined (option_map vector (all_converted us t)) (columns_converted vs t)
-columns_converted (val v vs) t = None
+-- literals, arrays, vectors and matrices
+abbrev pub has_inner : Val → Bool
+has_inner (truth b) = true
+has_inner (number k z) = true
+has_inner (array_of runtime vs) = true
+has_inner (vector vs) = true
+has_inner (matrix vs) = true
+has_inner v = false
 
--- what a value is with what is inside it in a type: each element of an array, each component of a
--- vector, each scalar of a matrix; a literal itself. No other value has an inner type to convert
+-- what a value is with the type inside its own replaced: each element of an array, each component of
+-- a vector, each scalar of a matrix is in the type; a literal itself. No other value has such a part
 abbrev pub inner_converted : Val → Ty → Option Val
-inner_converted (truth b) t = converted (truth b) t
-inner_converted (number k z) t = converted (number k z) t
-inner_converted (array_of runtime vs) t = option_map (array_of runtime) (all_converted vs t)
-inner_converted (vector vs) t = option_map vector (all_converted vs t)
-inner_converted (matrix vs) t = option_map matrix (columns_converted vs t)
-inner_converted v t = None
+inner_converted v t = if has_inner v then converted v (with_inner (type_of v) t) else None
 
 -- a type becomes each type to which it has a rank
 abbrev pub type_converted : Val → Ty → Option Val
@@ -74,7 +73,4 @@ type_converted v t = None
 -- the same of the type inside an array, vector or matrix type; any other type as a whole, so that an
 -- atomic or pointer type stays what it is
 abbrev pub type_inner_converted : Val → Ty → Option Val
-type_inner_converted (deferred (types.array s n)) t = if is_some (rank s t) then Some (deferred (types.array t n)) else None
-type_inner_converted (deferred (types.vec n s)) t = if is_some (rank s t) then Some (deferred (types.vec n t)) else None
-type_inner_converted (deferred (types.mat c r s)) t = if is_some (rank s t) then Some (deferred (types.mat c r t)) else None
-type_inner_converted v t = type_converted v t
+type_inner_converted v t = type_converted v (with_inner (type_of v) t)

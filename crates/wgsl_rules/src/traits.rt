@@ -108,9 +108,9 @@ impl Convert for Type {
     ghost use Rattle.wgsl_rules.specs.ConvertedLaws.{
       type_gives_type,
       type_gives_well_formed,
-      type_inner_gives_well_formed,
       type_keeps_own,
     };
+    ghost use Rattle.wgsl_rules.specs.TypeParts.{with_inner};
     ghost use Rattle.wgsl_rules.specs.View.{type_view};
 
     ghost converted = { type_converted };
@@ -121,7 +121,7 @@ impl Convert for Type {
 
     ghost gives_well_formed = { λ x w t well h. type_gives_well_formed (type_view x) w t h };
 
-    ghost inner_gives_well_formed = { λ x w t well h. type_inner_gives_well_formed (type_view x) w t h };
+    ghost inner_gives_well_formed = { λ x w t well h. type_gives_well_formed (type_view x) w (with_inner (type_view x) t) h };
 
     ghost keeps_own = { λ x well. type_keeps_own (type_view x) };
 
@@ -134,34 +134,11 @@ impl Convert for Type {
     }
 
     fn convert_inner_to(&self, alloc: Global, ty: &Type) -> Result<Option<Type>, AllocError> {
-        match self {
-            Type::Array(t, n) => {
-                if t.is_convertible_to(ty) {
-                    Ok(Some(Type::Array(Box::new(alloc, ty.clone(alloc)?)?, *n)))
-                } else {
-                    Ok(None)
-                }
-            }
-            Type::Vec(n, t) => {
-                if t.is_convertible_to(ty) {
-                    Ok(Some(Type::Vec(*n, Box::new(alloc, ty.clone(alloc)?)?)))
-                } else {
-                    Ok(None)
-                }
-            }
-            Type::Mat(c, r, t) => {
-                if t.is_convertible_to(ty) {
-                    Ok(Some(Type::Mat(*c, *r, Box::new(alloc, ty.clone(alloc)?)?)))
-                } else {
-                    Ok(None)
-                }
-            }
-            Type::Bool | Type::AbstractInt | Type::AbstractFloat => self.convert_to(alloc, ty),
-            Type::I32 | Type::U32 | Type::F32 | Type::F16 => self.convert_to(alloc, ty),
-            Type::I64 | Type::U64 | Type::F64 => self.convert_to(alloc, ty),
-            Type::Struct(_) | Type::Atomic(_) => self.convert_to(alloc, ty),
-            Type::Ptr(_, _, _) | Type::Ref(_, _, _) => self.convert_to(alloc, ty),
-            Type::Texture(_) | Type::Sampler(_) => self.convert_to(alloc, ty),
+        let ty = self.with_inner(alloc, ty)?;
+        if self.is_convertible_to(&ty) {
+            Ok(Some(ty))
+        } else {
+            Ok(None)
         }
     }
 
