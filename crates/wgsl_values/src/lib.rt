@@ -2,7 +2,9 @@
 //! and every way to look at their parts and to write them.
 #![tactic(auto)]
 
+mod conv;
 mod inst;
+mod make;
 mod view;
 
 pub use inst::{
