@@ -39,28 +39,28 @@ use denote.Enum.Bare.{same_true}
 decided : {A : Type 0} (eq : A → A → Bool) → ((a : A) → eq a a ≡ true) → ((a b : A) → eq a b ≡ true → a ≡ b) → (a b : A) → Decides (eq a b) (a ≡ b)
 decided eq own same a b = (same a b, λ e. ap (eq a) (sym e) ∙ own a)
 
-space_decided : (a b : AddressSpace) → Decides (space.ghosts.eq a b) (a ≡ b)
+pub space_decided : (a b : AddressSpace) → Decides (space.ghosts.eq a b) (a ≡ b)
 space_decided = decided space.ghosts.eq space_laws.laws-law.refl (same_true space_type (search rules))
 
-access_decided : (a b : AccessMode) → Decides (access.ghosts.eq a b) (a ≡ b)
+pub access_decided : (a b : AccessMode) → Decides (access.ghosts.eq a b) (a ≡ b)
 access_decided = decided access.ghosts.eq access_laws.laws-law.refl (same_true access_type (search rules))
 
 sampled_decided : (a b : SampledType) → Decides (sampled.ghosts.eq a b) (a ≡ b)
 sampled_decided = decided sampled.ghosts.eq sampled_laws.laws-law.refl (same_true sampled_type (search rules))
 
-format_decided : (a b : TexelFormat) → Decides (format.ghosts.eq a b) (a ≡ b)
+pub format_decided : (a b : TexelFormat) → Decides (format.ghosts.eq a b) (a ≡ b)
 format_decided = decided format.ghosts.eq format_laws.laws-law.refl (same_true format_type (search rules))
 
 samplers_decided : (a b : SamplerType) → Decides (samplers.ghosts.eq a b) (a ≡ b)
 samplers_decided = decided samplers.ghosts.eq samplers_laws.laws-law.refl (same_true samplers_type (search rules))
 
-one : {P Q : Type 0} {a : Bool} → Decides a P → (P → Q) → (Q → P) → Decides a Q
+pub one : {P Q : Type 0} {a : Bool} → Decides a P → (P → Q) → (Q → P) → Decides a Q
 one {a = a} d f g = Decides-like a f g d
 
-two : {P R Q : Type 0} {a b : Bool} → Decides a P → Decides b R → (P × R → Q) → (Q → P × R) → Decides (a && b) Q
+pub two : {P R Q : Type 0} {a b : Bool} → Decides a P → Decides b R → (P × R → Q) → (Q → P × R) → Decides (a && b) Q
 two {a = a} {b = b} d e f g = Decides-like (a && b) f g (Decides-and a b d e)
 
-no : {P : Type 0} → (P → true ≡ false) → Decides false P
+pub no : {P : Type 0} → (P → true ≡ false) → Decides false P
 no f = (λ h. absurd (false≢true h), λ p. sym (f p))
 
 textures_decided : (a b : TextureType) → Decides (same_texture a b) (a ≡ b)

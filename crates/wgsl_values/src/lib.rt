@@ -2,11 +2,16 @@
 //! and every way to look at their parts and to write them.
 #![tactic(auto)]
 
+mod call;
+mod clone;
 mod conv;
+mod display;
+mod eq;
 mod inst;
 mod make;
 mod view;
 
+pub use call::{CallSignature, TpltParam};
 pub use inst::{
     ArrayInstance, AtomicInstance, Instance, MatInstance, PtrInstance, RefInstance, StructInstance,
     VecInstance,
