@@ -1,5 +1,6 @@
 -- Types that are none of a case have no parts of that case.
 use Rattle.std.proofs.Common.{◌≡◌, ℕ, List, Option, None, refl}
+use Rattle.wgsl_rules.specs.Conversion.{loaded_type}
 use Rattle.wgsl_rules.specs.Types.{Ty, Fields, struct, array, vec, mat, atomic, ptr, ref}
 use Rattle.wgsl_rules.specs.TypeParts.{struct_part, array_part, vec_part, mat_part, atomic_part, ptr_part, ref_part}
 use Rattle.wgsl_rules.specs.declared.syntax.AddressSpace.{AddressSpace}
@@ -32,3 +33,8 @@ ptr_part-none t h = refl
 pub ref_part-none : (t : Ty) → ((s : AddressSpace) (u : Ty) (a : AccessMode) → t ≡ ref s u a → ⊥) → None ≡ ref_part t
 ref_part-none (ref s u a) h = absurd (h s u a refl)
 ref_part-none t h = refl
+
+-- a type that is no reference is what it refers to
+pub loaded_type-same : (t : Ty) → ((s : AddressSpace) (u : Ty) (a : AccessMode) → t ≡ ref s u a → ⊥) → t ≡ loaded_type t
+loaded_type-same (ref s u a) h = absurd (h s u a refl)
+loaded_type-same t h = refl

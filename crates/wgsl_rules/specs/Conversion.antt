@@ -70,6 +70,27 @@ abbrev pub common_type_of : List Ty → Option Ty
 common_type_of [] = None
 common_type_of (t ∷ ts) = common_type_with t ts
 
--- two types have a common type in both orders or in neither, though it may be another
+-- the common type of two types is that of the two in the other order
 abbrev pub CommonTypeIsSymmetric : Type 0
-CommonTypeIsSymmetric = (t u : Ty) → is_some (common_type t u) ≡ is_some (common_type u t)
+CommonTypeIsSymmetric = (t u : Ty) → common_type t u ≡ common_type u t
+
+-- the scalar of a concrete matrix type: an abstract one becomes f32, there being no matrices of
+-- integers (WGSL: matrix types)
+abbrev pub concrete_scalar : Ty → Ty
+concrete_scalar abstract_int = f32
+concrete_scalar abstract_float = f32
+concrete_scalar t = t
+
+-- the concrete type that values of a type end in (WGSL: concretization)
+abbrev pub concretized : Ty → Ty
+concretized abstract_int = i32
+concretized abstract_float = f32
+concretized (array t n) = array (concretized t) n
+concretized (vec n t) = vec n (concretized t)
+concretized (mat c r t) = mat c r (concrete_scalar t)
+concretized t = t
+
+-- what a reference refers to, and on while that is a reference (WGSL: load rule)
+abbrev pub loaded_type : Ty → Ty
+loaded_type (ref s t a) = loaded_type t
+loaded_type t = t

@@ -105,7 +105,7 @@ textures_decided tx.DepthCube u = no (λ p. cc)
 textures_decided tx.DepthCubeArray tx.DepthCubeArray = (λ p. refl, λ p. refl)
 textures_decided tx.DepthCubeArray u = no (λ p. cc)
 
-number_decided : (a b : Option ℕ) → Decides (same_number a b) (a ≡ b)
+pub number_decided : (a b : Option ℕ) → Decides (same_number a b) (a ≡ b)
 number_decided None None = (λ p. refl, λ p. refl)
 number_decided None (Some b) = no (λ p. cc)
 number_decided (Some a) None = no (λ p. cc)

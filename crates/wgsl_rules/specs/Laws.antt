@@ -1,6 +1,9 @@
--- Laws of views, of paths and of what stands at them.
-use Rattle.std.specs.Prelude.{◌≡◌, ℕ, List, ◌++◌, Ok, Err, Some, IsTrue, ◌↔◌, IfOk, MatchResult, IsSomeAnd}
-use Rattle.wgsl_rules.specs.Values.{Step, Val}
+-- Laws of views, of paths and of what stands at them, and of conversions.
+use Rattle.std.specs.Prelude.{◌≡◌, ℕ, ℤ, List, Option, None, option_map, ◌++◌, Ok, Err, Some, IsTrue, ◌↔◌, IfOk, MatchResult, IsSomeAnd}
+use Rattle.wgsl_rules.specs.Converted.{converted, inner_converted}
+use Rattle.wgsl_rules.specs.TypeParts.{inner_type}
+use Rattle.wgsl_rules.specs.Types.{Ty}
+use Rattle.wgsl_rules.specs.Values.{Step, Val, number, type_of, IsWellFormed}
 use Rattle.wgsl_rules.specs.Paths.{value_at, path_of, viewed, put_tree, FitsPlace, fits}
 
 -- a view leads to the value at its path, and is refused where it has no path
@@ -24,3 +27,17 @@ Apart p q = (Begins p q → ⊥) × (Begins q p → ⊥)
 abbrev pub APutIsHeld : Type 0
 APutIsHeld = (steps : List Step) (w v : Val)
     → IfOk (path_of steps v) (λ p. (value_at p (put_tree p w v) ≡ Some w) × ((q : List ℕ) → Apart p q → value_at q (put_tree p w v) ≡ value_at q v))
+
+-- the number that a value is, of whatever kind
+abbrev pub number_of : Val → Option ℤ
+number_of (number k z) = Some z
+number_of v = None
+
+-- what a value is in another type has the same paths, and the same numbers at them
+abbrev pub ConversionsKeepNumbers : Type 0
+ConversionsKeepNumbers = (v w : Val) (t : Ty) (p : List ℕ) → converted v t ≡ Some w
+    → option_map number_of (value_at p w) ≡ option_map number_of (value_at p v)
+
+-- what a value is with its inner type replaced has the type inside that was asked
+abbrev pub InnerConversionsGiveTheirType : Type 0
+InnerConversionsGiveTheirType = (v w : Val) (t : Ty) → IsWellFormed v → inner_converted v t ≡ Some w → inner_type (type_of w) ≡ t

@@ -1,7 +1,10 @@
 pub mod Access
 pub mod Codes
 pub mod Conversion
+pub mod Converted
+pub mod ConvertedLaws
 pub mod Equal
+pub mod InCommon
 pub mod Kinds
 pub mod Laws
 pub mod Layout

@@ -19,6 +19,13 @@ inner_type (ptr s t a) = t
 inner_type (ref s t a) = t
 inner_type t = t
 
+-- an array, vector or matrix type with another type inside; of any other type the other type
+abbrev pub with_inner : Ty → Ty → Ty
+with_inner (array s n) t = array t n
+with_inner (vec n s) t = vec n t
+with_inner (mat c r s) t = mat c r t
+with_inner s t = t
+
 -- a structure type
 abbrev pub struct_part : Ty → Option Ty
 struct_part (struct n fs) = Some (struct n fs)

@@ -1,6 +1,6 @@
 //! Which types convert to which (WGSL: conversion rank).
 
-ghost use Rattle.std.specs.Prelude.{◌≡◌, is_some, option_map, map};
+ghost use Rattle.std.specs.Prelude.{◌≡◌, is_some, option_map, map, IfOk};
 ghost use Rattle.wgsl_rules.specs.Conversion.{
   rank,
   rank_from_int,
@@ -8,11 +8,15 @@ ghost use Rattle.wgsl_rules.specs.Conversion.{
   struct_rank,
   common_type,
   common_type_of,
+  concretized,
+  concrete_scalar,
+  loaded_type,
   CommonTypeIsSymmetric,
 };
 ghost use Rattle.wgsl_rules.specs.View.{type_view};
 
 use crate::ty::Type;
+use std::alloc::{AllocError, Global};
 
 /// How far `a` is from `b`, the less the nearer: 0 where they are equal or where `a` is a readable
 /// reference to `b`. `None` where `a` does not convert to `b` (WGSL: conversion rank).
@@ -110,6 +114,57 @@ impl Type {
     {
         conversion_rank(self, other).is_some()
     }
+
+    /// The concrete type that values of this type end in: `i32` for `AbstractInt`, `f32` for
+    /// `AbstractFloat` and for each abstract scalar of a matrix, arrays and vectors by element, any
+    /// other type itself (WGSL: concretization).
+    #[cycle(concretize)]
+    pub fn concretize(&self, alloc: Global) -> Result<Type, AllocError>
+        ensures { IfOk result (λ t. type_view t ≡ concretized (type_view self.now)) }
+    {
+        match self {
+            Type::AbstractInt => Ok(Type::I32),
+            Type::AbstractFloat => Ok(Type::F32),
+            Type::Array(t, n) => Ok(Type::Array(t.boxed_concretize(alloc)?, *n)),
+            Type::Vec(n, t) => Ok(Type::Vec(*n, t.boxed_concretize(alloc)?)),
+            Type::Mat(c, r, t) => {
+                Ok(Type::Mat(*c, *r, Box::new(alloc, t.concrete_scalar(alloc)?)?))
+            }
+            Type::Bool | Type::I32 | Type::U32 | Type::F32 | Type::F16 => self.clone(alloc),
+            Type::I64 | Type::U64 | Type::F64 | Type::Struct(_) => self.clone(alloc),
+            Type::Atomic(_) | Type::Ptr(_, _, _) | Type::Ref(_, _, _) => self.clone(alloc),
+            Type::Texture(_) | Type::Sampler(_) => self.clone(alloc),
+        }
+    }
+
+    #[cycle(concretize)]
+    fn boxed_concretize(&self, alloc: Global) -> Result<Box<Type>, AllocError>
+        ensures { IfOk result (λ b. type_view b.value ≡ concretized (type_view self.now)) }
+    {
+        let concrete = self.concretize(alloc)?;
+        Ok(Box::new(alloc, concrete)?)
+    }
+
+    // The concrete type of a matrix's scalar.
+    fn concrete_scalar(&self, alloc: Global) -> Result<Type, AllocError>
+        ensures { IfOk result (λ t. type_view t ≡ concrete_scalar (type_view self.now)) }
+    {
+        match self {
+            Type::AbstractInt | Type::AbstractFloat => Ok(Type::F32),
+            _ => self.clone(alloc),
+        }
+    }
+
+    /// The type of what is read through a reference, and on while that is a reference; any other
+    /// type itself (WGSL: load rule).
+    pub fn loaded(self) -> Type
+        ensures { type_view result ≡ loaded_type (type_view self) }
+    {
+        match self {
+            Type::Ref(_, t, _) => Box::into_inner(t).loaded(),
+            other => other,
+        }
+    }
 }
 
 /// The type that both convert to: `b` where `a` converts to it, else `a` where `b` converts to it,
@@ -140,8 +195,8 @@ pub fn convert_all_ty(types: &[Type]) -> Option<&Type>
     Some(common)
 }
 
-/// A law: [`convert_ty`] of two types gives a type in both orders or in neither
-/// (WGSL: conversion rank). The call does nothing.
+/// A law: [`convert_ty`] of two types gives the same type in either order, or none (WGSL: conversion
+/// rank). The call does nothing.
 pub fn common_type_is_symmetric()
     ensures { CommonTypeIsSymmetric }
 {}

@@ -1,6 +1,12 @@
-//! Laws of views, of paths and of what stands at them. The calls do nothing.
+//! Laws of views, of paths and of what stands at them, and of conversions. The calls do nothing.
 
-ghost use Rattle.wgsl_rules.specs.Laws.{ViewsLeadAlongTheirPaths, FitsTestsThePlace, APutIsHeld};
+ghost use Rattle.wgsl_rules.specs.Laws.{
+  ViewsLeadAlongTheirPaths,
+  FitsTestsThePlace,
+  APutIsHeld,
+  ConversionsKeepNumbers,
+  InnerConversionsGiveTheirType,
+};
 
 /// A law: a view leads to the value at its path, and is refused where it has no path
 /// (WGSL: memory views).
@@ -18,4 +24,15 @@ pub fn fits_tests_the_place()
 /// changed (WGSL: assignment statement).
 pub fn a_put_is_held()
     ensures { APutIsHeld }
+{}
+
+/// A law: a converted value has the paths that it had, and the numbers at them.
+pub fn conversions_keep_numbers()
+    ensures { ConversionsKeepNumbers }
+{}
+
+/// A law: a literal, array, vector or matrix whose inner type was converted has the inner type that
+/// was asked.
+pub fn inner_conversions_give_their_type()
+    ensures { InnerConversionsGiveTheirType }
 {}

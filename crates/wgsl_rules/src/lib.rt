@@ -5,6 +5,7 @@ mod clone;
 mod conv;
 mod display;
 mod eq;
+mod generic;
 pub mod laws;
 mod layout;
 mod measures;
@@ -16,9 +17,13 @@ mod traits;
 mod ty;
 
 pub use conv::{common_type_is_symmetric, conversion_rank, convert_all_ty, convert_ty};
+pub use generic::{
+    convert, convert_all, convert_all_inner_to, convert_all_to, convert_inner,
+    convert_is_symmetric, converting_again_changes_nothing,
+};
 pub use syntax::{
     AccessMode, AddressSpace, BinaryOperator, Enumerant, SampledType, SamplerType, ShaderStage,
     TexelFormat, TextureType, UnaryOperator,
 };
-pub use traits::Ty;
+pub use traits::{Convert, Ty};
 pub use ty::{StructMemberType, StructType, Type};

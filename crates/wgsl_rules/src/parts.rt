@@ -1,8 +1,9 @@
 //! The types inside a type.
 
-ghost use Rattle.std.specs.Prelude.{◌≡◌, option_map};
+ghost use Rattle.std.specs.Prelude.{◌≡◌, IfOk, option_map};
 ghost use Rattle.wgsl_rules.specs.TypeParts.{
   inner_type,
+  with_inner,
   struct_part,
   array_part,
   vec_part,
@@ -15,6 +16,7 @@ ghost use Rattle.wgsl_rules.specs.View.{struct_view, type_view};
 
 use crate::syntax::{AccessMode, AddressSpace};
 use crate::ty::{StructType, Type};
+use std::alloc::{AllocError, Global};
 
 impl Type {
     /// The type inside an array, vector, matrix (its scalar), atomic, pointer or reference type;
@@ -29,6 +31,24 @@ impl Type {
             Type::I32 | Type::U32 | Type::F32 | Type::F16 => self,
             Type::I64 | Type::U64 | Type::F64 => self,
             Type::Struct(_) | Type::Texture(_) | Type::Sampler(_) => self,
+        }
+    }
+
+    /// This array, vector or matrix type with another type inside; of any other type the other one
+    /// (WGSL: composite types).
+    pub(crate) fn with_inner(&self, alloc: Global, inner: &Type) -> Result<Type, AllocError>
+        ensures { IfOk result (λ t. type_view t ≡ with_inner (type_view self.now) (type_view inner.now)) }
+    {
+        let inner = inner.clone(alloc)?;
+        match self {
+            Type::Array(_, n) => Ok(Type::Array(Box::new(alloc, inner)?, *n)),
+            Type::Vec(n, _) => Ok(Type::Vec(*n, Box::new(alloc, inner)?)),
+            Type::Mat(c, r, _) => Ok(Type::Mat(*c, *r, Box::new(alloc, inner)?)),
+            Type::Bool | Type::AbstractInt | Type::AbstractFloat => Ok(inner),
+            Type::I32 | Type::U32 | Type::F32 | Type::F16 => Ok(inner),
+            Type::I64 | Type::U64 | Type::F64 | Type::Struct(_) => Ok(inner),
+            Type::Atomic(_) | Type::Ptr(_, _, _) | Type::Ref(_, _, _) => Ok(inner),
+            Type::Texture(_) | Type::Sampler(_) => Ok(inner),
         }
     }
 

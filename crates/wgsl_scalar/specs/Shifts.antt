@@ -10,7 +10,7 @@ use Rattle.wgsl_rules.specs.declared.syntax.ShaderStage.TheVariants as stages
 use Rattle.wgsl_rules.specs.declared.syntax.BinaryOperator.{BinaryOperator}
 use Rattle.wgsl_rules.specs.declared.syntax.BinaryOperator.TheVariants as between
 use Rattle.wgsl_scalar.specs.Literals.{Number, number_of, kind_of}
-use Rattle.wgsl_scalar.specs.Conversions.{literal_converted}
+use Rattle.wgsl_rules.specs.Converted.{converted}
 use Rattle.wgsl_scalar.specs.Operands.{ok_or}
 use Rattle.wgsl_scalar.specs.declared.kind.Kind.{Kind as CodeKind}
 
@@ -26,7 +26,7 @@ count_of v = 0
 
 -- how many places: the value as a u32, where it converts
 abbrev pub places_of : Val → Option ℕ
-places_of w = counted (literal_converted w types.u32)
+places_of w = counted (converted w types.u32)
   where
     counted : Option Val → Option ℕ
     counted None = None

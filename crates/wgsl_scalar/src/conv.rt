@@ -1,8 +1,8 @@
-//! The types of literals (WGSL: scalar types).
+//! The types of literals, and their conversions (WGSL: scalar types; conversion rank).
 
 use crate::literal::LiteralInstance;
 use std::alloc::{AllocError, Global};
-use wgsl_rules::{Ty, Type};
+use wgsl_rules::{Convert, Ty, Type};
 
 /// A literal's type is that of its kind, and it has no other type inside.
 impl Ty for LiteralInstance {
@@ -20,5 +20,41 @@ impl Ty for LiteralInstance {
 
     fn has_ty(&self, ty: &Type) -> bool {
         self.literal_ty() == *ty
+    }
+}
+
+/// A literal converts as [`LiteralInstance::to_kind`] says, and is itself what is inside it.
+impl Convert for LiteralInstance {
+    ghost use Rattle.wgsl_rules.specs.Converted.{converted, inner_converted};
+    ghost use Rattle.wgsl_rules.proofs.Converted.{
+      converted-type,
+      converted-well_formed,
+      converted-own,
+      inner_converted-well_formed,
+    };
+    ghost use Rattle.wgsl_scalar.specs.Literals.{literal_of};
+
+    ghost converted = { converted };
+
+    ghost converted_inner = { inner_converted };
+
+    ghost gives_type = { λ x. converted-type (literal_of x) };
+
+    ghost gives_well_formed = { λ x. converted-well_formed (literal_of x) };
+
+    ghost inner_gives_well_formed = { λ x. inner_converted-well_formed (literal_of x) };
+
+    ghost keeps_own = { λ x. converted-own (literal_of x) };
+
+    fn convert_to(&self, _alloc: Global, ty: &Type) -> Result<Option<LiteralInstance>, AllocError> {
+        Ok(self.to_kind(ty))
+    }
+
+    fn convert_inner_to(
+        &self,
+        _alloc: Global,
+        ty: &Type,
+    ) -> Result<Option<LiteralInstance>, AllocError> {
+        Ok(self.to_kind(ty))
     }
 }

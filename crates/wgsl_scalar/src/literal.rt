@@ -1,12 +1,12 @@
 //! Literals: a bool, or a number of some kind (WGSL: scalar types).
 
-ghost use Rattle.std.specs.Prelude.{◌≡◌, pos, IfSome, MatchOption, None, Some, IsTrue, IsFalse};
+ghost use Rattle.std.specs.Prelude.{◌≡◌, pos, IfSome, MatchOption, None, Some, IsTrue, IsFalse, option_map};
+ghost use Rattle.wgsl_rules.specs.Converted.{abstract_converted, converted};
 ghost use Rattle.wgsl_rules.specs.Kinds as kinds;
 ghost use Rattle.wgsl_rules.specs.Kinds.{InKind};
 ghost use Rattle.wgsl_rules.specs.Types as types;
 ghost use Rattle.wgsl_rules.specs.Values.{IsStorable, type_of, truth, number};
 ghost use Rattle.wgsl_rules.specs.View.{type_view};
-ghost use Rattle.wgsl_scalar.specs.Conversions.{abstract_converted, literal_converted};
 ghost use Rattle.wgsl_scalar.specs.Literals.{literal_of, number_of, number_view, kind_of};
 
 use crate::kind::Kind;
@@ -60,7 +60,7 @@ impl LiteralInstance {
     /// This literal as a value of the type, where it converts: to its own type, and from an
     /// abstract integer to `i32` and `u32`, where the number is in range (WGSL: conversion rank).
     pub fn to_kind(&self, ty: &Type) -> Option<LiteralInstance>
-        ensures { MatchOption result (literal_converted (literal_of self.now) (type_view ty.now) ≡ None) (λ v. literal_converted (literal_of self.now) (type_view ty.now) ≡ Some (literal_of v)) }
+        ensures { option_map literal_of result ≡ converted (literal_of self.now) (type_view ty.now) }
     {
         match *self {
             LiteralInstance::AbstractInt(n) => abstract_to_kind(n, ty),
@@ -157,7 +157,7 @@ impl LiteralInstance {
 
 /// An abstract integer as a value of the type.
 fn abstract_to_kind(n: i64, ty: &Type) -> Option<LiteralInstance>
-    ensures { MatchOption result (abstract_converted n (type_view ty.now) ≡ None) (λ v. abstract_converted n (type_view ty.now) ≡ Some (literal_of v)) }
+    ensures { option_map literal_of result ≡ abstract_converted n (type_view ty.now) }
 {
     if *ty == Type::AbstractInt {
         Some(LiteralInstance::AbstractInt(n))

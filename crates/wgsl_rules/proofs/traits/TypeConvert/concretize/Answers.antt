@@ -1,0 +1,5 @@
+use Rattle.wgsl_rules.proofs.CommonTypes.{concretized-converts}
+use Rattle.wgsl_rules.proofs.traits.TypeConvert.concretize.Goals as goal
+
+pub returns : goal.returns
+returns c = concretized-converts _ _ c.in_ok-concretize.ensures
