@@ -4,7 +4,7 @@ use Rattle.std.proofs.Common.{◌≡◌, ◌∙◌, ℕ, suc, ◌+◌, ◌-◌, 
 use Rattle.std.proofs.lemmas.Bool.{eqb-true, eq-eqb}
 use Rattle.std.proofs.lemmas.List.{get_or-drop, length-drop}
 use Rattle.std.proofs.lemmas.Slice.Eq.{bytes_eq-Decides}
-use Rattle.std.specs.List.{ends_with}
+use Rattle.std.specs.List.{starts_with, ends_with}
 use Rattle.wgsl_rules.specs.Access.{can_read}
 use Rattle.wgsl_rules.specs.Conversion.{rank, unequal_rank, zero_if, only_if, struct_rank, is_abstract_name, common_type, CommonTypeIsSymmetric, concretized}
 use Rattle.wgsl_rules.specs.Converted.{type_converted}
@@ -12,7 +12,8 @@ use Rattle.wgsl_rules.specs.ConvertedLaws.{rank-same}
 use Rattle.wgsl_rules.specs.Equal.{same-Decides, same-equiv, number_decided}
 use Rattle.wgsl_rules.specs.InCommon.{both, both_in, in_common}
 use Rattle.wgsl_rules.specs.Same.{same, same_number}
-use Rattle.wgsl_rules.specs.Types.{Ty, abstract_int, abstract_float, f32, struct, array, vec, mat, ref}
+use Rattle.wgsl_rules.specs.TypeParts.{struct_part}
+use Rattle.wgsl_rules.specs.Types.{Ty, abstract_int, abstract_float, f32, struct, array, vec, mat, ref, Fields}
 use Rattle.wgsl_rules.specs.Values.{Val, deferred, type_of}
 use Rattle.wgsl_rules.specs.declared.syntax.AddressSpace.{AddressSpace}
 use Rattle.wgsl_rules.specs.declared.syntax.AccessMode.{AccessMode}
@@ -84,16 +85,33 @@ given : (b : Bool) (o : Option ℕ) → is_some (if b then o else None) ≡ true
 given true o h = (refl, h)
 given false o h = cc
 
--- no name is both that of an abstract result and that of a result in f32 or f16
+-- no name ends both as that of an abstract result and as that of a result in f32 or f16
+
+-- the last bytes, t, 2 and 6
+
+t_is_not_2 : let t : ℕ = 116 in let two : ℕ = 50 in t ≡ two → ⊥
+t_is_not_2 e = omega arith
+
+t_is_not_6 : let t : ℕ = 116 in let six : ℕ = 54 in t ≡ six → ⊥
+t_is_not_6 e = omega arith
+
+not_f32 : (n : List ℕ) → ends_with nat_eq n (codes "abstract") ≡ true → ends_with nat_eq n (codes "f32") ≡ true → ⊥
+not_f32 n p q = t_is_not_2 (last_of n (codes "abstract") (codes "f32") refl refl p q)
+
+not_f16 : (n : List ℕ) → ends_with nat_eq n (codes "abstract") ≡ true → ends_with nat_eq n (codes "f16") ≡ true → ⊥
+not_f16 n p q = t_is_not_6 (last_of n (codes "abstract") (codes "f16") refl refl p q)
+
+no_result : (n : List ℕ) → ends_with nat_eq n (codes "abstract") ≡ true
+    → (ends_with nat_eq n (codes "f32") ≡ true) ⊎ (ends_with nat_eq n (codes "f16") ≡ true) → ⊥
+no_result n p (inl h) = not_f32 n p h
+no_result n p (inr h) = not_f16 n p h
+
 no_struct_both : (n m : List ℕ) → is_some (struct_rank n m) ≡ true → is_some (struct_rank m n) ≡ true → ⊥
 no_struct_both n m p q =
-    let l = given (is_abstract_name n) _ p in
-    let r = given (is_abstract_name m) _ q in
-    let abstract = both_true _ _ l.0 in
-    elim (is_result _ _ r.1) [
-      | inl h ↦ let e = last_of n (codes "abstract") (codes "f32") refl refl abstract.1 h in cc
-      | inr h ↦ let e = last_of n (codes "abstract") (codes "f16") refl refl abstract.1 h in cc
-    ]
+    let l = given (is_abstract_name n) (if ends_with nat_eq m (codes "f32") then Some 1 else (if ends_with nat_eq m (codes "f16") then Some 2 else None)) p in
+    let r = given (is_abstract_name m) (if ends_with nat_eq n (codes "f32") then Some 1 else (if ends_with nat_eq n (codes "f16") then Some 2 else None)) q in
+    let name = both_true (starts_with nat_eq n (codes "__")) (ends_with nat_eq n (codes "abstract")) l.0 in
+    no_result n name.1 (is_result (ends_with nat_eq n (codes "f32")) (ends_with nat_eq n (codes "f16")) r.1)
 
 unequal_both : (t u : Ty) → is_some (unequal_rank t u) ≡ true → is_some (unequal_rank u t) ≡ true → t ≡ u
 unequal_both (ref s t a) u p q = absurd (not_both s t a u p q)
@@ -146,6 +164,20 @@ pub in_common-swapped : (f : Val → Ty → Option Val) (a b x y : Val) → in_c
 in_common-swapped f a b x y h =
     let e = both_in-swapped f a b x y (common_type (type_of a) (type_of b)) h in
     rw (common_types_commute (type_of b) (type_of a)) e
+
+-- ---- structures
+
+struct_part-is : (u t : Ty) → Some t ≡ struct_part u → t ≡ u
+struct_part-is (struct n fs) t e = cc
+struct_part-is u t e = cc
+
+-- structures that are not the same convert by their names
+pub struct-converts : (s t u : Ty) (n m : List ℕ) (fs gs : Fields) (r : Option ℕ) (b : Bool) → s ≡ struct n fs → t ≡ struct m gs → Some t ≡ struct_part u
+    → same s t ≡ false → r ≡ struct_rank n m → b ≡ is_some r → b ≡ is_some (rank s u)
+struct-converts s t u n m fs gs r b s_is t_is part apart by_name known =
+    let e : struct m gs ≡ u = sym t_is ∙ struct_part-is u t part in
+    let not_same : same (struct n fs) (struct m gs) ≡ false = rw (s_is, t_is) at apart in
+    rw (← e, s_is, not_same) (known ∙ ap is_some by_name)
 
 -- ---- the type inside another
 

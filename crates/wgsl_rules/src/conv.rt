@@ -13,9 +13,9 @@ ghost use Rattle.wgsl_rules.specs.Conversion.{
   loaded_type,
   CommonTypeIsSymmetric,
 };
-ghost use Rattle.wgsl_rules.specs.View.{type_view};
+ghost use Rattle.wgsl_rules.specs.View.{type_view, struct_view};
 
-use crate::ty::Type;
+use crate::ty::{StructType, Type};
 use std::alloc::{AllocError, Global};
 
 /// How far `a` is from `b`, the less the nearer: 0 where they are equal or where `a` is a readable
@@ -79,6 +79,20 @@ fn struct_rank(from: &str, to: &str) -> Option<u32>
         Some(2)
     } else {
         None
+    }
+}
+
+impl StructType {
+    /// Whether the [`conversion_rank`] of this structure type to the other type exists.
+    pub fn is_convertible_to(&self, other: &Type) -> bool
+        ensures { result ≡ is_some (rank (struct_view self.now) (type_view other.now)) }
+    {
+        match other.as_struct() {
+            Some(other) => {
+                *self == *other || struct_rank(self.name.as_str(), other.name.as_str()).is_some()
+            }
+            None => false,
+        }
     }
 }
 
