@@ -69,7 +69,7 @@ pub first_type-at : (vs : List Instance) (d : Instance) → 1 ≤ length vs → 
 first_type-at [] d l = absurd (omega arith)
 first_type-at (v ∷ vs) d l = refl
 
-array-first : (a : ArrayInstance) (x : Instance) → 0 < count (vals_view a.components.items) → x ≡ get_or a.components.items 0 x → first_type (parts (array_view a)) ≡ type_of (value_of x)
+pub array-first : (a : ArrayInstance) (x : Instance) → 0 < count (vals_view a.components.items) → x ≡ get_or a.components.items 0 x → first_type (parts (array_view a)) ≡ type_of (value_of x)
 array-first a x filled first =
     let some : 1 ≤ length a.components.items = omega (arith, count-vals_view a.components.items) in
     rw (array_view-is a) (first_type-at a.components.items x some ∙ ap (λ (y : Instance). type_of (value_of y)) (sym first))

@@ -83,7 +83,7 @@ impl Ty for Instance {
 
 impl Instance {
     // The type of a literal, which takes no memory.
-    fn scalar_ty(&self) -> Type
+    pub(crate) fn scalar_ty(&self) -> Type
         requires { IsLiteral (value_of self.now) }
         ensures { type_view result ≡ type_of (value_of self.now) }
     {
@@ -166,7 +166,7 @@ impl Ty for StructInstance {
 
 impl ArrayInstance {
     // The count that its type carries: none of a runtime-sized array.
-    fn count(&self) -> Option<usize>
+    pub(crate) fn count(&self) -> Option<usize>
         ensures { type_of (array_view self.now) ≡ types.array (first_type (parts (array_view self.now))) result }
     {
         if self.runtime_sized {
@@ -213,7 +213,7 @@ impl Ty for ArrayInstance {
 
 impl VecInstance {
     // How many components there are.
-    fn size(&self) -> u8
+    pub(crate) fn size(&self) -> u8
         requires { IsStorable (vec_view self.now) }
         ensures { type_of (vec_view self.now) ≡ types.vec result (first_type (parts (vec_view self.now))) }
     {
@@ -221,7 +221,7 @@ impl VecInstance {
     }
 
     // The type of each component.
-    fn scalar_ty(&self) -> Type
+    pub(crate) fn scalar_ty(&self) -> Type
         requires { IsStorable (vec_view self.now) }
         ensures { type_view result ≡ first_type (parts (vec_view self.now)) }
     {
@@ -270,7 +270,7 @@ impl Ty for VecInstance {
 
 impl MatInstance {
     // How many columns there are.
-    fn width(&self) -> u8
+    pub(crate) fn width(&self) -> u8
         requires { IsStorable (mat_view self.now) }
         ensures { result ≡ count (parts (mat_view self.now)) }
     {
@@ -278,7 +278,7 @@ impl MatInstance {
     }
 
     // The first column, whose type is that of each.
-    fn first_column(&self) -> &VecInstance
+    pub(crate) fn first_column(&self) -> &VecInstance
         requires { IsStorable (mat_view self.now) }
         ensures ty { type_of (vec_view result.now) ≡ first_type (parts (mat_view self.now)) }
         ensures storable { IsStorable (vec_view result.now) }

@@ -5,6 +5,7 @@
 mod call;
 mod clone;
 mod conv;
+mod convert;
 mod display;
 mod eq;
 mod inst;
