@@ -1,6 +1,7 @@
 pub mod Equal
 pub mod Iterators
 pub mod Laws
+pub mod Make
 pub mod Matrices
 pub mod Parts
 pub mod Rows

@@ -9,19 +9,14 @@ mod eq;
 mod inst;
 mod iter;
 mod laws;
+mod make;
 mod mem_mut;
 mod part_mut;
 mod parts;
 mod view;
 
-pub use inst::{
-    ArrayInstance, AtomicInstance, Instance, MatInstance, PtrInstance, RefInstance, StructInstance,
-    VecInstance,
-};
+pub use inst::{ArrayInstance, AtomicInstance, Instance, MatInstance, PtrInstance, RefInstance, StructInstance, VecInstance};
 pub use iter::{IntoItems, Items, MatItems};
-pub use laws::{
-    a_part_replaced_is_storable, texts_tell_values_apart, transposed_exchanges_rows_and_columns,
-    transposed_twice_is_itself,
-};
+pub use laws::{a_part_replaced_is_storable, texts_tell_values_apart, transposed_exchanges_rows_and_columns, transposed_twice_is_itself};
 pub use part_mut::{PartMut, Placed};
 pub use view::MemView;
