@@ -39,16 +39,16 @@ use denote.Enum.Bare.{same_true}
 decided : {A : Type 0} (eq : A → A → Bool) → ((a : A) → eq a a ≡ true) → ((a b : A) → eq a b ≡ true → a ≡ b) → (a b : A) → Decides (eq a b) (a ≡ b)
 decided eq own same a b = (same a b, λ e. ap (eq a) (sym e) ∙ own a)
 
-space_decided : (a b : AddressSpace) → Decides (space.ghosts.eq a b) (a ≡ b)
+pub space_decided : (a b : AddressSpace) → Decides (space.ghosts.eq a b) (a ≡ b)
 space_decided = decided space.ghosts.eq space_laws.laws-law.refl (same_true space_type (search rules))
 
-access_decided : (a b : AccessMode) → Decides (access.ghosts.eq a b) (a ≡ b)
+pub access_decided : (a b : AccessMode) → Decides (access.ghosts.eq a b) (a ≡ b)
 access_decided = decided access.ghosts.eq access_laws.laws-law.refl (same_true access_type (search rules))
 
 sampled_decided : (a b : SampledType) → Decides (sampled.ghosts.eq a b) (a ≡ b)
 sampled_decided = decided sampled.ghosts.eq sampled_laws.laws-law.refl (same_true sampled_type (search rules))
 
-format_decided : (a b : TexelFormat) → Decides (format.ghosts.eq a b) (a ≡ b)
+pub format_decided : (a b : TexelFormat) → Decides (format.ghosts.eq a b) (a ≡ b)
 format_decided = decided format.ghosts.eq format_laws.laws-law.refl (same_true format_type (search rules))
 
 samplers_decided : (a b : SamplerType) → Decides (samplers.ghosts.eq a b) (a ≡ b)

@@ -1,18 +1,24 @@
--- `same_value` tells whether two values are the same, so it is an equivalence.
-use Rattle.std.proofs.Common.{◌≡◌, ◌∙◌, ℕ, List, [], ◌∷◌, Bool, IsTrue, ◌↔◌, refl, sym, ap, rules}
+-- `same_value` tells whether two values are the same, and so do the tests of views and signatures: each
+-- is an equivalence.
+use Rattle.std.proofs.Common.{◌≡◌, ◌∙◌, ℕ, List, [], ◌∷◌, Option, Some, None, Bool, IsTrue, ◌↔◌, refl, sym, ap, rules}
 use Rattle.std.specs.Bool.{Decides}
 use Rattle.std.specs.Cmp.{IsEquivalence, booleans_Decides}
+use Rattle.std.specs.Cmp.Lexicographic.{pointwise}
+use Rattle.std.specs.Option.{option_eq}
 use Rattle.std.proofs.lemmas.Bool.Decides.{Decides-and, Decides-like, Decides-eqb, Decides-int_eq, same_from_decides}
 use Rattle.std.proofs.lemmas.Cmp.{on_equiv}
-use Rattle.std.proofs.lemmas.Slice.Eq.{bytes_eq-Decides}
-use Rattle.wgsl_rules.specs.Equal.{one, two, no, same-Decides}
+use Rattle.std.proofs.lemmas.Slice.Eq.{bytes_eq-Decides, slice_eq-Decides}
+use Rattle.wgsl_rules.specs.Equal.{one, two, no, space_decided, access_decided, format_decided, same-Decides}
 use Rattle.wgsl_rules.specs.Kinds as kinds
 use Rattle.wgsl_rules.specs.Kinds.{Kind}
 use Rattle.wgsl_rules.specs.Types.{Ty}
 use Rattle.wgsl_rules.specs.Values.{Step, member, index, Reference, Val, truth, number, record_of, array_of, vector, matrix, atomic_of, pointer, reference, deferred, Vals, no_vals, val, type_of}
 use Rattle.wgsl_rules.specs.declared.syntax.AddressSpace.{AddressSpace}
 use Rattle.wgsl_rules.specs.declared.syntax.AccessMode.{AccessMode}
-use Rattle.wgsl_values.specs.Same.{same_kind, same_steps, same_reference, same_value, same_values}
+use Rattle.wgsl_rules.specs.declared.syntax.Enumerant.{Enumerant}
+use Rattle.wgsl_rules.specs.declared.syntax.Enumerant.TheVariants as enumerants
+use Rattle.wgsl_values.specs.Same.{same_kind, same_steps, same_reference, same_value, same_values, same_enumerant, same_param, same_signature}
+use Rattle.wgsl_values.specs.Signatures.{Param, of_type, of_value, of_enumerant, Signature, param_view, signature_view}
 use Rattle.wgsl_values.specs.View.{value_of, array_view, atomic_view, mat_view, struct_view, vec_view, ptr_view, ref_view, steps_of}
 
 -- what decides whether two are the same is an equivalence
@@ -124,3 +130,49 @@ refs_equiv = on_equiv ref_view same_value-equiv
 
 pub views_equiv : IsEquivalence (λ v w. same_steps (steps_of v) (steps_of w))
 views_equiv = on_equiv steps_of (equiv_from_Decides same_steps steps-Decides)
+
+-- ---- signatures
+
+enumerant-Decides : (d e : Enumerant) → Decides (same_enumerant d e) (d ≡ e)
+enumerant-Decides (enumerants.AccessMode a) (enumerants.AccessMode b) = one (access_decided a b) (λ p. cc) (λ p. cc)
+enumerant-Decides (enumerants.AccessMode a) e = no (λ p. cc)
+enumerant-Decides (enumerants.AddressSpace s) (enumerants.AddressSpace t) = one (space_decided s t) (λ p. cc) (λ p. cc)
+enumerant-Decides (enumerants.AddressSpace s) e = no (λ p. cc)
+enumerant-Decides (enumerants.TexelFormat f) (enumerants.TexelFormat g) = one (format_decided f g) (λ p. cc) (λ p. cc)
+enumerant-Decides (enumerants.TexelFormat f) e = no (λ p. cc)
+
+param-Decides : (p q : Param) → Decides (same_param p q) (p ≡ q)
+param-Decides (of_type t) (of_type u) = one (same-Decides t u) (λ p. cc) (λ p. cc)
+param-Decides (of_type t) q = no (λ p. cc)
+param-Decides (of_value v) (of_value w) = one (same_value-Decides v w) (λ p. cc) (λ p. cc)
+param-Decides (of_value v) q = no (λ p. cc)
+param-Decides (of_enumerant d) (of_enumerant e) = one (enumerant-Decides d e) (λ p. cc) (λ p. cc)
+param-Decides (of_enumerant d) q = no (λ p. cc)
+
+template-Decides : (ps qs : Option (List Param)) → Decides (option_eq (pointwise same_param) ps qs) (ps ≡ qs)
+template-Decides None None = (λ p. refl, λ p. refl)
+template-Decides None (Some qs) = no (λ p. cc)
+template-Decides (Some ps) None = no (λ p. cc)
+template-Decides (Some ps) (Some qs) = one (slice_eq-Decides param-Decides ps qs _ refl) (λ p. cc) (λ p. cc)
+
+abbrev signed : List ℕ → Option (List Param) → List Ty → Signature
+signed n ps ts = record { name = n; template = ps; args = ts }
+
+signature-Decides : (s t : Signature) → Decides (same_signature s t) (s ≡ t)
+signature-Decides s t =
+    let typed = Decides-and _ _ (template-Decides s.template t.template) (slice_eq-Decides same-Decides s.args t.args _ refl) in
+    two (bytes_eq-Decides s.name t.name) typed
+    (λ p. ap (λ x. signed x s.template s.args) p.0 ∙ ap (λ x. signed t.name x s.args) p.1.0 ∙ ap (signed t.name t.template) p.1.1)
+    (λ p. (ap (λ x. x.name) p, (ap (λ x. x.template) p, ap (λ x. x.args) p)))
+
+pub same_param_is : (p q : Param) → IsTrue (same_param p q) ↔ (p ≡ q)
+same_param_is p q = search (rules, param-Decides p q)
+
+pub same_signature_is : (s t : Signature) → IsTrue (same_signature s t) ↔ (s ≡ t)
+same_signature_is s t = search (rules, signature-Decides s t)
+
+pub params_equiv : IsEquivalence (λ p q. same_param (param_view p) (param_view q))
+params_equiv = on_equiv param_view (equiv_from_Decides same_param param-Decides)
+
+pub signatures_equiv : IsEquivalence (λ s t. same_signature (signature_view s) (signature_view t))
+signatures_equiv = on_equiv signature_view (equiv_from_Decides same_signature signature-Decides)

@@ -1,11 +1,17 @@
--- When two values are the same: in every part, every number and every type that they carry.
+-- When two values, views or signatures are the same: in every part, every number and every type that
+-- they carry.
 use Rattle.std.specs.Prelude.{List, [], ◌∷◌, Bool, true, false, ◌&&◌, ◌==◌, bytes_eq}
+use Rattle.std.specs.Cmp.Lexicographic.{pointwise}
+use Rattle.std.specs.Option.{option_eq}
 use Rattle.std.specs.Ordering.{int_eq}
 use Rattle.std.proofs.Math.Bool.{beq}
 use Rattle.wgsl_rules.specs.Kinds as kinds
 use Rattle.wgsl_rules.specs.Kinds.{Kind}
 use Rattle.wgsl_rules.specs.Same.{same}
 use Rattle.wgsl_rules.specs.Values.{Step, member, index, Reference, Val, truth, number, record_of, array_of, vector, matrix, atomic_of, pointer, reference, deferred, Vals, no_vals, val, type_of}
+use Rattle.wgsl_rules.specs.contracts.syntax.EnumerantPartialEq.TheImpl as enumerants
+use Rattle.wgsl_rules.specs.declared.syntax.Enumerant.{Enumerant}
+use Rattle.wgsl_values.specs.Signatures.{Param, of_type, of_value, of_enumerant, Signature}
 
 abbrev pub same_kind : Kind → Kind → Bool
 same_kind kinds.abstract_int kinds.abstract_int = true
@@ -44,3 +50,16 @@ abbrev mutual
   same_values no_vals no_vals = true
   same_values (val v vs) (val w ws) = same_value v w && same_values vs ws
   same_values _ _ = false
+
+abbrev pub same_enumerant : Enumerant → Enumerant → Bool
+same_enumerant = enumerants.ghosts.eq
+
+abbrev pub same_param : Param → Param → Bool
+same_param (of_type t) (of_type u) = same t u
+same_param (of_value v) (of_value w) = same_value v w
+same_param (of_enumerant d) (of_enumerant e) = same_enumerant d e
+same_param _ _ = false
+
+abbrev pub same_signature : Signature → Signature → Bool
+same_signature s t =
+    bytes_eq s.name t.name && (option_eq (pointwise same_param) s.template t.template && pointwise same s.args t.args)

@@ -205,7 +205,7 @@ fn write_items<W: fmt::Write>(f: &mut fmt::Formatter<W>, items: &Vec<Instance>) 
     Ok(())
 }
 
-fn before_item(is_first: bool) -> &'static str
+pub(crate) fn before_item(is_first: bool) -> &'static str
     ensures { result.now ≡ text_before_item is_first }
 {
     if is_first { "" } else { ", " }

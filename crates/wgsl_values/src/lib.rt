@@ -2,6 +2,7 @@
 //! and every way to look at their parts and to write them.
 #![tactic(auto)]
 
+mod call;
 mod clone;
 mod conv;
 mod display;
@@ -15,6 +16,7 @@ mod part_mut;
 mod parts;
 mod view;
 
+pub use call::{CallSignature, TpltParam};
 pub use inst::{ArrayInstance, AtomicInstance, Instance, MatInstance, PtrInstance, RefInstance, StructInstance, VecInstance};
 pub use iter::{IntoItems, Items, MatItems};
 pub use laws::{a_part_replaced_is_storable, texts_tell_values_apart, transposed_exchanges_rows_and_columns, transposed_twice_is_itself};
