@@ -65,7 +65,7 @@ array_part-is : (u t : Ty) (n : Option ℕ) → Some (t, n) ≡ array_part u →
 array_part-is (array v m) t n e = ap array_from e
 array_part-is u t n e = cc
 
-first_type-at : (vs : List Instance) (d : Instance) → 1 ≤ length vs → first_type (vals_view vs) ≡ type_of (value_of (get_or vs 0 d))
+pub first_type-at : (vs : List Instance) (d : Instance) → 1 ≤ length vs → first_type (vals_view vs) ≡ type_of (value_of (get_or vs 0 d))
 first_type-at [] d l = absurd (omega arith)
 first_type-at (v ∷ vs) d l = refl
 

@@ -1,6 +1,6 @@
 //! How values are made of others, and the tests of when they can be.
 
-ghost use Rattle.std.specs.Prelude.{◌≡◌, ◌↔◌, IfOk, IsTrue, map};
+ghost use Rattle.std.specs.Prelude.{◌≡◌, ◌≤◌, ◌↔◌, IfOk, IsTrue, map};
 ghost use Rattle.wgsl_rules.specs.Values.{
   IsAtomicContent,
   IsLiteral,
@@ -18,7 +18,7 @@ ghost use Rattle.wgsl_rules.specs.Values.{
   vector,
 };
 ghost use Rattle.wgsl_rules.specs.View.{members_view, struct_view as struct_type_view};
-ghost use Rattle.wgsl_values.specs.Make.{IsFew, literals_view};
+ghost use Rattle.wgsl_values.specs.Make.{literals_view};
 ghost use Rattle.wgsl_values.specs.View.{
   value_of,
   vals_view,
@@ -49,14 +49,14 @@ impl Instance {
     }
 
     /// Whether a cell may hold it: it is well-formed in each part, and no part is deferred (WGSL:
-    /// storable types). Each part is visited once.
+    /// storable types). Takes time in proportion to its parts and the types in them.
     #[cycle(storable)]
     pub fn is_storable(&self) -> bool
         ensures { IsTrue result ↔ IsStorable (value_of self.now) }
     {
         match self {
             Instance::Literal(literal) => {
-                // A number is one of its kind.
+                // `literal_ty` ensures that the number is one of its kind.
                 let _ty = literal.literal_ty();
                 true
             }
@@ -83,13 +83,14 @@ impl Instance {
     }
 }
 
-// Whether all are storable, and of the type of the first.
+// Whether all are storable, and of the type of the first. The first is not compared with itself:
+// else arrays of one element, each in the next, would take time in proportion to their square.
 #[cycle(storable)]
 fn have_one_type(values: &[Instance]) -> bool
     ensures { IsTrue result ↔ (AllOfType (first_type (vals_view values.now)) (vals_view values.now) × AreStorable (vals_view values.now)) }
 {
-    for value in values {
-        if !value.is_storable() || !value.same_type(&values[0]) {
+    for (i, value) in values.iter().enumerate() {
+        if !value.is_storable() || (i > 0 && !value.same_type(&values[0])) {
             return false;
         }
     }
@@ -112,9 +113,9 @@ fn have_types(values: &[Instance], members: &[StructMemberType]) -> bool
     true
 }
 
-// Whether a vector can have so many components, and a matrix so many columns.
-fn is_few(n: usize) -> bool
-    ensures { IsTrue result ↔ IsFew n }
+// Whether a vector has so many components, and a matrix so many columns.
+fn is_component_count(n: usize) -> bool
+    ensures { IsTrue result ↔ ((2 ≤ n) × (n ≤ 4)) }
 {
     matches!(n, 2..=4)
 }
@@ -150,7 +151,8 @@ impl ArrayInstance {
         }
     }
 
-    /// Whether the condition of [`ArrayInstance::new`] holds.
+    /// Whether the condition of [`ArrayInstance::new`] holds, as it does of both kinds of array or of
+    /// neither.
     #[cycle(storable)]
     pub fn can_make(components: &[Instance], _runtime_sized: bool) -> bool
         ensures { IsTrue result ↔ IsStorable (array_of _runtime_sized (vals_view components.now)) }
@@ -174,7 +176,7 @@ impl VecInstance {
     pub fn can_make(components: &[Instance]) -> bool
         ensures { IsTrue result ↔ IsStorable (vector (vals_view components.now)) }
     {
-        if !is_few(components.len()) {
+        if !is_component_count(components.len()) {
             return false;
         }
         components[0].is_literal() && have_one_type(components)
@@ -212,13 +214,13 @@ impl VecInstance {
     }
 }
 
-fn literal_values(
-    alloc: Global,
-    literals: &[LiteralInstance],
-) -> Result<Vec<Instance>, AllocError>
+fn literal_values(alloc: Global, literals: &[LiteralInstance]) -> Result<Vec<Instance>, AllocError>
     ensures { IfOk result (λ v. v.items ≡ map (λ l. Instance.Literal l) literals.now) }
 {
-    literals.iter().map(|literal| Instance::Literal(*literal)).collect(alloc)
+    literals
+        .iter()
+        .map(|literal| Instance::Literal(*literal))
+        .collect(alloc)
 }
 
 impl MatInstance {
@@ -236,7 +238,7 @@ impl MatInstance {
     pub fn can_make(columns: &[Instance]) -> bool
         ensures { IsTrue result ↔ IsStorable (matrix (vals_view columns.now)) }
     {
-        if !is_few(columns.len()) {
+        if !is_component_count(columns.len()) {
             return false;
         }
         columns[0].is_vector() && have_one_type(columns)
@@ -356,7 +358,7 @@ impl From<AtomicInstance> for Instance {
     }
 }
 
-/// A value of a type that is not known yet.
+/// The deferred value of the type.
 impl From<Type> for Instance {
     ghost use Rattle.std.specs.Prelude.{◌≡◌};
     ghost use Rattle.wgsl_rules.specs.TypeParts.{type_value};

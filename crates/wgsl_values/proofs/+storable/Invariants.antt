@@ -6,5 +6,5 @@ abbrev pub invariant-make::have_types-loop-i : goal.invariant-make::have_types-l
 invariant-make::have_types-loop-i l =
     (length l.values ≡ length l.members) × (OfMembers (drop l.i l.members) (drop l.i l.values) ↔ OfMembers l.members l.values)
 
-abbrev pub invariant-make::have_one_type-loop-value : goal.invariant-make::have_one_type-loop-value
-invariant-make::have_one_type-loop-value l = Decides l.values l.value-index
+abbrev pub invariant-make::have_one_type-loop-i : goal.invariant-make::have_one_type-loop-i
+invariant-make::have_one_type-loop-i l = Decides l.values l.i
