@@ -1,5 +1,5 @@
 -- How many parts a composite has, and which.
-use Rattle.std.proofs.Common.{◌≡◌, ℕ, ◌<◌, length, get_or, Some, arith, ap, sym, ◌∙◌, vec_len}
+use Rattle.std.proofs.Common.{◌≡◌, ℕ, ◌<◌, get_or, Some, arith, ap, sym, ◌∙◌, vec_len}
 use Rattle.wgsl_rules.specs.Paths.{parts}
 use Rattle.wgsl_rules.specs.Values.{count, item}
 use Rattle.wgsl_values.specs.View.{value_of, array_view, mat_view, vec_view}

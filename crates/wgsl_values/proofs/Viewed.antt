@@ -1,9 +1,9 @@
 -- Where a view goes on from a value, or why it does not.
 use Rattle.std.proofs.Common.{◌≡◌, ℕ, zero, suc, List, ◌∷◌, Option, Some, None, Err, option_map, option_and_then, refl, sym, ap, ◌∙◌, subst}
-use Rattle.wgsl_rules.specs.Paths.{parts, placed, index_in, member_named, or_refused, within, part_at, viewed}
-use Rattle.wgsl_rules.specs.Refusals.{component, not_indexable, out_of_bounds, and_then}
+use Rattle.wgsl_rules.specs.Paths.{placed, index_in, member_named, within, part_at, viewed}
+use Rattle.wgsl_rules.specs.Refusals.{not_indexable, out_of_bounds}
 use Rattle.wgsl_rules.specs.Types.{Ty}
-use Rattle.wgsl_rules.specs.Values.{Step, member, index, Val, record_of, array_of, vector, matrix, deferred, Vals, no_vals, val, item, count, type_of, IsStorable, AreStorable, IsWellFormed}
+use Rattle.wgsl_rules.specs.Values.{Step, index, Val, record_of, array_of, vector, matrix, deferred, Vals, no_vals, val, item, count, type_of, IsStorable, AreStorable, IsWellFormed}
 use Rattle.wgsl_values.specs.Parts.{indexed_parts}
 
 -- ---- parts of a well-formed value

@@ -11,6 +11,7 @@ mod inst;
 mod iter;
 mod laws;
 mod make;
+mod matrix;
 mod mem_mut;
 mod part_mut;
 mod parts;
