@@ -1,25 +1,22 @@
 -- Conversions of values, part by part.
-use Rattle.std.proofs.Common.{◌≡◌, ◌∙◌, ◌↔◌, ℕ, zero, suc, ◌+◌, ◌<◌, List, [], ◌∷◌, ◌++◌, get_or, take, length, Bool, true, false, ◌&&◌, ◌==◌, IsTrue, Option, Some, None, is_some, refl, sym, ap, ap₂, arith, add-one}
-use Rattle.std.proofs.lemmas.Bool.{eq-eqb}
+use Rattle.std.proofs.Common.{◌≡◌, ◌∙◌, ◌↔◌, ℕ, zero, suc, ◌+◌, ◌<◌, List, [], ◌∷◌, ◌++◌, get_or, take, length, Bool, true, false, ◌&&◌, IsTrue, Option, Some, None, is_some, refl, sym, ap, arith, add-one}
 use Rattle.std.proofs.lemmas.Bool.Decides.{same_from_decides}
 use Rattle.wgsl_rules.proofs.CommonTypes.{rank-array, rank-vec}
 use Rattle.wgsl_rules.specs.Access.{can_read}
 use Rattle.wgsl_rules.specs.Conversion.{rank, unequal_rank, zero_if, only_if}
 use Rattle.wgsl_rules.specs.Converted.{converted, all_converted, joined, kept}
 use Rattle.wgsl_rules.specs.Equal.{same-Decides, number_decided}
-use Rattle.wgsl_rules.specs.Paths.{parts}
 use Rattle.wgsl_rules.specs.Same.{same, same_number}
-use Rattle.wgsl_rules.specs.TypeParts.{array_part, vec_part, mat_part}
-use Rattle.wgsl_rules.specs.Types.{Ty, bool, array, vec, mat, ptr, ref}
-use Rattle.wgsl_rules.specs.Values.{Val, Vals, AreLiterals, AreStorable, AreVectors, IsLiteral, IsStorable, IsVector, IsWellFormed, deferred, count, first_type, matrix_type, type_of}
+use Rattle.wgsl_rules.specs.TypeParts.{array_part, vec_part}
+use Rattle.wgsl_rules.specs.Types.{Ty, bool, array, vec, ptr, ref}
+use Rattle.wgsl_rules.specs.Values.{Val, Vals, AreLiterals, AreStorable, AreVectors, IsLiteral, IsStorable, IsVector, IsWellFormed, deferred, type_of}
 use Rattle.wgsl_rules.specs.declared.syntax.AddressSpace.{AddressSpace}
 use Rattle.wgsl_rules.specs.declared.syntax.AccessMode.{AccessMode}
 use Rattle.wgsl_scalar.specs.Literals.{literal_of}
 use Rattle.wgsl_scalar.specs.declared.literal.LiteralInstance.{LiteralInstance}
-use Rattle.wgsl_values.proofs.Views.{struct_view-is, mat_view-is, value_of-Literal, value_of-Vec}
-use Rattle.wgsl_values.specs.View.{value_of, mat_view, struct_view, vals_view, vec_view}
+use Rattle.wgsl_values.proofs.Views.{struct_view-is, value_of-Literal, value_of-Vec}
+use Rattle.wgsl_values.specs.View.{value_of, struct_view, vals_view, vec_view}
 use Rattle.wgsl_values.specs.declared.inst.Instance.{Instance, Literal, Vec}
-use Rattle.wgsl_values.specs.declared.inst.MatInstance.{MatInstance}
 use Rattle.wgsl_values.specs.declared.inst.VecInstance.{VecInstance}
 use Rattle.wgsl_values.specs.declared.inst.StructInstance.{StructInstance}
 

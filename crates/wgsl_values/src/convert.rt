@@ -22,7 +22,6 @@ ghost use Rattle.wgsl_values.specs.View.{
   mat_view,
   ptr_view,
   ref_view,
-  struct_view,
   vals_view,
   vec_view,
 };
