@@ -1,6 +1,6 @@
 -- What values, lists of values and views of the program stand for, a case each.
 use Rattle.std.proofs.Common.{◌≡◌, ℕ, zero, suc, ◌<◌, ◌≤◌, List, [], ◌∷◌, length, get_or, set, Some, None, refl, ap, arith, rules, String, Global, Box, string_bytes}
-use Rattle.wgsl_rules.specs.Values.{member, index, record_of, array_of, vector, matrix, atomic_of, deferred, item, count, Val, Vals, no_vals, val}
+use Rattle.wgsl_rules.specs.Values.{member, index, record_of, array_of, vector, matrix, atomic_of, deferred, item, count, val}
 use Rattle.wgsl_rules.specs.Paths.{replace_item}
 use Rattle.wgsl_rules.specs.View.{type_view, struct_view as struct_type_view}
 use Rattle.wgsl_rules.specs.declared.ty.Type.{«Type» as RType}

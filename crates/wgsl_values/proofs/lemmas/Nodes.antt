@@ -1,5 +1,5 @@
 -- How many values are in a value: each part has fewer, so recursions down a value end.
-use Rattle.std.proofs.Common.{◌≡◌, ℕ, zero, suc, ◌+◌, ◌<◌, Option, Some, arith}
+use Rattle.std.proofs.Common.{◌≡◌, ℕ, zero, suc, ◌+◌, ◌<◌, Some, arith}
 use Rattle.wgsl_rules.specs.Values.{Val, record_of, array_of, vector, matrix, atomic_of, Vals, no_vals, val, item}
 use Rattle.wgsl_rules.specs.Paths.{parts}
 

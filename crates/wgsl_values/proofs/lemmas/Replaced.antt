@@ -5,7 +5,7 @@ use Rattle.wgsl_rules.specs.Kinds.{Kind}
 use Rattle.wgsl_rules.specs.Types as types
 use Rattle.wgsl_rules.specs.Types.{Ty, Fields, no_fields, field}
 use Rattle.wgsl_rules.specs.Values.{Val, truth, number, record_of, array_of, vector, matrix, atomic_of, pointer, reference, deferred, Vals, no_vals, val, count, item, type_of, type_of_kind, first_type, array_type, matrix_type, AllOfType, HaveTypes, AreMembers, IsLiteral, AreLiterals, IsVector, AreVectors, IsStorable, AreStorable}
-use Rattle.wgsl_rules.specs.Paths.{parts, value_at, replace_item, with_parts, put_tree}
+use Rattle.wgsl_rules.specs.Paths.{parts, value_at, replace_item, put_tree}
 use Rattle.wgsl_values.specs.Written.{APartReplacedIsStorable, IsReplaced, with_part}
 use Rattle.wgsl_values.proofs.lemmas.Steps.{item-storable, parts-storable, put_tree-step}
 

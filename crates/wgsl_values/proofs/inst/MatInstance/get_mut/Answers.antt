@@ -1,4 +1,4 @@
-use Rattle.std.proofs.Common.{None, refl, ◌∙◌}
+use Rattle.std.proofs.Common.{refl, ◌∙◌}
 use Rattle.wgsl_values.proofs.Written.{on_some, column-kept, component-written, components-kept, component_at-is, component_at-none}
 use Rattle.wgsl_values.proofs.inst.MatInstance.get_mut.Goals as goal
 
