@@ -2,10 +2,7 @@
 //! be so after each.
 
 mod errors;
-mod signatures;
 mod types;
-mod values;
-mod views;
 
 use crate::{RunFault, run_script};
 use std::alloc::{AllocError, Global};

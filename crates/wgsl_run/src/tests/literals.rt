@@ -1,7 +1,6 @@
 //! Literals: conversions and payloads.
 
-use std::alloc::AllocError;
-use wgsl_rules::{Ty, Type};
+use wgsl_rules::Type;
 use wgsl_scalar::LiteralInstance;
 use wgsl_scalar::LiteralInstance::{AbstractInt, I32, I64, U32, U64};
 
@@ -30,22 +29,4 @@ fn payloads(rt: HostRuntime) {
     assert_eq!(rt; U64(8).unwrap_u64(), 8);
     assert!(rt; I64(7).is_finite());
     assert!(rt; !I64(7).is_infinite());
-}
-
-#[test]
-fn types_of_literals(rt: HostRuntime) -> Result<(), AllocError> {
-    for (literal, ty) in [
-        (LiteralInstance::Bool(true), Type::Bool),
-        (AbstractInt(1), Type::AbstractInt),
-        (I32(1), Type::I32),
-        (U32(1), Type::U32),
-        (I64(1), Type::I64),
-        (U64(1), Type::U64),
-    ] {
-        assert_eq!(rt; literal.ty(rt.alloc())?, ty);
-        assert_eq!(rt; literal.inner_ty(rt.alloc())?, ty);
-        assert!(rt; literal.has_ty(&ty), "{ty}");
-        assert!(rt; !literal.has_ty(&Type::F32), "{ty}");
-    }
-    Ok(())
 }

@@ -1,9 +1,21 @@
 //! The example of the README.
 
-use crate::tests::types::pair_type;
+use crate::tests::types::{member, vector};
+use std::alloc::{AllocError, Global};
 use std::test::Fail;
+use wgsl_rules::{StructType, Type};
 use wgsl_scalar::LiteralInstance::U32;
 use wgsl_values::{Instance, MemView, StructInstance, VecInstance};
+
+/// struct Pair { a: u32, b: vec3<u32> }
+fn pair_type(alloc: Global) -> Result<StructType, AllocError> {
+    let a = member(alloc, "a", Type::U32, None)?;
+    let b = member(alloc, "b", vector(alloc, 3, Type::U32)?, None)?;
+    Ok(StructType {
+        name: String::from_str(alloc, "Pair")?,
+        members: vec![in alloc; a, b]?,
+    })
+}
 
 #[test]
 fn the_example_of_the_readme(rt: HostRuntime) -> Result<(), Fail> {
