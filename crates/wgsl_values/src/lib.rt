@@ -19,8 +19,14 @@ mod parts;
 mod view;
 
 pub use call::{CallSignature, TpltParam};
-pub use inst::{ArrayInstance, AtomicInstance, Instance, MatInstance, PtrInstance, RefInstance, StructInstance, VecInstance};
+pub use inst::{
+    ArrayInstance, AtomicInstance, Instance, MatInstance, PtrInstance, RefInstance, StructInstance,
+    VecInstance,
+};
 pub use iter::{IntoItems, Items, MatItems};
-pub use laws::{a_part_replaced_is_storable, texts_tell_values_apart, transposed_exchanges_rows_and_columns, transposed_twice_is_itself};
+pub use laws::{
+    a_part_replaced_is_storable, texts_tell_values_apart, transposed_exchanges_rows_and_columns,
+    transposed_twice_is_itself,
+};
 pub use part_mut::{PartMut, Placed};
 pub use view::MemView;

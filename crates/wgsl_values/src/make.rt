@@ -214,13 +214,13 @@ impl VecInstance {
     }
 }
 
-fn literal_values(
-    alloc: Global,
-    literals: &[LiteralInstance],
-) -> Result<Vec<Instance>, AllocError>
+fn literal_values(alloc: Global, literals: &[LiteralInstance]) -> Result<Vec<Instance>, AllocError>
     ensures { IfOk result (λ v. v.items ≡ map (λ l. Instance.Literal l) literals.now) }
 {
-    literals.iter().map(|literal| Instance::Literal(*literal)).collect(alloc)
+    literals
+        .iter()
+        .map(|literal| Instance::Literal(*literal))
+        .collect(alloc)
 }
 
 impl MatInstance {

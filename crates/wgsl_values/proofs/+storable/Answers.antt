@@ -24,10 +24,10 @@ make::have_types-returns-then-not-is_storable t c = (
       let v = c.index-values-i.result in
       let left = c.loop-i.invariant.1.1 h in
       elim c.then-not-is_storable.branch [
-        make::have_types-then-not-is_storable-via-then-not-is_storable w ↦
-          w.if-not-is_storable.ensures.1 (subst (λ (x : Instance). IsStorable (value_of x)) (sym c.index-values-i.is) (storable-here vs c.loop-i.i v c.loop-i-test.true left.1))
-      | make::have_types-then-not-is_storable-via-else-not-is_storable+then-not-has_ty w ↦
-          w.if-not-has_ty.ensures.1 (ap (λ x. type_of (value_of x)) c.index-values-i.is ∙ of_members-here ms vs c.loop-i.i w.index-members-i.result v c.loop-i-test.true c.loop-i.invariant.0 left)
+        | make::have_types-then-not-is_storable-via-then-not-is_storable w ↦
+            w.if-not-is_storable.ensures.1 (subst (λ (x : Instance). IsStorable (value_of x)) (sym c.index-values-i.is) (storable-here vs c.loop-i.i v c.loop-i-test.true left.1))
+        | make::have_types-then-not-is_storable-via-else-not-is_storable+then-not-has_ty w ↦
+            w.if-not-has_ty.ensures.1 (ap (λ x. type_of (value_of x)) c.index-values-i.is ∙ of_members-here ms vs c.loop-i.i w.index-members-i.result v c.loop-i-test.true c.loop-i.invariant.0 left)
       ]),
 )
 
@@ -40,8 +40,10 @@ make::have_types-loop-i-preserved t c =
     let typed = sym (ap (λ x. type_of (value_of x)) c.index-values-i.is) ∙ c.if-not-has_ty.ensures.0 refl in
     let storable = subst (λ (x : Instance). IsStorable (value_of x)) c.index-values-i.is (c.if-not-is_storable.ensures.0 refl) in (
       c.loop-i.invariant.0,
-      ((λ h. c.loop-i.invariant.1.0 (of_members-more ms vs c.loop-i.i m v c.loop-i-test.true c.loop-i.invariant.0 (typed, storable) h)),
-        (λ h. of_members-rest ms vs c.loop-i.i c.loop-i-test.true c.loop-i.invariant.0 (c.loop-i.invariant.1.1 h))),
+      (
+        (λ h. c.loop-i.invariant.1.0 (of_members-more ms vs c.loop-i.i m v c.loop-i-test.true c.loop-i.invariant.0 (typed, storable) h)),
+        (λ h. of_members-rest ms vs c.loop-i.i c.loop-i-test.true c.loop-i.invariant.0 (c.loop-i.invariant.1.1 h)),
+      ),
     )
 
 pub inst::ArrayInstance::can_make-returns-then-not-is_empty : goal.inst::ArrayInstance::can_make-returns-then-not-is_empty
