@@ -70,6 +70,29 @@ def structs(rng):
             count += 1
 
 
+def types(rng):
+    """Every sort of type: attributes, arrays, matrices, atomics, numbers of 64 bits."""
+    yield "struct A @align(16)a:u32 @size(32)b:vec3<i32> c:mat3x2<u32> d:array<vec2<i64>,3> e:atomic<u32>"
+    yield "struct B a:A b:array<array<u64,2>,2> c:array<mat2x3<u32>>"
+    handles = 0
+    while True:
+        yield f"new A storage read_write {words(rng, 36)}"
+        yield f"member &{handles} d"
+        yield f"index &{handles + 1} {rng.randrange(3)}"
+        yield f"read &{handles + 2}"
+        yield f"write &{handles + 2} {words(rng, 4)}"
+        yield f"dump &{handles}"
+        yield f"new B storage read_write {words(rng, 60)}"
+        yield f"member &{handles + 3} c"
+        yield f"index &{handles + 4} 0"
+        yield f"index &{handles + 5} 1"
+        yield f"new mat2x3<u32> function read_write {words(rng, 8)}"
+        yield f"index &{handles + 7} {rng.randrange(2)}"
+        yield f"copy &{handles + 6} &{handles + 8}"
+        yield f"read &{handles + 7}"
+        handles += 9
+
+
 def chain(depth):
     """Structs, each with the one before as its only member: one made, read, written and dumped."""
     lines = ["struct T0 a:u32"]
@@ -84,7 +107,7 @@ def main():
     if len(sys.argv) > 2:
         (folder / "chain.script").write_text(chain(int(sys.argv[2])))
         return
-    for seed, make in enumerate((handles, cells, structs)):
+    for seed, make in enumerate((handles, cells, structs, types)):
         text = script(make(random.Random(seed)))
         (folder / f"{make.__name__}.script").write_text(text)
         half = text[: len(text) // 2]

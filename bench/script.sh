@@ -1,5 +1,5 @@
 #!/bin/bash
-# Measures the program as LLVM builds it: three scripts of one mebibyte and a half of each, and a
+# Measures the program as LLVM builds it: four scripts of one mebibyte and a half of each, and a
 # chain of structs. script.sh --program only builds it and prints where it is. With PROGRAM set, that
 # program is measured and nothing is built.
 set -euo pipefail
@@ -35,7 +35,7 @@ instructions_of() {
         sed -n 's/^.*Collected : //p'
 }
 
-for name in handles cells structs; do
+for name in handles cells structs types; do
     for size in _half ""; do
         file=$scripts/$name$size.script
         seconds=$(seconds_of "$file" "$scripts/output")

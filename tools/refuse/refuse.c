@@ -9,8 +9,13 @@
 
 static long asked;
 
+/* The report's own growths are none of the program's. */
+static int reporting;
+
 static int is_refused(void) {
     static long number = -1;
+    if (reporting)
+        return 0;
     if (number < 0) {
         const char *text = getenv("REFUSE_GROWTH");
         number = text ? atol(text) : 0;
@@ -45,6 +50,7 @@ void *aligned_alloc(size_t alignment, size_t size) {
 
 __attribute__((destructor)) static void report(void) {
     const char *name = getenv("REFUSE_REPORT");
+    reporting = 1;
     FILE *file = name ? fopen(name, "w") : NULL;
     if (file) {
         fprintf(file, "%ld\n", asked);

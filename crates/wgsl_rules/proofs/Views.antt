@@ -1,11 +1,12 @@
 -- What each case of a type stands for, and what a type is that is none of a case.
 use Rattle.std.proofs.Common.{◌≡◌, ℕ, List, Option, refl, rules, string_bytes, Box, Global}
 use Rattle.wgsl_rules.specs.Types.{Ty, bool, abstract_int, abstract_float, i32, u32, f32, f16, i64, u64, f64, struct, array, vec, mat, atomic, ptr, ref, texture, sampler, Fields}
-use Rattle.wgsl_rules.specs.View.{type_view, struct_view, members_view}
+use Rattle.wgsl_rules.specs.View.{type_view, struct_view, member_view, members_view}
 use Rattle.wgsl_rules.specs.declared.syntax.AddressSpace.{AddressSpace}
 use Rattle.wgsl_rules.specs.declared.syntax.AccessMode.{AccessMode}
 use Rattle.wgsl_rules.specs.declared.syntax.TextureType.{TextureType}
 use Rattle.wgsl_rules.specs.declared.syntax.SamplerType.{SamplerType}
+use Rattle.wgsl_rules.specs.declared.ty.StructMemberType.{StructMemberType, out-StructMemberType}
 use Rattle.wgsl_rules.specs.declared.ty.StructType.{StructType, out-StructType}
 use Rattle.wgsl_rules.specs.declared.ty.Type.{«Type» as RType, Struct', Array', Vec', Mat', Atomic', Ptr', Ref', the_lemmas}
 use Rattle.wgsl_rules.specs.declared.ty.Type.TheVariants as ty
@@ -45,6 +46,9 @@ view-Struct s = search (rules, the_lemmas)
 
 pub struct_view-is : (s : StructType) → struct_view s ≡ struct (string_bytes (out-StructType s).name) (members_view (out-StructType s).members.items)
 struct_view-is s = search (rules, the_lemmas)
+
+pub member_view-is : (m : StructMemberType) → member_view m ≡ record { name = string_bytes (out-StructMemberType m).name; ty = type_view (out-StructMemberType m).ty; size = (out-StructMemberType m).size; align = (out-StructMemberType m).align }
+member_view-is m = search (rules, the_lemmas)
 
 pub view-Array : (t : Box RType Global) (n : Option ℕ) → type_view (ty.Array t n) ≡ array (type_view t.value) n
 view-Array t n = search (rules, the_lemmas)

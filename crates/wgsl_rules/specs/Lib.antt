@@ -8,6 +8,7 @@ pub mod InCommon
 pub mod Kinds
 pub mod Laws
 pub mod Layout
+pub mod Measures
 pub mod Memory
 pub mod Paths
 pub mod Refusals

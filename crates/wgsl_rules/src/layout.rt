@@ -100,7 +100,6 @@ impl StructType {
     fn has_layout(&self) -> bool
         ensures { result ≡ has_layout (struct_view self.now) }
     {
-        let members = measure_members(self.members.as_slice());
-        members.are_fixed && members.size().is_some() || members.end_in_runtime_array
+        measure_members(self.members.as_slice()).have_layout()
     }
 }

@@ -21,6 +21,7 @@ pub use generic::{
     convert, convert_all, convert_all_inner_to, convert_all_to, convert_inner,
     convert_is_symmetric, converting_again_changes_nothing,
 };
+pub use measures::{Measures, MemberMeasures};
 pub use syntax::{
     AccessMode, AddressSpace, BinaryOperator, Enumerant, SampledType, SamplerType, ShaderStage,
     TexelFormat, TextureType, UnaryOperator,

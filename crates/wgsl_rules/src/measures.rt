@@ -1,6 +1,6 @@
 //! What is known of a type: its size, its alignment and its layout, found in one walk down the type.
 
-ghost use Rattle.std.specs.Prelude.{◌≡◌, Some, false, is_some, max, ◌&&◌};
+ghost use Rattle.std.specs.Prelude.{◌≡◌, ℕ, List, Some, false, is_some, max, ◌&&◌, ◌||◌};
 ghost use Rattle.wgsl_rules.specs.Layout.{
   has_fixed_layout,
   have_fixed_layouts,
@@ -22,30 +22,34 @@ ghost use Rattle.wgsl_rules.specs.Size.{
   with_both,
   stride_of,
 };
+ghost use Rattle.wgsl_rules.specs.Measures.{AreMeasuresOf, AreMeasuresOfMember};
+ghost use Rattle.wgsl_rules.specs.Types.{Ty, array};
 ghost use Rattle.wgsl_rules.specs.View.{type_view, struct_view, member_view, members_view};
 
 use crate::layout::{is_align_valid, is_from_2_to_4, is_size_valid};
 use crate::number::{rounded_if_known, sum_if_known, times};
 use crate::ty::{StructMemberType, StructType, Type};
 
-/// Of a type, or of a member with its attributes: how many bytes it takes, what its place is a
-/// multiple of, and whether it has a fixed layout, or is a runtime-sized array that has one.
+/// What is known of a type, or of a member with its attributes: how many bytes it takes and what its
+/// place is a multiple of, `None` where that is not known or passes 4294967295; whether it has a
+/// layout of a fixed size, and whether it is a runtime-sized array that has a layout.
 #[derive(Clone, Copy)]
-pub(crate) struct Measures {
-    pub(crate) size: Option<u32>,
-    pub(crate) align: Option<u32>,
-    pub(crate) is_fixed: bool,
-    pub(crate) is_runtime_array: bool,
+pub struct Measures {
+    pub size: Option<u32>,
+    pub align: Option<u32>,
+    pub is_fixed: bool,
+    pub is_runtime_array: bool,
 }
 
-/// Of the members of a structure: where the last ends, the greatest alignment, whether all have
-/// fixed layouts, and whether the last is a runtime-sized array and the others have.
+/// What is known of the members of a structure, in their order: where the last ends and the greatest
+/// alignment, in bytes; whether each has a layout of a fixed size; and whether the last is a
+/// runtime-sized array that has a place, and each of the others has such a layout.
 #[derive(Clone, Copy)]
-pub(crate) struct Members {
-    pub(crate) end: Option<u32>,
-    pub(crate) align: Option<u32>,
-    pub(crate) are_fixed: bool,
-    pub(crate) end_in_runtime_array: bool,
+pub struct MemberMeasures {
+    pub end: Option<u32>,
+    pub align: Option<u32>,
+    pub are_fixed: bool,
+    pub end_in_runtime_array: bool,
 }
 
 impl Measures {
@@ -71,31 +75,78 @@ impl Measures {
         }
     }
 
-    /// From one element of an array of these to the next.
-    pub(crate) fn stride(self) -> Option<u32>
+    /// From one element of an array of these to the next, in bytes.
+    pub fn stride(self) -> Option<u32>
         ensures { result ≡ stride_of self.align self.size }
     {
         rounded_if_known(self.align, self.size)
     }
+
+    /// Of an array of n elements of these measures; of a runtime-sized one where n is `None`.
+    pub fn of_array(self, n: Option<usize>) -> Self
+        ensures { (t : Ty) → AreMeasuresOf t self → AreMeasuresOf (array t n) result }
+    {
+        let stride = self.stride();
+        match n {
+            Some(n) => {
+                let size = times(n, stride);
+                Measures {
+                    size,
+                    align: self.align,
+                    is_fixed: 1 <= n && self.is_fixed && size.is_some(),
+                    is_runtime_array: false,
+                }
+            }
+            None => Measures {
+                size: None,
+                align: self.align,
+                is_fixed: false,
+                is_runtime_array: self.is_fixed && stride.is_some(),
+            },
+        }
+    }
+
+    /// Of a member of a type of these measures, with its attributes, which take the place of what the
+    /// type has (WGSL: structure member layout).
+    pub fn of_member(self, size: Option<u32>, align: Option<u32>) -> Self
+        ensures { (n : List ℕ) (t : Ty) → AreMeasuresOf t self → AreMeasuresOfMember (record { name = n; ty = t; size = size; align = align }) result }
+    {
+        let is_size_valid = is_size_valid(size, self.size);
+        let is_align_valid = is_align_valid(align, self.align);
+        Measures {
+            size: size.or(self.size),
+            align: align.or(self.align),
+            is_fixed: self.is_fixed && is_size_valid && is_align_valid,
+            is_runtime_array: self.is_runtime_array && size.is_none() && is_align_valid,
+        }
+    }
 }
 
-impl Members {
-    const NONE: Members = Members {
+impl MemberMeasures {
+    /// Of no members.
+    pub const NONE: MemberMeasures = MemberMeasures {
         end: Some(0),
         align: Some(0),
         are_fixed: true,
         end_in_runtime_array: false,
     };
 
-    // These and one member more.
-    fn with(self, member: Measures) -> Self
+    /// Where a member stands that comes after these, in bytes from the start of the structure.
+    pub fn offset_of(self, member: Measures) -> Option<u32>
+        ensures { result ≡ with_both round_up member.align self.end }
+    {
+        rounded_if_known(member.align, self.end)
+    }
+
+    /// These and one member more.
+    pub fn with(self, member: Measures) -> Self
         ensures end { result.end ≡ end_after self.end (record { size = member.size; align = member.align }) }
         ensures align { result.align ≡ align_after self.align (record { size = member.size; align = member.align }) }
         ensures fixed { result.are_fixed ≡ (self.are_fixed && member.is_fixed) }
         ensures runtime { result.end_in_runtime_array ≡ (self.are_fixed && (member.is_runtime_array && is_some (with_both round_up member.align self.end))) }
     {
-        let offset = rounded_if_known(member.align, self.end);
-        Members {
+        let offset = self.offset_of(member);
+        MemberMeasures {
             end: sum_if_known(offset, member.size),
             align: greater(self.align, member.align),
             are_fixed: self.are_fixed && member.is_fixed,
@@ -103,11 +154,28 @@ impl Members {
         }
     }
 
-    /// The size of the structure: the end of the last member, rounded up to the alignment.
-    pub(crate) fn size(self) -> Option<u32>
-        ensures { result ≡ with_both round_up self.align self.end }
+    /// Of the structure of these members, whose size is the end of the last, rounded up to the
+    /// alignment.
+    pub fn of_struct(self) -> Measures
+        ensures size { result.size ≡ with_both round_up self.align self.end }
+        ensures align { result.align ≡ self.align }
+        ensures fixed { result.is_fixed ≡ (self.are_fixed && is_some (with_both round_up self.align self.end)) }
+        ensures runtime { result.is_runtime_array ≡ false }
     {
-        rounded_if_known(self.align, self.end)
+        let size = rounded_if_known(self.align, self.end);
+        Measures {
+            size,
+            align: self.align,
+            is_fixed: self.are_fixed && size.is_some(),
+            is_runtime_array: false,
+        }
+    }
+
+    /// Whether the structure of these members has a layout.
+    pub fn have_layout(self) -> bool
+        ensures { result ≡ ((self.are_fixed && is_some (with_both round_up self.align self.end)) || self.end_in_runtime_array) }
+    {
+        self.of_struct().is_fixed || self.end_in_runtime_array
     }
 }
 
@@ -119,8 +187,9 @@ fn greater(a: Option<u32>, b: Option<u32>) -> Option<u32>
 }
 
 impl Type {
+    /// The size, the alignment and whether there is a layout, in one walk down the type.
     #[cycle(measures)]
-    pub(crate) fn measures(&self) -> Measures
+    pub fn measures(&self) -> Measures
         ensures size { result.size ≡ size_of (type_view self.now) }
         ensures align { result.align ≡ align_of (type_view self.now) }
         ensures fixed { result.is_fixed ≡ has_fixed_layout (type_view self.now) }
@@ -153,27 +222,7 @@ impl Type {
                     is_runtime_array: false,
                 }
             }
-            Type::Array(element, n) => {
-                let element = element.measures();
-                let stride = element.stride();
-                match n {
-                    Some(n) => {
-                        let size = times(*n, stride);
-                        Measures {
-                            size,
-                            align: element.align,
-                            is_fixed: 1 <= *n && element.is_fixed && size.is_some(),
-                            is_runtime_array: false,
-                        }
-                    }
-                    None => Measures {
-                        size: None,
-                        align: element.align,
-                        is_fixed: false,
-                        is_runtime_array: element.is_fixed && stride.is_some(),
-                    },
-                }
-            }
+            Type::Array(element, n) => element.measures().of_array(*n),
             Type::Struct(ty) => ty.measures(),
             Type::AbstractInt | Type::AbstractFloat => Measures::UNKNOWN,
             Type::Ptr(_, _, _) | Type::Ref(_, _, _) => Measures::UNKNOWN,
@@ -190,25 +239,18 @@ impl StructType {
         ensures fixed { result.is_fixed ≡ has_fixed_layout (struct_view self.now) }
         ensures runtime { result.is_runtime_array ≡ false }
     {
-        let members = measure_members(self.members.as_slice());
-        let size = members.size();
-        Measures {
-            size,
-            align: members.align,
-            is_fixed: members.are_fixed && size.is_some(),
-            is_runtime_array: false,
-        }
+        measure_members(self.members.as_slice()).of_struct()
     }
 }
 
 #[cycle(measures)]
-pub(crate) fn measure_members(members: &[StructMemberType]) -> Members
+pub(crate) fn measure_members(members: &[StructMemberType]) -> MemberMeasures
     ensures end { result.end ≡ end_of_members (Some 0) (extents (members_view members.now)) }
     ensures align { result.align ≡ struct_align (extents (members_view members.now)) }
     ensures fixed { result.are_fixed ≡ have_fixed_layouts (members_view members.now) }
     ensures runtime { result.end_in_runtime_array ≡ end_in_runtime_array (Some 0) (members_view members.now) }
 {
-    let mut so_far = Members::NONE;
+    let mut so_far = MemberMeasures::NONE;
     for member in members {
         so_far = so_far.with(member.measures());
     }
@@ -224,14 +266,6 @@ impl StructMemberType {
         ensures fixed { result.is_fixed ≡ is_fixed_member (member_view self.now) }
         ensures runtime { result.is_runtime_array ≡ is_runtime_member (member_view self.now) }
     {
-        let own = self.ty.measures();
-        let is_size_valid = is_size_valid(self.size, own.size);
-        let is_align_valid = is_align_valid(self.align, own.align);
-        Measures {
-            size: self.size.or(own.size),
-            align: self.align.or(own.align),
-            is_fixed: own.is_fixed && is_size_valid && is_align_valid,
-            is_runtime_array: own.is_runtime_array && self.size.is_none() && is_align_valid,
-        }
+        self.ty.measures().of_member(self.size, self.align)
     }
 }

@@ -23,6 +23,10 @@ IsNumber word = IsNumeral 10 word × (length word ≤ 10)
 abbrev pub number : List ℕ → ℕ
 number word = digits_value 10 word
 
+-- a number up to 4294967295
+abbrev pub IsCount : List ℕ → Type 0
+IsCount word = IsNumber word × (number word ≤ 4294967295)
+
 -- an `&`, then a number
 abbrev pub IsHandle : List ℕ → Type 0
 IsHandle [] = ⊥

@@ -1,16 +1,13 @@
-//! The words of a line: names, numbers, handles, bytes, address spaces and access modes.
+//! The words of a line: names, numbers, handles, address spaces and access modes.
 
-ghost use Rattle.std.specs.Prelude.{◌≡◌, ◌≢◌, ◌⊎◌, Ok, Err, IsErr, IfOk, IfErr, IfSome, IsNone};
+ghost use Rattle.std.specs.Prelude.{◌≡◌, ◌≢◌, IfSome, IsNone};
 ghost use Rattle.std.specs.List.{list_all};
 ghost use Rattle.std.specs.Option.{SomeIff};
-ghost use Rattle.hex.specs.Hex.{decode_of};
 ghost use Rattle.wgsl_rules.specs.declared.syntax.AddressSpace.{AddressSpace};
 ghost use Rattle.wgsl_rules.specs.declared.syntax.AccessMode.{AccessMode};
 ghost use Rattle.wgsl_rules.specs.Text.{space_text, access_text};
-ghost use Rattle.wgsl_run.specs.Words.{is_name, begins_name, continues_name, IsNumber, number, IsHandle, handle};
+ghost use Rattle.wgsl_run.specs.Words.{is_name, begins_name, continues_name, IsNumber, number, IsCount, IsHandle, handle};
 
-use crate::answer::Stop;
-use hex::FromHexError;
 use std::alloc::{AllocError, Global};
 use wgsl_rules::{AccessMode, AddressSpace};
 
@@ -73,24 +70,18 @@ pub(crate) fn number_of(word: &str) -> Option<usize>
     word.parse().ok()
 }
 
+/// A count or an attribute: a number up to 4294967295.
+pub(crate) fn count_of(word: &str) -> Option<u32>
+    ensures { SomeIff result (IsCount word.now) (number word.now) }
+{
+    u32::try_from(number_of(word)?).ok()
+}
+
 /// The number of a handle, which stands behind an `&`.
 pub(crate) fn handle_of(word: &str) -> Option<usize>
     ensures { SomeIff result (IsHandle word.now) (handle word.now) }
 {
     number_of(word.strip_prefix('&')?)
-}
-
-/// The bytes that hexadecimal digits of either case write, two a byte.
-pub(crate) fn bytes_of(alloc: Global, word: &str) -> Result<Vec<u8>, Stop>
-    ensures ok { IfOk result (λ bytes. decode_of word.now ≡ Ok bytes.items) }
-    ensures bad { result ≡ Err Stop.BadLine → IsErr (decode_of word.now) }
-    ensures err { IfErr result (λ stop. (stop ≡ Stop.BadLine) ⊎ (stop ≡ Stop.Memory)) }
-{
-    match hex::decode(alloc, word) {
-        Ok(bytes) => Ok(bytes),
-        Err(FromHexError::OutOfMemory) => Err(Stop::Memory),
-        Err(_) => Err(Stop::BadLine),
-    }
 }
 
 /// The address space that a word names.

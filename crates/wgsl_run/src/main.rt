@@ -2,35 +2,27 @@
 #![tactic(auto)]
 
 mod answer;
-mod buffer;
-mod call;
-mod clone;
-mod display;
-mod error;
+mod attributes;
 mod fault;
 mod grammar;
+mod hexadecimal;
 mod input;
-mod inst;
-mod laws;
-mod mem;
-mod mem_mut;
 mod output;
-mod reference;
 mod script;
-mod session;
-mod size;
-mod store;
+mod stop;
 mod structs;
 #[cfg(test)]
 mod tests;
+mod type_words;
 
 pub use fault::RunFault;
 pub use script::run_script;
 use std::io;
+use std::io::{BufWriter, Write};
 use std::process::ExitCode;
 
 fn main(rt: HostRuntime) -> ExitCode {
-    match run_script(rt.alloc(), &mut rt.reader(), &mut io::writer(&rt)) {
+    match run(&rt) {
         Ok(()) => ExitCode::SUCCESS,
         Err(fault) => {
             let text = fault.text();
@@ -38,4 +30,13 @@ fn main(rt: HostRuntime) -> ExitCode {
             ExitCode::from(fault.status())
         }
     }
+}
+
+/// Runs the script of standard input. What is printed waits in a buffer, and is written at the
+/// latest when the run ends.
+fn run<R: AllocGlobal + Input + Print>(rt: &R) -> Result<(), RunFault> {
+    let mut writer = BufWriter::new(rt.alloc(), io::writer(rt)).map_err(|_| RunFault::Memory)?;
+    let outcome = run_script(rt.alloc(), &mut rt.reader(), &mut writer);
+    let flushed = writer.flush().map_err(|_| RunFault::Write);
+    outcome.and(flushed)
 }

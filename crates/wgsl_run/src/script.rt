@@ -1,26 +1,26 @@
 //! Scripts: a line a call.
 
 ghost use Rattle.std.specs.Prelude.{◌≡◌, IfOk, Err};
-ghost use Rattle.wgsl_run.specs.Buffers.{Lays};
+ghost use Rattle.wgsl_store.specs.Buffers.{Lays};
 ghost use Rattle.wgsl_rules.specs.Values.{Val};
 ghost use Rattle.wgsl_rules.specs.View.{type_view};
-ghost use Rattle.wgsl_run.specs.View.{value_of};
+ghost use Rattle.wgsl_values.specs.View.{value_of};
 
-use crate::answer::{Answer, Stop, write_answer};
-use crate::call::{Call, Reply};
+use crate::answer::{Answer, write_answer};
 use crate::fault::RunFault;
-use crate::grammar::{
-    access_of, bytes_of, handle_of, is_name, number_of, space_of, without_end, words_of,
-};
+use crate::grammar::{access_of, handle_of, is_name, number_of, space_of, without_end, words_of};
+use crate::hexadecimal::bytes_of;
 use crate::input::read_input;
-use crate::inst::Instance;
 use crate::output::write_bytes;
-use crate::session::Session;
+use crate::stop::Stop;
 use crate::structs::Structs;
 use std::alloc::{AllocError, Global};
 use std::io::{Read, Write};
 use std::str;
 use wgsl_rules::Type;
+use wgsl_session::{Call, Fault, Reply, Session};
+use wgsl_store::Buffers;
+use wgsl_values::Instance;
 
 /// Runs the script that the reader gives, and writes a line for each line that has a word. All of
 /// the script is read before its first line is run; each line is written before the next one is
@@ -70,7 +70,7 @@ impl Script {
             }
             Err(_) => Err(Stop::BadLine),
         };
-        write_answer(self.alloc, text, answer)
+        write_answer(text, &answer)
     }
 
     fn answer(&mut self, words: &[&str]) -> Result<Answer, Stop> {
@@ -81,6 +81,7 @@ impl Script {
             ["index", handle, i] => self.index(handle, i),
             ["read", handle] => self.read(handle),
             ["write", handle, bytes] => self.write(handle, bytes),
+            ["copy", from, to] => self.copy(from, to),
             ["dump", handle] => self.dump(handle),
             _ => Err(Stop::BadLine),
         }
@@ -88,15 +89,15 @@ impl Script {
 
     fn define(&mut self, name: &str, members: &[&str]) -> Result<Answer, Stop> {
         self.structs.define(name, members)?;
-        Ok(Answer::Done)
+        Ok(Reply::Done.into())
     }
 
-    #[tactic(auto, using(crate::proofs::Scripts::laid_is_cell))]
+    #[tactic(auto, using(crate::proofs::Scripts::laid_is_plain))]
     fn make(&mut self, ty: &str, space: &str, access: &str, bytes: &str) -> Result<Answer, Stop> {
         let space = space_of(space).ok_or(Stop::BadLine)?;
         let access = access_of(access).ok_or(Stop::BadLine)?;
-        let bytes = bytes_of(self.alloc, bytes)?;
-        let ty = self.structs.type_of(ty)?.ok_or(Stop::BadLine)?;
+        let bytes = bytes_of(self.alloc, bytes)?.ok_or(Stop::BadLine)?;
+        let ty = self.structs.type_of(ty)?;
         let value = laid_out(self.alloc, bytes.as_slice(), &ty)?;
         Ok(self.session.call(Call::New(value, space, access))?.into())
     }
@@ -121,12 +122,19 @@ impl Script {
         Ok(self.session.call(Call::Read(handle))?.into())
     }
 
+    #[tactic(auto, using(crate::proofs::Scripts::laid_is_plain))]
     fn write(&mut self, handle: &str, bytes: &str) -> Result<Answer, Stop> {
         let handle = handle_of(handle).ok_or(Stop::BadLine)?;
-        let bytes = bytes_of(self.alloc, bytes)?;
-        let reference = self.session.reference(handle).ok_or(Stop::NoHandle)?;
+        let bytes = bytes_of(self.alloc, bytes)?.ok_or(Stop::BadLine)?;
+        let reference = self.session.reference(handle).ok_or(Fault::NoHandle)?;
         let value = laid_out(self.alloc, bytes.as_slice(), reference.target_ty())?;
         Ok(self.session.call(Call::Write(handle, value))?.into())
+    }
+
+    fn copy(&mut self, from: &str, to: &str) -> Result<Answer, Stop> {
+        let from = handle_of(from).ok_or(Stop::BadLine)?;
+        let to = handle_of(to).ok_or(Stop::BadLine)?;
+        Ok(self.session.call(Call::Copy(from, to))?.into())
     }
 
     // The bytes of the value that the handle names.

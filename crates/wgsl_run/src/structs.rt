@@ -1,7 +1,9 @@
-//! The structures that a script defines.
+//! The structures that a script defines, and the types that its words name.
 
-use crate::answer::Stop;
-use crate::grammar::is_name;
+use crate::attributes::{Attributes, split_attributes};
+use crate::grammar::{count_of, is_name};
+use crate::stop::Stop;
+use crate::type_words::{Plain, array_parts, is_nested_little, plain_of};
 use std::alloc::{AllocError, Global};
 use std::collections::BTreeMap;
 use wgsl_rules::{StructMemberType, StructType, Type};
@@ -9,18 +11,25 @@ use wgsl_rules::{StructMemberType, StructType, Type};
 /// The most nodes of a type: one for each type in it, those of members included.
 const NODES: usize = 4096;
 
-/// What a word for a type names.
+/// What a word for a type names: arrays, one inside the other, of a type that is none.
+#[derive(Debug, Drop)]
+struct TypeName {
+    /// How many elements each has, the outermost first; `None` is a runtime-sized array's.
+    arrays: Vec<Option<u32>>,
+    element: Element,
+}
+
+/// A type that is no array.
 #[derive(Clone, Copy, Debug, PartialEq, Eq)]
-pub(crate) enum TypeName {
-    U32,
-    /// A vector of so many `u32`.
-    Vec(u8),
+enum Element {
+    Plain(Plain),
     /// The structure of this number.
     Struct(usize),
 }
 
 #[derive(Debug, Drop)]
 struct Member {
+    attributes: Attributes,
     name: String,
     ty: TypeName,
 }
@@ -51,7 +60,7 @@ impl Structs {
         }
     }
 
-    /// Defines a structure by its name and the words of its members, as `a:u32`.
+    /// Defines a structure by its name and the words of its members, as `@size(16)a:u32`.
     pub(crate) fn define(&mut self, name: &str, members: &[&str]) -> Result<(), Stop> {
         if !self.is_free(name) || members.is_empty() {
             return Err(Stop::BadLine);
@@ -70,23 +79,11 @@ impl Structs {
         Ok(())
     }
 
-    /// What a word for a type names; `None` where it names no type.
-    pub(crate) fn type_name(&self, word: &str) -> Option<TypeName> {
-        match word {
-            "u32" => Some(TypeName::U32),
-            "vec2<u32>" => Some(TypeName::Vec(2)),
-            "vec3<u32>" => Some(TypeName::Vec(3)),
-            "vec4<u32>" => Some(TypeName::Vec(4)),
-            name => self.numbers.get(name).copied().map(TypeName::Struct),
-        }
-    }
-
-    /// The type that a word names; `None` where it names none.
-    pub(crate) fn type_of(&self, word: &str) -> Result<Option<Type>, AllocError> {
-        match self.type_name(word) {
-            Some(name) => type_in(self.alloc, self.declared.as_slice(), name),
-            None => Ok(None),
-        }
+    /// The type that a word names.
+    pub(crate) fn type_of(&self, word: &str) -> Result<Type, Stop> {
+        let name = self.type_name(word)?;
+        let ty = type_in(self.alloc, self.declared.as_slice(), &name)?;
+        ty.ok_or(Stop::BadLine)
     }
 
     // Whether a structure may be given the name.
@@ -102,10 +99,8 @@ impl Structs {
         let mut nodes = 1usize;
         for word in words {
             let member = self.member(word)?;
-            nodes = nodes.saturating_add(self.nodes_of(member.ty));
-            if members.push(member).is_err() {
-                return Err(Stop::Memory);
-            }
+            nodes = nodes.saturating_add(self.nodes_of(&member.ty));
+            members.push(member).map_err(AllocError::from)?;
         }
         if nodes > NODES {
             return Err(Stop::BadLine);
@@ -118,24 +113,57 @@ impl Structs {
     }
 
     fn member(&self, word: &str) -> Result<Member, Stop> {
+        let (attributes, word) = split_attributes(word).ok_or(Stop::BadLine)?;
         let (name, ty) = word.split_once(':').ok_or(Stop::BadLine)?;
-        let ty = self.type_name(ty).ok_or(Stop::BadLine)?;
         if !is_name(name) {
             return Err(Stop::BadLine);
         }
-        let name = String::from_str(self.alloc, name)?;
-        Ok(Member { name, ty })
+        Ok(Member {
+            attributes,
+            ty: self.type_name(ty)?,
+            name: String::from_str(self.alloc, name)?,
+        })
     }
 
-    fn nodes_of(&self, name: TypeName) -> usize {
-        match name {
-            TypeName::U32 => 1,
-            TypeName::Vec(_) => 2,
-            TypeName::Struct(n) => self
+    // What a word for a type names.
+    fn type_name(&self, word: &str) -> Result<TypeName, Stop> {
+        if !is_nested_little(word) {
+            return Err(Stop::BadLine);
+        }
+        let mut arrays = Vec::new(self.alloc);
+        let mut rest = word;
+        while let Some((element, count)) = array_parts(rest) {
+            let count = match count {
+                Some(count) => Some(count_of(count).ok_or(Stop::BadLine)?),
+                None => None,
+            };
+            arrays.push(count).map_err(AllocError::from)?;
+            rest = element;
+        }
+        let element = self.element(rest).ok_or(Stop::BadLine)?;
+        let name = TypeName { arrays, element };
+        if self.nodes_of(&name) > NODES {
+            return Err(Stop::BadLine);
+        }
+        Ok(name)
+    }
+
+    fn element(&self, word: &str) -> Option<Element> {
+        match plain_of(word) {
+            Some(plain) => Some(Element::Plain(plain)),
+            None => self.numbers.get(word).copied().map(Element::Struct),
+        }
+    }
+
+    fn nodes_of(&self, name: &TypeName) -> usize {
+        let nodes = match name.element {
+            Element::Plain(plain) => plain.nodes(),
+            Element::Struct(n) => self
                 .declared
                 .get(n)
                 .map_or(0, |declaration| declaration.nodes),
-        }
+        };
+        nodes.saturating_add(name.arrays.len())
     }
 }
 
@@ -144,36 +172,36 @@ impl Structs {
 fn type_in(
     alloc: Global,
     earlier: &[Declaration],
-    name: TypeName,
+    name: &TypeName,
 ) -> Result<Option<Type>, AllocError> {
-    match name {
-        TypeName::U32 => Ok(Some(Type::U32)),
-        TypeName::Vec(n) => Ok(Some(Type::Vec(n, Box::new(alloc, Type::U32)?))),
-        TypeName::Struct(n) => {
-            let Some(declaration) = earlier.get(n) else {
-                return Ok(None);
-            };
-            struct_in(alloc, &earlier[..n], declaration)
-        }
+    let element = match name.element {
+        Element::Plain(plain) => Some(plain.ty(alloc)?),
+        Element::Struct(n) => struct_in(alloc, earlier, n)?,
+    };
+    let Some(mut ty) = element else {
+        return Ok(None);
+    };
+    for count in name.arrays.iter().rev() {
+        ty = Type::Array(Box::new(alloc, ty)?, count.map(|n| n as usize));
     }
+    Ok(Some(ty))
 }
 
 #[cycle(build)]
-fn struct_in(
-    alloc: Global,
-    earlier: &[Declaration],
-    declaration: &Declaration,
-) -> Result<Option<Type>, AllocError> {
+fn struct_in(alloc: Global, earlier: &[Declaration], n: usize) -> Result<Option<Type>, AllocError> {
+    let Some(declaration) = earlier.get(n) else {
+        return Ok(None);
+    };
     let mut members = Vec::with_capacity(alloc, declaration.members.len())?;
     for member in &declaration.members {
-        let Some(ty) = type_in(alloc, earlier, member.ty)? else {
+        let Some(ty) = type_in(alloc, &earlier[..n], &member.ty)? else {
             return Ok(None);
         };
         members.push(StructMemberType {
             name: member.name.clone()?,
             ty,
-            size: None,
-            align: None,
+            size: member.attributes.size,
+            align: member.attributes.align,
         })?;
     }
     let name = declaration.name.clone()?;

@@ -1,22 +1,35 @@
 //! What public calls of all crates answer, and scripts over memory: what each line is answered, and how a run
 //! ends.
 
+mod buffers;
+mod conversions;
 mod errors;
 mod faults;
 mod grammar;
 mod growth;
+mod instances;
 mod limits;
 mod literals;
 mod operators;
+mod parts;
+mod plain_memory;
 mod readme;
+mod references;
 mod rows;
+mod samples;
+mod sessions;
+mod signatures;
 mod sizes;
 mod texts;
 mod types;
+mod value_texts;
+mod value_types;
 mod values;
+mod views;
 
 use crate::{RunFault, run_script};
 use std::alloc::Global;
+use std::fmt::Write;
 use std::process::Abort;
 use std::test::Fail;
 
@@ -33,4 +46,35 @@ fn assert_prints(rt: &impl Abort, alloc: Global, script: &[u8], wanted: &[u8]) -
     let output = output_of(alloc, script)?;
     assert_eq!(rt; output.as_slice(), wanted);
     Ok(())
+}
+
+/// Asserts what each line of a script prints, and nothing where the answer is empty.
+fn assert_answers(rt: &impl Abort, alloc: Global, lines: &[(&str, &str)]) -> Result<(), Fail> {
+    let mut script = String::new(alloc);
+    let mut wanted = String::new(alloc);
+    for (line, answer) in lines {
+        writeln!(script, "{line}")?;
+        if !answer.is_empty() {
+            writeln!(wanted, "{answer}")?;
+        }
+    }
+    assert_prints(rt, alloc, script.as_bytes(), wanted.as_bytes())
+}
+
+/// Asserts that each line, with one of the words in the place of its star, prints the answer.
+fn assert_each(
+    rt: &impl Abort,
+    alloc: Global,
+    line: &str,
+    words: &[&str],
+    answer: &str,
+) -> Result<(), Fail> {
+    let (before, after) = line.split_once('*').ok_or("a line with a star")?;
+    let mut script = String::new(alloc);
+    let mut wanted = String::new(alloc);
+    for word in words {
+        writeln!(script, "{before}{word}{after}")?;
+        writeln!(wanted, "{answer}")?;
+    }
+    assert_prints(rt, alloc, script.as_bytes(), wanted.as_bytes())
 }

@@ -1,10 +1,16 @@
+pub mod Alike
 pub mod Back
 pub mod Compose
 pub mod Counts
 pub mod Decoded
 pub mod Fixed
 pub mod Follows
+pub mod Held
+pub mod HeldPaths
 pub mod Known
+pub mod Leaves
+pub mod LikeViews
+pub mod Loads
 pub mod Numbers
 pub mod Overwritten
 pub mod Padding
@@ -13,5 +19,10 @@ pub mod Positive
 pub mod Puts
 pub mod Ranges
 pub mod Roundtrip
+pub mod Sound
+pub mod Standing
 pub mod Tidy
 pub mod ViewPaths
+pub mod Writes
+pub mod WritesApart
+pub mod Written

@@ -1,3 +1,13 @@
 pub mod Buffers
+pub mod Fitting
 pub mod Laws
+pub mod Loaded
+pub mod Memory
+pub mod MemoryLaws
+pub mod Plan
 pub mod Ranges
+pub mod Reading
+pub mod ReferenceCalls
+pub mod Shown
+pub mod TypePlan
+pub mod Walk

@@ -1,4 +1,4 @@
-//! Laws of layouts and of buffers (WGSL: internal layout of values; memory views). The calls do nothing.
+//! Laws of layouts, of buffers and of memory (WGSL: internal layout of values; memory views). The calls do nothing.
 
 ghost use Rattle.wgsl_store.specs.Laws.{
   LeavesAreInOrder,
@@ -11,6 +11,18 @@ ghost use Rattle.wgsl_store.specs.Laws.{
   AReadValueHasTheBytes,
   BuffersTellValuesApart,
   APutOverwritesItsRange,
+};
+ghost use Rattle.wgsl_store.specs.MemoryLaws.{
+  AValueIsHeldByItsPaths,
+  ANewCellKeepsReferences,
+  AWriteKeepsReferences,
+  AStepDeeperIsKept,
+  WhatIsReadMayBeStored,
+  AWriteIsRead,
+  AReadIsWrittenBack,
+  TheLastWriteStands,
+  WritesApartCommute,
+  LoadingReadsOn,
 };
 
 /// A law: the scalars of a layout do not overlap, and lie inside its length.
@@ -65,4 +77,58 @@ pub fn buffers_tell_values_apart()
 /// other byte.
 pub fn a_put_overwrites_its_range()
     ensures { APutOverwritesItsRange }
+{}
+
+/// A law: a value is held by cells where each reference and each pointer at a path of it is kept there.
+pub fn a_value_is_held_by_its_paths()
+    ensures { AValueIsHeldByItsPaths }
+{}
+
+/// A law: after a new cell each cell still holds a value that may be stored, with references that are kept; each
+/// reference that was kept is kept, and so is the reference of the new cell.
+pub fn a_new_cell_keeps_references()
+    ensures { ANewCellKeepsReferences }
+{}
+
+/// A law: after an accepted write each cell still holds a value that may be stored, with references that are kept,
+/// and each reference that was kept is kept: its view leads to a value of its type.
+pub fn a_write_keeps_references()
+    ensures { AWriteKeepsReferences }
+{}
+
+/// A law: the reference that a further step answers is kept.
+pub fn a_step_deeper_is_kept()
+    ensures { AStepDeeperIsKept }
+{}
+
+/// A law: what is read may be put into a cell again.
+pub fn what_is_read_may_be_stored()
+    ensures { WhatIsReadMayBeStored }
+{}
+
+/// A law: after an accepted write through a reference that may be read, the value written is what is read.
+pub fn a_write_is_read()
+    ensures { AWriteIsRead }
+{}
+
+/// A law: what was read through a reference that may write is accepted back, and nothing changes.
+pub fn a_read_is_written_back()
+    ensures { AReadIsWrittenBack }
+{}
+
+/// A law: of two writes through one reference the last stands. After one that was accepted, a write is accepted
+/// or refused as without it, and leaves what it would leave without it.
+pub fn the_last_write_stands()
+    ensures { TheLastWriteStands }
+{}
+
+/// A law: accepted writes into two cells, or at paths of one cell of which neither begins the other, may change
+/// places, and neither changes what is read through the reference of the other.
+pub fn writes_apart_commute()
+    ensures { WritesApartCommute }
+{}
+
+/// A law: loading a reference reads it, and goes on while what is read is a reference.
+pub fn loading_reads_on()
+    ensures { LoadingReadsOn }
 {}

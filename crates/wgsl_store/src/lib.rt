@@ -1,4 +1,22 @@
-//! The bytes of values in host-shared memory.
+//! The memory of a shader: the cells of a store, the calls on references to parts of them, and the bytes of
+//! values in host-shared memory.
 #![tactic(auto)]
 
+mod buffers;
+mod count;
 pub mod laws;
+mod loads;
+mod make;
+mod parts;
+mod plan;
+mod reader;
+mod references;
+mod show;
+mod store;
+mod writer;
+
+pub use buffers::Buffers;
+pub use loads::Loads;
+pub use references::References;
+pub use show::Show;
+pub use store::Store;

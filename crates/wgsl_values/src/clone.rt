@@ -109,7 +109,11 @@ fn clone_values(alloc: Global, values: &Vec<Instance>) -> Result<Vec<Instance>, 
 {
     let mut copies = Vec::with_capacity(alloc, values.len())?;
     for value in values {
-        copies.push(value.clone(alloc)?)?;
+        let copy = match value {
+            Instance::Literal(literal) => Instance::Literal(*literal),
+            _ => value.clone(alloc)?,
+        };
+        copies.push(copy)?;
     }
     Ok(copies)
 }

@@ -1,6 +1,5 @@
 //! Errors: their numbers and their copies.
 
-use crate::error::Error as RunError;
 use std::test::Fail;
 use wgsl_rules::{BinaryOperator, Type, UnaryOperator};
 use wgsl_scalar::LiteralInstance::{AbstractInt, U32};
@@ -54,18 +53,5 @@ fn a_copy_keeps_the_reason(rt: HostRuntime) -> Result<(), Fail> {
         let copy = Error::Builtin(reason).clone(rt.alloc())?;
         assert_eq!(rt; copy, Error::Builtin(reason));
     }
-    Ok(())
-}
-
-#[test]
-fn errors_of_runs_have_the_same_numbers(rt: HostRuntime) -> Result<(), Fail> {
-    let name = String::from_str(rt.alloc(), "x")?;
-    assert_eq!(rt; RunError::Memory.number(), 1);
-    assert_eq!(rt; RunError::NotRead.number(), 2);
-    assert_eq!(rt; RunError::NotWrite.number(), 3);
-    assert_eq!(rt; RunError::WriteRefType(Type::U32, Type::I32).number(), 7);
-    assert_eq!(rt; RunError::Component(Type::U32, name).number(), 8);
-    assert_eq!(rt; RunError::NotIndexable(Type::U32).number(), 9);
-    assert_eq!(rt; RunError::OutOfBounds(2, Type::U32, 1).number(), 10);
     Ok(())
 }

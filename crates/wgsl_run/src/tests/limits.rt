@@ -1,8 +1,9 @@
 use crate::input::LIMIT;
-use crate::tests::{assert_prints, output_of};
+use crate::tests::{assert_answers, assert_each, assert_prints, output_of};
 use crate::{RunFault, run_script};
 use std::alloc::{AllocError, Global};
 use std::fmt::Write;
+use std::process::Abort;
 use std::test::Fail;
 
 /// A text of so many bytes.
@@ -137,25 +138,142 @@ fn chain(alloc: Global, depth: usize) -> Result<String, AllocError> {
     Ok(script)
 }
 
-#[test]
-fn a_chain_of_structures_is_made_read_written_and_dumped(rt: HostRuntime) -> Result<(), Fail> {
-    let alloc = rt.alloc();
-    let depth = 300;
+/// Asserts that a chain of so many structures and one more is made, read, written and dumped.
+fn assert_chain_runs(rt: &impl Abort, alloc: Global, depth: usize) -> Result<(), Fail> {
     let mut script = chain(alloc, depth)?;
     writeln!(script, "new T{depth} storage read_write 07000000")?;
     script.push_str("read &0\nwrite &0 08000000\ndump &0\nmember &0 a\n")?;
     let mut wanted = String::new(alloc);
     let mut closed = String::new(alloc);
-    for _ in 0..depth + 1 {
+    for _ in 0..depth {
         wanted.push_str("done\n")?;
         closed.push(')')?;
     }
-    wanted.push_str("&0\n")?;
-    for i in (0..depth + 1).rev() {
-        write!(wanted, "T{i}(")?;
+    wanted.push_str("done\n&0\n")?;
+    for i in (0..depth).rev() {
+        let n = i.saturating_add(1);
+        write!(wanted, "T{n}(")?;
     }
-    writeln!(wanted, "7u{closed}\ndone\n08000000\n&1")?;
-    assert_prints(&rt, alloc, script.as_bytes(), wanted.as_bytes())
+    writeln!(wanted, "T0(7u){closed}\ndone\n08000000\n&1")?;
+    assert_prints(rt, alloc, script.as_bytes(), wanted.as_bytes())
+}
+
+#[test]
+fn a_chain_of_structures_is_made_read_written_and_dumped(rt: HostRuntime) -> Result<(), Fail> {
+    assert_chain_runs(&rt, rt.alloc(), 1000)
+}
+
+/// The word of so many arrays round a word.
+fn arrays_of(alloc: Global, count: usize, word: &str) -> Result<String, AllocError> {
+    let mut text = String::new(alloc);
+    for _ in 0..count {
+        text.push_str("array<")?;
+    }
+    text.push_str(word)?;
+    for _ in 0..count {
+        text.push('>')?;
+    }
+    Ok(text)
+}
+
+#[test]
+fn a_type_word_has_at_most_16_nested_parts(rt: HostRuntime) -> Result<(), Fail> {
+    let alloc = rt.alloc();
+    let of_scalars = arrays_of(alloc, 16, "u32")?;
+    let of_vectors = arrays_of(alloc, 15, "vec2<u32>")?;
+    let words = [of_scalars.as_str(), of_vectors.as_str()];
+    assert_each(
+        &rt,
+        alloc,
+        "new * storage read 00",
+        &words,
+        "refused NoValue",
+    )?;
+    let of_scalars = arrays_of(alloc, 17, "u32")?;
+    let of_vectors = arrays_of(alloc, 16, "vec2<u32>")?;
+    let words = [of_scalars.as_str(), of_vectors.as_str()];
+    assert_each(
+        &rt,
+        alloc,
+        "new * storage read 00",
+        &words,
+        "refused BadLine",
+    )?;
+    assert_each(&rt, alloc, "struct S a:*", &words, "refused BadLine")
+}
+
+#[test]
+fn each_word_has_the_limit_of_its_own(rt: HostRuntime) -> Result<(), Fail> {
+    let alloc = rt.alloc();
+    let deep = arrays_of(alloc, 16, "A")?;
+    let deeper = arrays_of(alloc, 16, "B")?;
+    let script = format!(in alloc;
+        "struct A a:u32\nstruct B a:{deep} b:{deep}\nnew {deeper} storage read 00\n"
+    )?;
+    assert_prints(
+        &rt,
+        alloc,
+        script.as_bytes(),
+        b"done\ndone\nrefused NoValue\n",
+    )
+}
+
+#[test]
+fn a_type_word_of_a_megabyte_is_a_bad_line(rt: HostRuntime) -> Result<(), Fail> {
+    let word = arrays_of(rt.alloc(), 140_000, "u32")?;
+    assert_each(
+        &rt,
+        rt.alloc(),
+        "new * storage read 00",
+        &[word.as_str()],
+        "refused BadLine",
+    )
+}
+
+#[test]
+fn the_type_of_a_word_has_at_most_4096_nodes(rt: HostRuntime) -> Result<(), Fail> {
+    let alloc = rt.alloc();
+    let mut script = wide(alloc, "A", "a:u32", 4095)?;
+    script.push_str(wide(alloc, "B", "a:u32", 4093)?.as_str())?;
+    script.push_str("new A storage read 00\nnew array<A,2> storage read 00\n")?;
+    script.push_str("new array<array<B,2>> storage read 00\n")?;
+    script.push_str("new array<array<array<B,2>,2>,2> storage read 00\n")?;
+    script.push_str("struct C a:array<B,2>\nstruct D a:array<array<B,2>,2>\n")?;
+    let wanted = b"done
+done
+refused NoValue
+refused BadLine
+refused NoValue
+refused BadLine
+done
+refused BadLine
+";
+    assert_prints(&rt, alloc, script.as_bytes(), wanted)
+}
+
+#[test]
+fn counts_reach_to_4294967295(rt: HostRuntime) -> Result<(), Fail> {
+    let lines = [
+        (
+            "new array<u32,4294967295> storage read 00",
+            "refused NoValue",
+        ),
+        (
+            "new array<u32,4294967296> storage read 00",
+            "refused BadLine",
+        ),
+        (
+            "new array<u32,9999999999> storage read 00",
+            "refused BadLine",
+        ),
+        (
+            "new array<u32,10000000000> storage read 00",
+            "refused BadLine",
+        ),
+        ("struct S a:array<u32,4294967295>", "done"),
+        ("struct T a:array<u32,4294967296>", "refused BadLine"),
+    ];
+    assert_answers(&rt, rt.alloc(), &lines)
 }
 
 #[test]

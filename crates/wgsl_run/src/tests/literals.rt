@@ -1,6 +1,8 @@
 //! Literals: conversions and payloads.
 
-use wgsl_rules::Type;
+use std::alloc::{AllocError, Global};
+use std::process::Abort;
+use wgsl_rules::{Ty, Type};
 use wgsl_scalar::LiteralInstance;
 use wgsl_scalar::LiteralInstance::{AbstractInt, I32, I64, U32, U64};
 
@@ -29,4 +31,36 @@ fn payloads(rt: HostRuntime) {
     assert_eq!(rt; U64(8).unwrap_u64(), 8);
     assert!(rt; I64(7).is_finite());
     assert!(rt; !I64(7).is_infinite());
+}
+
+// `literal_ty` ensures that the number is one of its kind, which `has_ty` asks for.
+fn has_type(literal: LiteralInstance, ty: &Type) -> bool {
+    let _own = literal.literal_ty();
+    literal.has_ty(ty)
+}
+
+/// Asserts the type of the literal, each way to ask for it.
+fn assert_type(
+    rt: &impl Abort,
+    alloc: Global,
+    literal: LiteralInstance,
+    ty: &Type,
+) -> Result<(), AllocError> {
+    assert_eq!(rt; &literal.literal_ty(), ty);
+    assert_eq!(rt; &literal.ty(alloc)?, ty);
+    assert_eq!(rt; &literal.inner_ty(alloc)?, ty);
+    assert!(rt; has_type(literal, ty), "{ty}");
+    assert!(rt; !has_type(literal, &Type::F32), "{ty}");
+    Ok(())
+}
+
+#[test]
+fn types_of_literals(rt: HostRuntime) -> Result<(), AllocError> {
+    let alloc = rt.alloc();
+    assert_type(&rt, alloc, LiteralInstance::Bool(true), &Type::Bool)?;
+    assert_type(&rt, alloc, AbstractInt(1), &Type::AbstractInt)?;
+    assert_type(&rt, alloc, I32(1), &Type::I32)?;
+    assert_type(&rt, alloc, U32(1), &Type::U32)?;
+    assert_type(&rt, alloc, I64(1), &Type::I64)?;
+    assert_type(&rt, alloc, U64(1), &Type::U64)
 }

@@ -1,21 +1,11 @@
 //! The example of the README.
 
-use crate::tests::types::{member, vector};
-use std::alloc::{AllocError, Global};
+use crate::tests::types::pair_type;
 use std::test::Fail;
-use wgsl_rules::{StructType, Type};
+use wgsl_rules::Ty;
 use wgsl_scalar::LiteralInstance::U32;
+use wgsl_store::Buffers;
 use wgsl_values::{Instance, MemView, StructInstance, VecInstance};
-
-/// struct Pair { a: u32, b: vec3<u32> }
-fn pair_type(alloc: Global) -> Result<StructType, AllocError> {
-    let a = member(alloc, "a", Type::U32, None)?;
-    let b = member(alloc, "b", vector(alloc, 3, Type::U32)?, None)?;
-    Ok(StructType {
-        name: String::from_str(alloc, "Pair")?,
-        members: vec![in alloc; a, b]?,
-    })
-}
 
 #[test]
 fn the_example_of_the_readme(rt: HostRuntime) -> Result<(), Fail> {
@@ -35,5 +25,12 @@ fn the_example_of_the_readme(rt: HostRuntime) -> Result<(), Fail> {
     *pair.view_mut(alloc, &view)? = Instance::from(9u32);
     let text = pair.to_string(alloc)?;
     assert_eq!(rt; text.as_str(), "Pair(1u, vec3(2u, 3u, 9u))");
+
+    assert!(rt; pair.is_well_formed());
+    let ty = pair.ty(alloc)?;
+    let bytes = pair.to_buffer(alloc)?.unwrap_or(Vec::new(alloc));
+    assert_eq!(rt; bytes.len(), 32);
+    let read = Instance::from_buffer(alloc, &bytes, &ty)?;
+    assert_eq!(rt; read, Some(pair));
     Ok(())
 }

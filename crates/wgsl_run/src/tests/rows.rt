@@ -1,61 +1,56 @@
-use crate::tests::assert_prints;
+use crate::tests::{assert_answers, assert_prints};
 use std::test::Fail;
 
 #[test]
 fn write_through_a_component_shows_in_the_whole(rt: HostRuntime) -> Result<(), Fail> {
-    let script = b"struct S a:u32 b:vec3<u32>
-new S storage read_write 0100000000000000000000000000000002000000030000000400000000000000
-member &0 b
-index &1 2
-write &2 09000000
-read &1
-dump &0
-";
-    let wanted = b"done
-&0
-&1
-&2
-done
-vec3(2u, 3u, 9u)
-0100000000000000000000000000000002000000030000000900000000000000
-";
-    assert_prints(&rt, rt.alloc(), script, wanted)
+    let lines = [
+        ("struct S a:u32 b:vec3<u32>", "done"),
+        (
+            "new S storage read_write 0100000000000000000000000000000002000000030000000400000000000000",
+            "&0",
+        ),
+        ("member &0 b", "&1"),
+        ("index &1 2", "&2"),
+        ("write &2 09000000", "done"),
+        ("read &1", "vec3(2u, 3u, 9u)"),
+        (
+            "dump &0",
+            "0100000000000000000000000000000002000000030000000900000000000000",
+        ),
+    ];
+    assert_answers(&rt, rt.alloc(), &lines)
 }
 
 #[test]
 fn write_through_the_whole_shows_in_a_component(rt: HostRuntime) -> Result<(), Fail> {
-    let script = b"struct S a:u32 b:vec3<u32>
-new S storage read_write 0100000000000000000000000000000002000000030000000400000000000000
-member &0 b
-index &1 2
-write &1 070000000700000007000000
-read &2
-member &0 a
-read &3
-";
-    let wanted = b"done\n&0\n&1\n&2\ndone\n7u\n&3\n1u\n";
-    assert_prints(&rt, rt.alloc(), script, wanted)
+    let lines = [
+        ("struct S a:u32 b:vec3<u32>", "done"),
+        (
+            "new S storage read_write 0100000000000000000000000000000002000000030000000400000000000000",
+            "&0",
+        ),
+        ("member &0 b", "&1"),
+        ("index &1 2", "&2"),
+        ("write &1 070000000700000007000000", "done"),
+        ("read &2", "7u"),
+        ("member &0 a", "&3"),
+        ("read &3", "1u"),
+    ];
+    assert_answers(&rt, rt.alloc(), &lines)
 }
 
 #[test]
 fn a_write_only_handle_is_written_and_not_read(rt: HostRuntime) -> Result<(), Fail> {
-    let script = b"read &0
-new S storage read 00
-new vec3<u32> storage write 010000000200000003000000
-read &0
-index &0 0
-write &0 01
-write &0 040000000500000006000000
-";
-    let wanted = b"refused NoHandle
-refused BadLine
-&0
-refused NotRead
-refused NotRead
-refused NoValue
-done
-";
-    assert_prints(&rt, rt.alloc(), script, wanted)
+    let lines = [
+        ("read &0", "refused NoHandle"),
+        ("new S storage read 00", "refused BadLine"),
+        ("new vec3<u32> storage write 010000000200000003000000", "&0"),
+        ("read &0", "refused NotRead"),
+        ("index &0 0", "refused NotRead"),
+        ("write &0 01", "refused NoValue"),
+        ("write &0 040000000500000006000000", "done"),
+    ];
+    assert_answers(&rt, rt.alloc(), &lines)
 }
 
 #[test]
@@ -65,135 +60,254 @@ fn empty_input_prints_nothing(rt: HostRuntime) -> Result<(), Fail> {
 
 #[test]
 fn padding_and_bytes_past_the_size_are_not_kept(rt: HostRuntime) -> Result<(), Fail> {
-    let script = b"struct S a:u32 b:vec3<u32>
-new S storage read_write 01000000ffffffffffffffffffffffff020000000300000004000000ffffffff
-dump &0
-read &0
-new u32 storage read ffffffff0000
-dump &1
-";
-    let wanted = b"done
-&0
-0100000000000000000000000000000002000000030000000400000000000000
-S(1u, vec3(2u, 3u, 4u))
-&1
-ffffffff
-";
-    assert_prints(&rt, rt.alloc(), script, wanted)
+    let lines = [
+        ("struct S a:u32 b:vec3<u32>", "done"),
+        (
+            "new S storage read_write 01000000ffffffffffffffffffffffff020000000300000004000000ffffffff",
+            "&0",
+        ),
+        (
+            "dump &0",
+            "0100000000000000000000000000000002000000030000000400000000000000",
+        ),
+        ("read &0", "S(1u, vec3(2u, 3u, 4u))"),
+        ("new u32 storage read ffffffff0000", "&1"),
+        ("dump &1", "ffffffff"),
+    ];
+    assert_answers(&rt, rt.alloc(), &lines)
 }
 
 #[test]
-fn an_odd_number_of_digits_and_copy_are_bad_lines(rt: HostRuntime) -> Result<(), Fail> {
-    let script = b"new u32 storage read_write 00000000\nwrite &0 0\ncopy &0 &0\n";
-    let wanted = b"&0\nrefused BadLine\nrefused BadLine\n";
-    assert_prints(&rt, rt.alloc(), script, wanted)
+fn an_odd_number_of_digits_is_a_bad_line(rt: HostRuntime) -> Result<(), Fail> {
+    let lines = [
+        ("new u32 storage read_write 00000000", "&0"),
+        ("write &0 0", "refused BadLine"),
+        ("copy &0 &0", "done"),
+    ];
+    assert_answers(&rt, rt.alloc(), &lines)
 }
 
 #[test]
 fn each_case_is_refused_by_its_name(rt: HostRuntime) -> Result<(), Fail> {
-    let script = b"struct S a:u32 b:vec2<u32>
-new S storage read_write 01000000000000000200000003000000
-new u32 uniform read 05000000
-new u32 private write 06000000
-read &2
-dump &2
-member &2 a
-index &2 0
-write &1 07000000
-member &0 c
-member &1 a
-index &0 0
-index &1 0
-member &0 b
-index &3 1
-index &3 2
-index &3 9999999999
-read &4
-dump &1
-";
-    let wanted = b"done
-&0
-&1
-&2
-refused NotRead
-refused NotRead
-refused NotRead
-refused NotRead
-refused NotWrite
-refused Component
-refused Component
-refused NotIndexable
-refused NotIndexable
-&3
-&4
-refused OutOfBounds
-refused OutOfBounds
-3u
-05000000
-";
-    assert_prints(&rt, rt.alloc(), script, wanted)
+    let lines = [
+        ("struct S a:u32 b:vec2<u32>", "done"),
+        (
+            "new S storage read_write 01000000000000000200000003000000",
+            "&0",
+        ),
+        ("new u32 uniform read 05000000", "&1"),
+        ("new u32 private write 06000000", "&2"),
+        ("read &2", "refused NotRead"),
+        ("dump &2", "refused NotRead"),
+        ("member &2 a", "refused NotRead"),
+        ("index &2 0", "refused NotRead"),
+        ("write &1 07000000", "refused NotWrite"),
+        ("member &0 c", "refused Component"),
+        ("member &1 a", "refused Component"),
+        ("index &0 0", "refused NotIndexable"),
+        ("index &1 0", "refused NotIndexable"),
+        ("member &0 b", "&3"),
+        ("index &3 1", "&4"),
+        ("index &3 2", "refused OutOfBounds"),
+        ("index &3 9999999999", "refused OutOfBounds"),
+        ("read &4", "3u"),
+        ("dump &1", "05000000"),
+    ];
+    assert_answers(&rt, rt.alloc(), &lines)
 }
 
 #[test]
 fn no_handle_is_found_before_the_bytes_are_looked_at(rt: HostRuntime) -> Result<(), Fail> {
-    let script = b"write &0 00
-write &0 0
-dump &0
-index &0 0
-member &0 a
-write &x 00000000
-";
-    let wanted = b"refused NoHandle
-refused BadLine
-refused NoHandle
-refused NoHandle
-refused NoHandle
-refused BadLine
-";
-    assert_prints(&rt, rt.alloc(), script, wanted)
+    let lines = [
+        ("write &0 00", "refused NoHandle"),
+        ("write &0 0", "refused BadLine"),
+        ("dump &0", "refused NoHandle"),
+        ("index &0 0", "refused NoHandle"),
+        ("member &0 a", "refused NoHandle"),
+        ("write &x 00000000", "refused BadLine"),
+    ];
+    assert_answers(&rt, rt.alloc(), &lines)
 }
 
 #[test]
 fn too_few_bytes_are_found_before_the_access(rt: HostRuntime) -> Result<(), Fail> {
-    let script = b"new vec2<u32> storage read 0100000002000000
-write &0 01000000020000
-write &0 0300000004000000
-read &0
-";
-    let wanted = b"&0\nrefused NoValue\nrefused NotWrite\nvec2(1u, 2u)\n";
-    assert_prints(&rt, rt.alloc(), script, wanted)
+    let lines = [
+        ("new vec2<u32> storage read 0100000002000000", "&0"),
+        ("write &0 01000000020000", "refused NoValue"),
+        ("write &0 0300000004000000", "refused NotWrite"),
+        ("read &0", "vec2(1u, 2u)"),
+    ];
+    assert_answers(&rt, rt.alloc(), &lines)
 }
 
 #[test]
 fn bytes_that_lack_the_tail_padding_are_no_value(rt: HostRuntime) -> Result<(), Fail> {
-    let script = b"struct S a:vec2<u32> b:u32
-new S storage read 010000000200000003000000
-new S storage read 01000000020000000300000000000000
-dump &0
-";
-    let wanted = b"done\nrefused NoValue\n&0\n01000000020000000300000000000000\n";
-    assert_prints(&rt, rt.alloc(), script, wanted)
+    let lines = [
+        ("struct S a:vec2<u32> b:u32", "done"),
+        (
+            "new S storage read 010000000200000003000000",
+            "refused NoValue",
+        ),
+        ("new S storage read 01000000020000000300000000000000", "&0"),
+        ("dump &0", "01000000020000000300000000000000"),
+    ];
+    assert_answers(&rt, rt.alloc(), &lines)
 }
 
 #[test]
 fn a_refused_line_leaves_all_as_it_was(rt: HostRuntime) -> Result<(), Fail> {
-    let script = b"new vec2<u32> storage read_write 0100000002000000
-index &0 2
-write &0 00
-nonsense
-index &0 1
-struct S a:T
-struct S a:u32
-read &1
-";
-    let wanted = b"&0
-refused OutOfBounds
-refused NoValue
-refused BadLine
-&1
-refused BadLine
-done
-2u
-";
-    assert_prints(&rt, rt.alloc(), script, wanted)
+    let lines = [
+        ("new vec2<u32> storage read_write 0100000002000000", "&0"),
+        ("index &0 2", "refused OutOfBounds"),
+        ("write &0 00", "refused NoValue"),
+        ("nonsense", "refused BadLine"),
+        ("index &0 1", "&1"),
+        ("struct S a:T", "refused BadLine"),
+        ("struct S a:u32", "done"),
+        ("read &1", "2u"),
+    ];
+    assert_answers(&rt, rt.alloc(), &lines)
+}
+
+#[test]
+fn a_runtime_sized_array_keeps_its_length(rt: HostRuntime) -> Result<(), Fail> {
+    let lines = [
+        (
+            "new array<u32> storage read_write 0a0000000b0000000c000000",
+            "&0",
+        ),
+        ("index &0 2", "&1"),
+        ("index &0 3", "refused OutOfBounds"),
+        ("write &0 0100000002000000", "refused WriteRefType"),
+        ("read &1", "12u"),
+        ("dump &0", "0a0000000b0000000c000000"),
+        ("write &0 010000000200000003000000ff", "done"),
+        ("read &0", "array(1u, 2u, 3u)"),
+    ];
+    assert_answers(&rt, rt.alloc(), &lines)
+}
+
+#[test]
+fn what_one_handle_names_is_copied_to_another(rt: HostRuntime) -> Result<(), Fail> {
+    let lines = [
+        ("new array<u32> storage read_write 0100000002000000", "&0"),
+        (
+            "new array<u32> storage read_write 030000000400000005000000",
+            "&1",
+        ),
+        ("copy &0 &1", "refused WriteRefType"),
+        ("index &1 2", "&2"),
+        ("index &0 0", "&3"),
+        ("copy &2 &3", "done"),
+        ("dump &0", "0500000002000000"),
+    ];
+    assert_answers(&rt, rt.alloc(), &lines)
+}
+
+#[test]
+fn copy_is_refused_as_the_read_then_as_the_write(rt: HostRuntime) -> Result<(), Fail> {
+    let lines = [
+        ("new u32 storage read 01000000", "&0"),
+        ("new u32 storage write 02000000", "&1"),
+        ("new i32 storage read_write 03000000", "&2"),
+        ("copy &0", "refused BadLine"),
+        ("copy &0 1", "refused BadLine"),
+        ("copy &0 &1 &2", "refused BadLine"),
+        ("copy &0 &3", "refused NoHandle"),
+        ("copy &3 &0", "refused NoHandle"),
+        ("copy &1 &0", "refused NotRead"),
+        ("copy &2 &0", "refused NotWrite"),
+        ("copy &0 &2", "refused WriteRefType"),
+        ("copy &0 &1", "done"),
+        ("dump &2", "03000000"),
+    ];
+    assert_answers(&rt, rt.alloc(), &lines)
+}
+
+#[test]
+fn a_write_to_a_member_leaves_its_padding(rt: HostRuntime) -> Result<(), Fail> {
+    let lines = [
+        ("struct S @size(16)a:u32 b:u32", "done"),
+        (
+            "new S storage read_write 01000000ffffffffffffffffffffffff02000000",
+            "&0",
+        ),
+        ("dump &0", "0100000000000000000000000000000002000000"),
+        ("member &0 a", "&1"),
+        ("write &1 05000000", "done"),
+        ("dump &0", "0500000000000000000000000000000002000000"),
+        ("read &0", "S(5u, 2u)"),
+    ];
+    assert_answers(&rt, rt.alloc(), &lines)
+}
+
+#[test]
+fn an_alignment_moves_a_member(rt: HostRuntime) -> Result<(), Fail> {
+    let bytes = "0100000000000000000000000000000002000000000000000000000000000000";
+    let made = format!(in rt.alloc(); "new S storage read_write {bytes}")?;
+    let lines = [
+        ("struct S a:u32 @align(16)b:u32", "done"),
+        (made.as_str(), "&0"),
+        ("read &0", "S(1u, 2u)"),
+        ("dump &0", bytes),
+    ];
+    assert_answers(&rt, rt.alloc(), &lines)
+}
+
+#[test]
+fn columns_of_a_matrix_are_vectors(rt: HostRuntime) -> Result<(), Fail> {
+    let lines = [
+        (
+            "new mat2x3<u32> storage read_write 0100000002000000030000000000000004000000050000000600000000000000",
+            "&0",
+        ),
+        ("read &0", "mat2x3(vec3(1u, 2u, 3u), vec3(4u, 5u, 6u))"),
+        ("index &0 1", "&1"),
+        ("index &1 0", "&2"),
+        ("write &2 09000000", "done"),
+        ("read &1", "vec3(9u, 5u, 6u)"),
+        (
+            "dump &0",
+            "0100000002000000030000000000000009000000050000000600000000000000",
+        ),
+        ("index &0 2", "refused OutOfBounds"),
+        ("member &0 x", "refused Component"),
+    ];
+    assert_answers(&rt, rt.alloc(), &lines)
+}
+
+#[test]
+fn numbers_of_64_bits_are_signed_and_unsigned(rt: HostRuntime) -> Result<(), Fail> {
+    let lines = [
+        (
+            "new vec2<i64> storage read ffffffffffffffff0200000000000000",
+            "&0",
+        ),
+        ("read &0", "vec2(-1li, 2li)"),
+        ("new u64 storage read ffffffffffffffff", "&1"),
+        ("read &1", "18446744073709551615lu"),
+        ("new i32 storage read fbffffff", "&2"),
+        ("read &2", "-5i"),
+    ];
+    assert_answers(&rt, rt.alloc(), &lines)
+}
+
+#[test]
+fn a_structure_may_end_in_a_runtime_sized_array(rt: HostRuntime) -> Result<(), Fail> {
+    let lines = [
+        ("struct S a:atomic<i32> b:array<u32>", "done"),
+        ("new S storage read_write ffffffff05000000060000", "&0"),
+        ("read &0", "S(atomic<i32>(-1i), array(5u))"),
+        ("new S storage read_write ffffffff0500000006000000", "&1"),
+        ("read &1", "S(atomic<i32>(-1i), array(5u, 6u))"),
+        ("member &1 a", "&2"),
+        ("index &2 0", "refused NotIndexable"),
+        ("write &2 02000000", "done"),
+        ("member &1 b", "&3"),
+        ("index &3 1", "&4"),
+        ("copy &4 &3", "refused WriteRefType"),
+        ("dump &1", "020000000500000006000000"),
+        ("new array<S,2> storage read 00000000", "refused NoValue"),
+    ];
+    assert_answers(&rt, rt.alloc(), &lines)
 }

@@ -1,7 +1,5 @@
 //! The texts of types, words, operators, literals, values and views.
 
-use crate::inst::LiteralInstance as Word;
-use crate::mem::MemView;
 use crate::tests::types::{array, matrix, member, pair, reference, structure, vector};
 use crate::tests::values::value_of;
 use std::alloc::{AllocError, Global};
@@ -129,7 +127,6 @@ fn texts_of_builtins(rt: HostRuntime) {
 #[test]
 fn values_print_as_their_constructors(rt: HostRuntime) -> Result<(), Fail> {
     let alloc = rt.alloc();
-    assert_eq!(rt; Word::U32(7).to_string(alloc)?.as_str(), "7u");
     let number = value_of(alloc, &[7], &Type::U32)?;
     assert_eq!(rt; number.to_string(alloc)?.as_str(), "7u");
     let vector_ty = vector(alloc, 3, Type::U32)?;
@@ -142,15 +139,5 @@ fn values_print_as_their_constructors(rt: HostRuntime) -> Result<(), Fail> {
     let value = value_of(alloc, &[1, 0, 0, 0, 2, 3, 9, 0, 4, 5, 0, 0], &light)?;
     let text = "Light(1u, vec3(2u, 3u, 9u), vec2(4u, 5u))";
     assert_eq!(rt; value.to_string(alloc)?.as_str(), text);
-    Ok(())
-}
-
-#[test]
-fn views_print_a_colon_before_each_step(rt: HostRuntime) -> Result<(), Fail> {
-    let alloc = rt.alloc();
-    assert_eq!(rt; MemView::Whole.to_string(alloc)?.as_str(), "");
-    let index = MemView::Index(2, Box::new(alloc, MemView::Whole)?);
-    let view = MemView::Member(String::from_str(alloc, "m")?, Box::new(alloc, index)?);
-    assert_eq!(rt; view.to_string(alloc)?.as_str(), ":m:2");
     Ok(())
 }

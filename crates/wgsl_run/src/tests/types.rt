@@ -1,10 +1,10 @@
-//! Types: what modes allow, sizes, copies, ranks of conversions and common types.
+//! Types: what modes allow, sizes, copies, the types inside, ranks of conversions and common types.
 
 use std::alloc::{AllocError, Global};
 use std::process::Abort;
 use wgsl_rules::laws::{a_put_is_held, fits_tests_the_place, views_lead_along_their_paths};
 use wgsl_rules::{
-    AccessMode, AddressSpace, StructMemberType, StructType, Type, common_type_is_symmetric,
+    AccessMode, AddressSpace, StructMemberType, StructType, Ty, Type, common_type_is_symmetric,
     conversion_rank, convert_all_ty, convert_ty,
 };
 
@@ -38,20 +38,33 @@ pub(super) fn member(
     })
 }
 
+pub(super) fn struct_type(
+    alloc: Global,
+    name: &str,
+    members: Vec<StructMemberType>,
+) -> Result<StructType, AllocError> {
+    let name = format!(in alloc; "{name}")?;
+    Ok(StructType { name, members })
+}
+
 pub(super) fn structure(
     alloc: Global,
     name: &str,
     members: Vec<StructMemberType>,
 ) -> Result<Type, AllocError> {
-    let name = format!(in alloc; "{name}")?;
-    Ok(Type::Struct(Box::new(alloc, StructType { name, members })?))
+    let ty = struct_type(alloc, name, members)?;
+    Ok(Type::Struct(Box::new(alloc, ty)?))
 }
 
 /// struct Pair { a: u32, b: vec3<u32> }
-pub(super) fn pair(alloc: Global) -> Result<Type, AllocError> {
+pub(super) fn pair_type(alloc: Global) -> Result<StructType, AllocError> {
     let a = member(alloc, "a", Type::U32, None)?;
     let b = member(alloc, "b", vector(alloc, 3, Type::U32)?, None)?;
-    structure(alloc, "Pair", vec![in alloc; a, b]?)
+    struct_type(alloc, "Pair", vec![in alloc; a, b]?)
+}
+
+pub(super) fn pair(alloc: Global) -> Result<Type, AllocError> {
+    Ok(Type::Struct(Box::new(alloc, pair_type(alloc)?)?))
 }
 
 /// struct Nested { @size(160) inner: array<Pair, 5> }
@@ -106,6 +119,81 @@ fn copies_are_equal(rt: HostRuntime) -> Result<(), AllocError> {
     let copy = nested.clone(alloc)?;
     assert!(rt; copy == nested);
     assert!(rt; copy != pair(alloc)?);
+    Ok(())
+}
+
+#[test]
+fn copies_of_structures_and_members_are_equal(rt: HostRuntime) -> Result<(), AllocError> {
+    let alloc = rt.alloc();
+    let pair = pair_type(alloc)?;
+    assert_eq!(rt; pair.clone(alloc)?, pair);
+    let sized = member(alloc, "a", Type::U32, Some(8))?;
+    assert_eq!(rt; sized.clone(alloc)?, sized);
+    assert_ne!(rt; sized, member(alloc, "a", Type::U32, None)?);
+    Ok(())
+}
+
+#[test]
+fn sizes_of_structures(rt: HostRuntime) -> Result<(), AllocError> {
+    let pair = pair_type(rt.alloc())?;
+    assert_eq!(rt; pair.size_of(), Some(32));
+    assert_eq!(rt; pair.align_of(), Some(16));
+    Ok(())
+}
+
+#[test]
+fn types_inside_composites(rt: HostRuntime) -> Result<(), AllocError> {
+    let alloc = rt.alloc();
+    let record = pair(alloc)?;
+    assert_eq!(rt; record.as_struct(), Some(&pair_type(alloc)?));
+    assert_eq!(rt; record.inner(), &record);
+    let list = array(alloc, Type::I32, Some(3))?;
+    assert_eq!(rt; list.as_array(), Some((&Type::I32, Some(3))));
+    assert_eq!(rt; list.inner(), &Type::I32);
+    assert_eq!(rt; list.as_struct(), None);
+    let endless = array(alloc, Type::I32, None)?;
+    assert_eq!(rt; endless.as_array(), Some((&Type::I32, None)));
+    let three = vector(alloc, 3, Type::U32)?;
+    assert_eq!(rt; three.as_vec(), Some((3, &Type::U32)));
+    assert_eq!(rt; three.inner(), &Type::U32);
+    assert_eq!(rt; three.as_array(), None);
+    let grid = matrix(alloc, Type::F32)?;
+    assert_eq!(rt; grid.as_mat(), Some((2, 3, &Type::F32)));
+    assert_eq!(rt; grid.inner(), &Type::F32);
+    assert_eq!(rt; grid.as_vec(), None);
+    assert_eq!(rt; three.as_mat(), None);
+    Ok(())
+}
+
+#[test]
+fn types_inside_atomics_pointers_and_references(rt: HostRuntime) -> Result<(), AllocError> {
+    let alloc = rt.alloc();
+    let atomic = Type::Atomic(Box::new(alloc, Type::U32)?);
+    assert_eq!(rt; atomic.as_atomic(), Some(&Type::U32));
+    assert_eq!(rt; atomic.inner(), &Type::U32);
+    assert_eq!(rt; Type::U32.as_atomic(), None);
+    let target = Box::new(alloc, Type::I32)?;
+    let pointer = Type::Ptr(AddressSpace::Function, target, AccessMode::Write);
+    let named = (AddressSpace::Function, &Type::I32, AccessMode::Write);
+    assert_eq!(rt; pointer.as_ptr(), Some(named));
+    assert_eq!(rt; pointer.inner(), &Type::I32);
+    assert_eq!(rt; pointer.as_reference(), None);
+    let readable = reference(alloc, Type::U32, AccessMode::Read)?;
+    let named = (AddressSpace::Storage, &Type::U32, AccessMode::Read);
+    assert_eq!(rt; readable.as_reference(), Some(named));
+    assert_eq!(rt; readable.inner(), &Type::U32);
+    assert_eq!(rt; readable.as_ptr(), None);
+    Ok(())
+}
+
+#[test]
+fn a_type_has_itself_as_its_type(rt: HostRuntime) -> Result<(), AllocError> {
+    let alloc = rt.alloc();
+    let three = vector(alloc, 3, Type::U32)?;
+    assert_eq!(rt; three.ty(alloc)?, three);
+    assert_eq!(rt; three.inner_ty(alloc)?, Type::U32);
+    assert!(rt; three.has_ty(&vector(alloc, 3, Type::U32)?));
+    assert!(rt; !three.has_ty(&Type::U32));
     Ok(())
 }
 

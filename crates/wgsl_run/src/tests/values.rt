@@ -1,10 +1,11 @@
 //! Values: what they are read from, their copies and their types.
 
-use crate::inst::Instance;
 use crate::tests::types::vector;
 use std::alloc::{AllocError, Global};
 use std::test::Fail;
-use wgsl_rules::Type;
+use wgsl_rules::{Ty, Type};
+use wgsl_store::Buffers;
+use wgsl_values::Instance;
 
 /// The bytes of the numbers, each little-endian.
 pub(super) fn bytes_of(alloc: Global, numbers: &[u32]) -> Result<Vec<u8>, AllocError> {

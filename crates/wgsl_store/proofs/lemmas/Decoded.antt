@@ -169,7 +169,7 @@ fields-open (field name t z g (field k u y a fs)) n m o b from h one =
     let rest = fields-open (field k u y a fs) n (elements (decoded b (o + amount (offset_after from (extent_in t z g))) (layout n t))) o b (end_after from (extent_in t z g)) made.rest one in
     ((first.1, rest.0), (first.0, rest.1), rest.2)
 
-runtime-good : (t : Ty) (n o : ℕ) (b : List ℕ) → has_runtime_layout t ≡ true → 1 ≤ n → IsCounted t n (decoded b o (layout n t))
+pub runtime-good : (t : Ty) (n o : ℕ) (b : List ℕ) → has_runtime_layout t ≡ true → 1 ≤ n → IsCounted t n (decoded b o (layout n t))
 runtime-good (struct name fs) n o b h one = let all = fields-open fs n 0 o b (Some 0) h one in (((all.0, all.1), refl), all.2)
 runtime-good (array t None) n o b h one = elements-good (array t None) n o b h one
 runtime-good t n o b h one = absurd (false≢true h)

@@ -1,5 +1,0 @@
-use Rattle.wgsl_run.proofs.Heap.{handle-kept}
-use Rattle.wgsl_run.proofs.session.Session.read.Goals as goal
-
-pub read-requires : goal.read-requires
-read-requires c = handle-kept _ _ c.args.handle _ c.self.invariant c.in-Some.ensures

@@ -1,9 +1,0 @@
--- The types that a value holds, as the logic holds them, for the clauses on what a `&mut` lends.
-use denote.RattleType.{RattleType}
-use Rattle.std.specs.contracts.alloc.Global as global
-use Rattle.std.specs.contracts.vec.Vec as vec
-use Rattle.std.specs.contracts.impls.GlobalAllocator.TheImpl.{ghosts}
-use Rattle.wgsl_run.specs.contracts.inst.Instance.{the_row}
-
-abbrev pub list_row : RattleType
-list_row = vec.the_row the_row global.the_row ghosts

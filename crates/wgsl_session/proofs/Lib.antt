@@ -1,0 +1,9 @@
+mod Answering
+mod Cells
+mod Found
+mod FreeValues
+mod Good
+mod Handles
+mod InStep
+mod Rows
+mod Runs

@@ -1,0 +1,5 @@
+pub mod Calls
+pub mod Codes
+pub mod Flat
+pub mod Laws
+pub mod View

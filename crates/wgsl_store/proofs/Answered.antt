@@ -1,0 +1,91 @@
+-- What the calls on a reference answer, from what the calls that they make answered.
+use Rattle.std.proofs.Common.{◌≡◌, ℕ, List, [], ◌∷◌, ◌++◌, length, Option, Some, None, Ok, Err, option_map, Bool, true, false, ◌&&◌, if◌then◌else◌, refl, sym, ap, ◌∙◌, subst}
+use Rattle.std.specs.Result.{result_ok}
+use Rattle.wgsl_rules.specs.Access.{can_write}
+use Rattle.wgsl_rules.specs.Equal.{same_is}
+use Rattle.wgsl_rules.specs.Same.{same}
+use Rattle.wgsl_rules.specs.Types.{Ty}
+use Rattle.wgsl_rules.specs.Values.{Step, member, index, Reference, Val, deferred, type_of, IsStorable, IsWellFormed}
+use Rattle.wgsl_rules.specs.Refusals.{not_read_write, write_ref_type, Outcome, and_then}
+use Rattle.wgsl_rules.specs.Paths.{parts, viewed, member_named, part_at, same_paths, fits}
+use Rattle.wgsl_store.specs.Memory.{held, IsKept, put_cells}
+use Rattle.wgsl_store.specs.ReferenceCalls.{going_on, read, deeper, read_written}
+use Rattle.wgsl_store.specs.Fitting.{fitting}
+use Rattle.wgsl_store.proofs.lemmas.Sound.{deeper-kept, whole-kept-new}
+use Rattle.wgsl_values.proofs.lemmas.Steps.{viewed-member, member_named-item, stepped-item, item-storable, parts-storable}
+
+-- ---- parts of values that may be stored
+
+pub well-formed : (v : Val) → IsStorable v → IsWellFormed v
+well-formed (deferred t) h = tt
+well-formed v h = h
+
+pub member-storable : (n : List ℕ) (v x : Val) → IsStorable v → Some x ≡ option_map (λ p. p.1) (member_named n v) → IsStorable x
+member-storable n v x h e = by (member_named n v) refl e
+  where
+    by : (o : Option (ℕ × Val)) → member_named n v ≡ o → Some x ≡ option_map (λ (p : ℕ × Val). p.1) o → IsStorable x
+    by (Some p) is e = let same : p.1 ≡ x = cc in subst IsStorable same (item-storable p.0 (parts v) p.1 (parts-storable v h) (member_named-item n v p is))
+    by None is e = absurd (cc)
+
+pub indexed-storable : (i : ℕ) (v x : Val) → IsStorable v → Some x ≡ option_map (λ p. p.1) (result_ok (part_at i v)) → IsStorable x
+indexed-storable i v x h e = by (part_at i v) refl e
+  where
+    by : (o : Outcome (ℕ × Val)) → part_at i v ≡ o → Some x ≡ option_map (λ (p : ℕ × Val). p.1) (result_ok o) → IsStorable x
+    by (Ok p) is e = let same : p.1 ≡ x = cc in subst IsStorable same (item-storable p.0 (parts v) p.1 (parts-storable v h) (stepped-item (index i) v p is))
+    by (Err f) is e = absurd (cc)
+
+-- ---- a reference one step deeper
+
+pub member-viewed : (n : List ℕ) (v x : Val) → Some x ≡ option_map (λ p. p.1) (member_named n v) → viewed (member n ∷ []) v ≡ Ok x
+member-viewed n v x e = viewed-member n [] v x e
+
+pub indexed-viewed : (i : ℕ) (v x : Val) → Some x ≡ option_map (λ p. p.1) (result_ok (part_at i v)) → viewed (index i ∷ []) v ≡ Ok x
+indexed-viewed i v x e = by (part_at i v) refl e
+  where
+    by : (o : Outcome (ℕ × Val)) → part_at i v ≡ o → Some x ≡ option_map (λ (p : ℕ × Val). p.1) (result_ok o) → viewed (index i ∷ []) v ≡ Ok x
+    by (Ok p) is e = let same : p.1 ≡ x = cc in ap (λ (o : Outcome (ℕ × Val)). and_then o (λ q. viewed [] q.1)) is ∙ ap Ok same
+    by (Err f) is e = absurd (cc)
+
+-- a reference that goes on by the step, to what is there, is kept
+pub step-kept : (cells : List Val) (r q : Reference) (s : Step) (v x : Val) → read (held cells) r ≡ Ok v → viewed (s ∷ []) v ≡ Ok x
+    → q.cell ≡ r.cell → q.view ≡ r.view ++ s ∷ [] → q.ty ≡ type_of x → IsKept cells q
+step-kept cells r q s v x is leads at along typed =
+    let deep : deeper (held cells) r s ≡ Ok (going_on r (s ∷ []) (type_of x)) =
+    ap (λ (o : Outcome Val). and_then o (λ w. and_then (viewed (s ∷ []) w) (λ y. Ok (going_on r (s ∷ []) (type_of y))))) is
+    ∙ ap (λ (o : Outcome Val). and_then o (λ y. Ok (going_on r (s ∷ []) (type_of y)))) leads in
+    rw (at, along, typed) (deeper-kept cells r (going_on r (s ∷ []) (type_of x)) s deep)
+
+-- a reference to the whole of a new last cell is kept
+pub new-kept : (cells after : List Val) (v : Val) (q : Reference) → after ≡ cells ++ v ∷ [] → q.cell ≡ length cells → q.view ≡ [] → q.ty ≡ type_of v → IsKept after q
+new-kept cells after v q added at whole typed = rw (at, whole, typed, added) (whole-kept-new cells v q.space q.access)
+
+-- ---- values that fit
+
+pub fits-typed : (w v : Val) (t : Ty) (b : Bool) → type_of w ≡ t → type_of v ≡ t → b ≡ same_paths w v → b ≡ fits w v
+fits-typed w v t b e f h = h ∙ ap (λ (c : Bool). c && same_paths w v) (sym ((same_is (type_of w) (type_of v)).1 (e ∙ sym f)))
+
+pub fits-other : (w v : Val) (t : Ty) (b : Bool) → b ≡ false → (type_of w ≡ t → ⊥) → type_of v ≡ t → b ≡ fits w v
+fits-other w v t b e n f = by (same (type_of w) (type_of v)) refl
+  where
+    by : (c : Bool) → same (type_of w) (type_of v) ≡ c → b ≡ fits w v
+    by true is = absurd (n ((same_is (type_of w) (type_of v)).0 is ∙ f))
+    by false is = e ∙ ap (λ (c : Bool). c && same_paths w v) (sym is)
+
+-- ---- an accepted write that answers the old value
+
+fitting-held : (o : Outcome Val) (r : Reference) (w v : Val) → and_then o (λ v. if fits w v then Ok v else Err (write_ref_type (type_of w) r.ty)) ≡ Ok v → o ≡ Ok v
+fitting-held (Err f) r w v e = absurd (cc)
+fitting-held (Ok x) r w v e = by (fits w x) e
+  where
+    by : (b : Bool) → ◌≡◌ {A = Outcome Val} (if b then Ok x else Err (write_ref_type (type_of w) r.ty)) (Ok v) → ◌≡◌ {A = Outcome Val} (Ok x) (Ok v)
+    by true e = e
+    by false e = absurd (cc)
+
+pub read_written-is : (cells new : List Val) (r : Reference) (w v old : Val) → can_write r.access ≡ true → fitting (held cells) r w ≡ Ok v → held cells r ≡ Ok old → new ≡ put_cells cells r w
+    → read_written cells r w ≡ Ok (record { old = old; cells = new })
+read_written-is cells new r w v old can fit is put =
+    let same : ◌≡◌ {A = Outcome Val} (Ok v) (Ok old) = sym (fitting-held (held cells r) r w v fit) ∙ is in
+    let eq : v ≡ old = cc in
+    ap (λ (b : Bool). and_then (if b then fitting (held cells) r w else Err not_read_write) (λ o. Ok (record { old = o; cells = put_cells cells r w }))) can
+    ∙ ap (λ (o : Outcome Val). and_then o (λ x. Ok (record { old = x; cells = put_cells cells r w }))) fit
+    ∙ rw (eq, put) refl

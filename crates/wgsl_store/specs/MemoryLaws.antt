@@ -1,0 +1,72 @@
+-- The laws of memory. Each is proved of the definitions alone.
+use Rattle.std.specs.Prelude.{◌≡◌, ℕ, List, [], ◌∷◌, ◌++◌, Ok, Some, IsTrue, slice_get, ◌⊎◌, ◌≢◌, ◌↔◌}
+use Rattle.wgsl_rules.specs.Access.{can_read, can_write}
+use Rattle.wgsl_rules.specs.Values.{Step, Reference, Val, pointer, reference, IsStorable}
+use Rattle.wgsl_rules.specs.Refusals.{and_then}
+use Rattle.wgsl_rules.specs.Paths.{value_at, path_of}
+use Rattle.wgsl_rules.specs.Laws.{Apart}
+use Rattle.wgsl_rules.specs.declared.syntax.AddressSpace.{AddressSpace}
+use Rattle.wgsl_rules.specs.declared.syntax.AccessMode.{AccessMode}
+use Rattle.wgsl_store.specs.Memory.{held, IsKept, HoldsValue, IsContent, IsSound}
+use Rattle.wgsl_store.specs.ReferenceCalls.{whole_of_new, read, deeper, written, load, loaded}
+
+-- ---- references that are kept
+
+-- a value is held where each reference and each pointer at a path of it is kept
+abbrev pub AValueIsHeldByItsPaths : Type 0
+AValueIsHeldByItsPaths = (cells : List Val) (v : Val)
+    → HoldsValue cells v ↔ ((p : List ℕ) (r : Reference) → (value_at p v ≡ Some (reference r)) ⊎ (value_at p v ≡ Some (pointer r)) → IsKept cells r)
+
+-- the cells `after` are sound, and each reference that was kept is kept
+pub record StaysKept (cells after : List Val) : Type 0 where
+  pub sound : IsSound after
+  pub keeps : (r : Reference) → IsKept cells r → IsKept after r
+
+-- so it is after a new cell, whose reference is kept
+abbrev pub ANewCellKeepsReferences : Type 0
+ANewCellKeepsReferences = (cells : List Val) (v : Val) (space : AddressSpace) (access : AccessMode) → IsSound cells → IsContent cells v
+    → StaysKept cells (cells ++ v ∷ []) × IsKept (cells ++ v ∷ []) (whole_of_new cells v space access)
+
+-- and after a write
+abbrev pub AWriteKeepsReferences : Type 0
+AWriteKeepsReferences = (cells after : List Val) (r : Reference) (w : Val) → IsSound cells → IsContent cells w → written cells r w ≡ Ok after → StaysKept cells after
+
+-- a reference one step deeper is kept
+abbrev pub AStepDeeperIsKept : Type 0
+AStepDeeperIsKept = (cells : List Val) (r q : Reference) (s : Step) → deeper (held cells) r s ≡ Ok q → IsKept cells q
+
+-- what is read may be put into a cell
+abbrev pub WhatIsReadMayBeStored : Type 0
+WhatIsReadMayBeStored = (cells : List Val) (r : Reference) (v : Val) → IsSound cells → read (held cells) r ≡ Ok v → IsContent cells v
+
+-- ---- writes
+
+-- what is written is read
+abbrev pub AWriteIsRead : Type 0
+AWriteIsRead = (cells after : List Val) (r : Reference) (w : Val) → IsSound cells → IsStorable w → IsTrue (can_read r.access)
+    → written cells r w ≡ Ok after → read (held after) r ≡ Ok w
+
+-- what was read is written back where a write is allowed, and nothing changes
+abbrev pub AReadIsWrittenBack : Type 0
+AReadIsWrittenBack = (cells : List Val) (r : Reference) (v : Val) → IsTrue (can_write r.access) → read (held cells) r ≡ Ok v → written cells r v ≡ Ok cells
+
+-- a write after another through the same reference does what it would do without the other
+abbrev pub TheLastWriteStands : Type 0
+TheLastWriteStands = (cells between : List Val) (r : Reference) (v w : Val) → IsSound cells → IsStorable v
+    → written cells r v ≡ Ok between → written between r w ≡ written cells r w
+
+-- references into two cells, or along views of which neither path begins the other
+abbrev pub AreApart : List Val → Reference → Reference → Type 0
+AreApart cells q r = (q.cell ≢ r.cell) ⊎ ((v : Val) (p s : List ℕ) → slice_get cells r.cell ≡ Some v → path_of q.view v ≡ Ok p → path_of r.view v ≡ Ok s → Apart p s)
+
+-- writes apart commute, and the one does not change what the other reads
+abbrev pub WritesApartCommute : Type 0
+WritesApartCommute = (cells one : List Val) (q r : Reference) (v w : Val) → IsSound cells → IsKept cells r → IsStorable v → IsStorable w → AreApart cells q r
+    → written cells q v ≡ Ok one
+    → (and_then (written cells q v) (λ between. written between r w) ≡ and_then (written cells r w) (λ between. written between q v)) × (held one r ≡ held cells r)
+
+-- ---- loads
+
+-- a reference is loaded by reading on while what is read is a reference
+abbrev pub LoadingReadsOn : Type 0
+LoadingReadsOn = (cells : List Val) (r : Reference) → IsKept cells r → load (held cells) r.ty r ≡ and_then (read (held cells) r) (loaded (held cells))

@@ -1,0 +1,87 @@
+//! Values that are loaded (WGSL: load rule).
+
+ghost use Rattle.std.specs.Prelude.{◌≡◌, IfOk, IfSome, option_map};
+ghost use Rattle.wgsl_rules.specs.Values.{IsStorable, IsWellFormed};
+ghost use Rattle.wgsl_rules.specs.View.{type_view};
+ghost use Rattle.wgsl_scalar.specs.Answers.{Gives};
+ghost use Rattle.wgsl_store.specs.Loaded.{as_reference, loaded_in};
+ghost use Rattle.wgsl_store.specs.Memory.{HoldsValue, IsContent, IsKept, held};
+ghost use Rattle.wgsl_store.specs.ReferenceCalls.{load, loaded};
+ghost use Rattle.wgsl_values.specs.View.{value_of, reference_of};
+
+use crate::store::Store;
+use std::alloc::Global;
+use wgsl_rules::{Convert, Ty, Type};
+use wgsl_scalar::Error;
+use wgsl_values::{Instance, RefInstance};
+
+/// What is loaded: values.
+///
+/// Both calls ask as a condition that the store keeps each reference and pointer in the value, as
+/// [`Store::holds_value`] tests. They are refused with `NotRead` where a reference that is read on the
+/// way has no read access.
+pub trait Loads: Sized + Ty {
+    /// The value itself, or what its reference leads to, read on while it is a reference.
+    fn loaded(self, alloc: Global, store: &Store) -> Result<Self, Error>
+        requires { HoldsValue store.now (Self.value_of self) }
+        ensures outcome { Gives Self.value_of result (loaded (held store.now) (Self.value_of self)) }
+        ensures well_formed { IsWellFormed (Self.value_of self) → IfOk result (λ v. IsWellFormed (Self.value_of v)) }
+        ensures storable { IsStorable (Self.value_of self) → IfOk result (λ v. IsStorable (Self.value_of v)) }
+        ensures held { IfOk result (λ v. HoldsValue store.now (Self.value_of v)) };
+
+    /// The value, loaded and then converted to the type; `None` where it does not convert to it. The
+    /// condition: it is well-formed too.
+    fn convert_loaded(&self, alloc: Global, store: &Store, ty: &Type) -> Result<Option<Self>, Error>
+        requires held { HoldsValue store.now (Self.value_of self.now) }
+        requires well_formed { IsWellFormed (Self.value_of self.now) }
+        ensures outcome { Gives (option_map Self.value_of) result (loaded_in (held store.now) (type_view ty.now) (Self.value_of self.now)) }
+        ensures well_formed { IfOk result (λ o. IfSome o (λ v. IsWellFormed (Self.value_of v))) }
+        ensures storable { IsStorable (Self.value_of self.now) → IfOk result (λ o. IfSome o (λ v. IsStorable (Self.value_of v))) }
+        ensures held { IfOk result (λ o. IfSome o (λ v. HoldsValue store.now (Self.value_of v))) };
+}
+
+// The reference that the value is.
+fn as_reference(value: &Instance) -> Option<&RefInstance>
+    ensures { option_map (λ r. reference_of r.now) result ≡ as_reference (value_of value.now) }
+{
+    match value {
+        Instance::Ref(reference) => Some(reference),
+        Instance::Literal(_) | Instance::Struct(_) | Instance::Array(_) | Instance::Vec(_) => None,
+        Instance::Mat(_) | Instance::Ptr(_) | Instance::Atomic(_) | Instance::Deferred(_) => None,
+    }
+}
+
+// The value that the reference leads to, read on while it is a reference. The condition: it is kept.
+fn load<'a>(reference: &RefInstance, store: &'a Store) -> Result<&'a Instance, Error>
+    requires { IsKept store.now (reference_of reference.now) }
+    ensures outcome { let r = reference_of reference.now in Gives (λ v. value_of v.now) result (load (held store.now) r.ty r) }
+    ensures content { IfOk result (λ v. IsContent store.now (value_of v.now)) }
+{
+    let mut part = store.readable(reference)?;
+    while let Some(next) = as_reference(part) {
+        part = store.readable(next)?;
+    }
+    Ok(part)
+}
+
+impl Loads for Instance {
+    fn loaded(self, alloc: Global, store: &Store) -> Result<Instance, Error> {
+        match as_reference(&self) {
+            Some(reference) => Ok(load(reference, store)?.clone(alloc)?),
+            None => Ok(self),
+        }
+    }
+
+    fn convert_loaded(
+        &self,
+        alloc: Global,
+        store: &Store,
+        ty: &Type,
+    ) -> Result<Option<Instance>, Error> {
+        let value = match as_reference(self) {
+            Some(reference) => load(reference, store)?,
+            None => self,
+        };
+        Ok(value.convert_to(alloc, ty)?)
+    }
+}

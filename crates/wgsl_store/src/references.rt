@@ -1,0 +1,190 @@
+//! Calls on references to parts of cells (WGSL: memory views; load rule; assignment statement).
+
+ghost use Rattle.std.specs.Prelude.{
+  ◌≡◌,
+  ◌++◌,
+  ◌∷◌,
+  [],
+  IfOk,
+  IfErr,
+  OnOk,
+  OnErr,
+  None,
+  string_bytes,
+};
+ghost use Rattle.wgsl_rules.specs.Values.{
+  Reference,
+  IsStorable,
+  index as index_step,
+  member as member_step,
+};
+ghost use Rattle.wgsl_scalar.specs.Answers.{Gives, refusal_of};
+ghost use Rattle.wgsl_store.specs.Memory.{HoldsValue, IsContent, IsKept, IsSound, held};
+ghost use Rattle.wgsl_store.specs.ReferenceCalls.{
+  deeper,
+  read,
+  read_written,
+  whole_of_new,
+  written,
+};
+ghost use Rattle.wgsl_values.specs.View.{value_of};
+
+use crate::parts::{indexed, member, no_part};
+use crate::store::Store;
+use std::alloc::Global;
+use wgsl_rules::{AccessMode, AddressSpace, Ty};
+use wgsl_scalar::Error;
+use wgsl_values::{Instance, MemView, RefInstance};
+
+/// What is done with a reference to a part of a cell of a [`Store`].
+///
+/// Each call takes the store, and asks as a condition that the reference is kept there, as
+/// [`Store::holds`] tests: its cell is there, and its view leads to a value of its type. A value that
+/// is handed in may be stored, as `is_storable` tests, and each reference and pointer in it is kept,
+/// as [`Store::holds_value`] tests. Want of memory is `Memory`; after any error the store is as before.
+/// Each reference that was kept before a call is kept after it.
+pub trait References: Sized {
+    /// The reference that it stands for.
+    ghost reference_of: { Self → Reference };
+
+    /// Makes a cell that holds the value, and a reference to the whole of it. The only error is
+    /// `Memory`.
+    fn new(
+        alloc: Global,
+        store: &mut Store,
+        value: Instance,
+        space: AddressSpace,
+        access: AccessMode,
+    ) -> Result<Self, Error>
+        requires storable { IsStorable (value_of value) }
+        requires held { HoldsValue store.old (value_of value) }
+        ensures ok { IfOk result (λ r. reference_of r ≡ whole_of_new store.old (value_of value) space access) }
+        ensures added { OnOk result (store.new ≡ store.old ++ value_of value ∷ []) }
+        ensures memory { IfErr result (λ e. refusal_of e ≡ None) }
+        ensures err { OnErr result (store.new ≡ store.old) }
+        ensures sound { OnOk result (IsSound store.new) }
+        ensures own_kept { IfOk result (λ r. IsKept store.new (reference_of r)) }
+        ensures kept { (r : Reference) → IsKept store.old r → IsKept store.new r };
+
+    /// A reference to the first member of the name. Refusals in order: `NotRead` without read access,
+    /// `Component` where the part is no structure or has no member of the name.
+    fn view_member(&self, alloc: Global, store: &Store, name: String) -> Result<Self, Error>
+        requires { IsKept store.now (reference_of self.now) }
+        ensures outcome { Gives reference_of result (deeper (held store.now) (reference_of self.now) (member_step (string_bytes name))) }
+        ensures kept { IfOk result (λ r. IsKept store.now (reference_of r)) };
+
+    /// A reference to the element, component or column of the index. Refusals in order: `NotRead`
+    /// without read access, `NotIndexable` where the part is no array, vector or matrix,
+    /// `OutOfBounds` past its end.
+    fn view_index(&self, alloc: Global, store: &Store, i: usize) -> Result<Self, Error>
+        requires { IsKept store.now (reference_of self.now) }
+        ensures outcome { Gives reference_of result (deeper (held store.now) (reference_of self.now) (index_step i)) }
+        ensures kept { IfOk result (λ r. IsKept store.now (reference_of r)) };
+
+    /// A copy of the value of the part. Refused with `NotRead` without read access.
+    fn read(&self, alloc: Global, store: &Store) -> Result<Instance, Error>
+        requires { IsKept store.now (reference_of self.now) }
+        ensures outcome { Gives value_of result (read (held store.now) (reference_of self.now)) }
+        ensures content { IfOk result (λ v. IsContent store.now (value_of v)) };
+
+    /// Puts the value in the place of the part. Refusals in order: `NotWrite` without write access,
+    /// `WriteRefType`, the type of the value first, where the value does not fit: it is of another
+    /// type, or has other paths, as a runtime-sized array of another length has.
+    fn write(&self, alloc: Global, store: &mut Store, value: Instance) -> Result<(), Error>
+        requires kept { IsKept store.old (reference_of self.now) }
+        requires storable { IsStorable (value_of value) }
+        requires held { HoldsValue store.old (value_of value) }
+        ensures outcome { Gives (λ _. store.new) result (written store.old (reference_of self.now) (value_of value)) }
+        ensures err { OnErr result (store.new ≡ store.old) }
+        ensures sound { OnOk result (IsSound store.new) }
+        ensures kept { (r : Reference) → IsKept store.old r → IsKept store.new r };
+
+    /// Puts the value in the place of the part, and answers the old value; write access alone is
+    /// needed. Refusals in order: `NotReadWrite` without it, `WriteRefType` as in
+    /// [`References::write`].
+    fn read_write(
+        &self,
+        alloc: Global,
+        store: &mut Store,
+        value: Instance,
+    ) -> Result<Instance, Error>
+        requires kept { IsKept store.old (reference_of self.now) }
+        requires storable { IsStorable (value_of value) }
+        requires held { HoldsValue store.old (value_of value) }
+        ensures outcome { Gives (λ v. record { old = value_of v; cells = store.new }) result (read_written store.old (reference_of self.now) (value_of value)) }
+        ensures err { OnErr result (store.new ≡ store.old) }
+        ensures sound { OnOk result (IsSound store.new) }
+        ensures content { IfOk result (λ v. IsContent store.new (value_of v)) }
+        ensures kept { (r : Reference) → IsKept store.old r → IsKept store.new r };
+}
+
+impl References for RefInstance {
+    ghost use Rattle.wgsl_values.specs.View.{reference_of};
+
+    ghost reference_of = { reference_of };
+
+    fn new(
+        alloc: Global,
+        store: &mut Store,
+        value: Instance,
+        space: AddressSpace,
+        access: AccessMode,
+    ) -> Result<RefInstance, Error> {
+        let ty = value.ty(alloc)?;
+        let cell = store.add(value)?;
+        Ok(RefInstance::from_parts(cell, MemView::Whole, ty, space, access))
+    }
+
+    fn view_member(
+        &self,
+        alloc: Global,
+        store: &Store,
+        name: String,
+    ) -> Result<RefInstance, Error> {
+        let whole = store.readable(self)?;
+        let Some(part) = member(whole, name.as_str()) else {
+            return Err(Error::Component(whole.ty(alloc)?, name));
+        };
+        let ty = part.ty(alloc)?;
+        let mut view = self.view().clone(alloc)?;
+        view.append_member(alloc, name)?;
+        Ok(RefInstance::from_parts(self.cell(), view, ty, self.space(), self.access()))
+    }
+
+    fn view_index(&self, alloc: Global, store: &Store, i: usize) -> Result<RefInstance, Error> {
+        let whole = store.readable(self)?;
+        let Some(part) = indexed(whole, i) else {
+            return Err(no_part(alloc, whole, i)?);
+        };
+        let ty = part.ty(alloc)?;
+        let mut view = self.view().clone(alloc)?;
+        view.append_index(alloc, i)?;
+        Ok(RefInstance::from_parts(self.cell(), view, ty, self.space(), self.access()))
+    }
+
+    fn read(&self, alloc: Global, store: &Store) -> Result<Instance, Error> {
+        Ok(store.readable(self)?.clone(alloc)?)
+    }
+
+    fn write(&self, alloc: Global, store: &mut Store, value: Instance) -> Result<(), Error> {
+        if !self.access().is_write() {
+            return Err(Error::NotWrite);
+        }
+        store.replaceable(alloc, self, &value)?;
+        store.replace(self, value);
+        Ok(())
+    }
+
+    fn read_write(
+        &self,
+        alloc: Global,
+        store: &mut Store,
+        value: Instance,
+    ) -> Result<Instance, Error> {
+        if !self.access().is_write() {
+            return Err(Error::NotReadWrite);
+        }
+        store.replaceable(alloc, self, &value)?;
+        Ok(store.replace(self, value))
+    }
+}

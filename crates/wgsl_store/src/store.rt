@@ -1,0 +1,226 @@
+//! The cells that references name (WGSL: memory locations).
+
+use crate::parts::{fits_place, part, part_count, part_viewed};
+use std::alloc::{AllocError, Global};
+use std::marker::Model;
+use wgsl_rules::Ty;
+use wgsl_scalar::Error;
+use wgsl_values::{Instance, RefInstance};
+
+/// The cells of a shader's memory, counted from 0. A cell lives as long as the store.
+///
+/// Each cell holds a value that may be stored, and each reference or pointer at any path of any cell
+/// is kept: its cell is there, and its view leads to a value of its type.
+#[derive(Drop)]
+pub struct Store {
+    cells: Vec<Instance>,
+}
+
+impl Model for Store {
+    ghost use Rattle.std.specs.Prelude.{List, map};
+    ghost use Rattle.std.specs.Coded.{coded_list};
+    ghost use Rattle.wgsl_rules.specs.Values.{Val};
+    ghost use Rattle.wgsl_rules.specs.Codes.{val_code};
+    ghost use Rattle.wgsl_store.specs.Memory.{IsSound};
+    ghost use Rattle.wgsl_values.specs.View.{value_of};
+
+    ghost Value = { List Val };
+
+    ghost coded = { coded_list val_code };
+
+    ghost view = { λ s. map value_of s.cells.items };
+
+    ghost invariant = { λ s. IsSound (map value_of s.cells.items) };
+}
+
+impl Store {
+    ghost use Rattle.std.specs.Prelude.{
+      ◌≡◌,
+      ◌↔◌,
+      ◌<◌,
+      ◌++◌,
+      ◌∷◌,
+      [],
+      length,
+      IfOk,
+      IfSome,
+      IsOkAnd,
+      IsTrue,
+      OnOk,
+      OnErr,
+      Ok,
+      option_map,
+      slice_get,
+    };
+    ghost use Rattle.std.specs.Result.{result_ok};
+    ghost use Rattle.wgsl_rules.specs.Paths.{fits, parts};
+    ghost use Rattle.wgsl_rules.specs.Values.{Reference, IsStorable};
+    ghost use Rattle.wgsl_store.specs.Memory.{
+      AllKept,
+      HoldsValue,
+      IsContent,
+      IsKept,
+      IsSound,
+      held,
+      put_cells,
+      references_in,
+    };
+    ghost use Rattle.wgsl_store.specs.ReferenceCalls.{read};
+    ghost use Rattle.wgsl_store.specs.Fitting.{fitting};
+    ghost use Rattle.wgsl_scalar.specs.Answers.{Gives};
+    ghost use Rattle.wgsl_values.specs.View.{value_of, reference_of};
+
+    /// A store without cells; it takes no memory.
+    pub fn new(alloc: Global) -> Self
+        ensures { result ≡ [] }
+    {
+        Store {
+            cells: Vec::new(alloc),
+        }
+    }
+
+    /// How many cells there are.
+    pub fn len(&self) -> usize
+        ensures count { result ≡ length self.now }
+
+        // What holds of every store; a caller learns it here.
+        ensures sound { IsSound self.now }
+    {
+        self.cells.len()
+    }
+
+    /// Whether the reference is kept: its cell is there, and its view leads to a value of its type.
+    /// It takes no memory.
+    pub fn holds(&self, reference: &RefInstance) -> bool
+        ensures { IsTrue result ↔ IsKept self.now (reference_of reference.now) }
+    {
+        match self.find(reference) {
+            Some(part) => part.has_ty(reference.target_ty()),
+            None => false,
+        }
+    }
+
+    /// Whether each reference and pointer in the value is kept. It takes no memory.
+    #[cycle(holds_value)]
+    pub fn holds_value(&self, value: &Instance) -> bool
+        ensures { IsTrue result ↔ HoldsValue self.now (value_of value.now) }
+    {
+        match value {
+            Instance::Ptr(pointer) => self.holds(pointer.ptr()),
+            Instance::Ref(reference) => self.holds(reference),
+            Instance::Struct(_) | Instance::Array(_) => self.holds_parts(value),
+            Instance::Vec(_) | Instance::Mat(_) => self.holds_parts(value),
+            Instance::Literal(_) | Instance::Atomic(_) | Instance::Deferred(_) => true,
+        }
+    }
+
+    // Whether each reference and pointer in the parts is kept.
+    #[cycle(holds_value)]
+    fn holds_parts(&self, value: &Instance) -> bool
+        ensures { IsTrue result ↔ AllKept self.now (references_in (parts (value_of value.now))) }
+    {
+        for i in 0..part_count(value) {
+            if !self.holds_value(part(value, i)) {
+                return false;
+            }
+        }
+        true
+    }
+
+    // The value of a cell, if it is there.
+    fn cell(&self, i: usize) -> Option<&Instance>
+        ensures value { option_map (λ v. value_of v.now) result ≡ slice_get self.now i }
+        ensures sound { IsSound self.now }
+    {
+        self.cells.get(i)
+    }
+
+    // The part that the reference names; `None` where its cell is not there, or its view leads
+    // nowhere.
+    fn find(&self, reference: &RefInstance) -> Option<&Instance>
+        ensures part { option_map (λ v. value_of v.now) result ≡ result_ok (held self.now (reference_of reference.now)) }
+        ensures content { IfSome result (λ v. IsContent self.now (value_of v.now)) }
+    {
+        let cell = self.cell(reference.cell())?;
+        part_viewed(cell, reference.view())
+    }
+
+    // The part that the reference names. The condition: it is kept.
+    fn part(&self, reference: &RefInstance) -> &Instance
+        requires { IsKept self.now (reference_of reference.now) }
+        ensures part { held self.now (reference_of reference.now) ≡ Ok (value_of result.now) }
+        ensures content { IsContent self.now (value_of result.now) }
+    {
+        match self.find(reference) {
+            Some(part) => part,
+            None => unreachable!(),
+        }
+    }
+
+    /// The part that the reference names, where it may be read; else `NotRead`. The condition: it is
+    /// kept.
+    pub(crate) fn readable(&self, reference: &RefInstance) -> Result<&Instance, Error>
+        requires { IsKept self.now (reference_of reference.now) }
+        ensures outcome { Gives (λ v. value_of v.now) result (read (held self.now) (reference_of reference.now)) }
+        ensures content { IfOk result (λ v. IsContent self.now (value_of v.now)) }
+    {
+        if reference.access().is_read() {
+            Ok(self.part(reference))
+        } else {
+            Err(Error::NotRead)
+        }
+    }
+
+    /// The part that the reference names, where the value fits its place; else `WriteRefType`. The
+    /// conditions: the reference is kept, and the value may be stored.
+    pub(crate) fn replaceable(
+        &self,
+        alloc: Global,
+        reference: &RefInstance,
+        value: &Instance,
+    ) -> Result<&Instance, Error>
+        requires kept { IsKept self.now (reference_of reference.now) }
+        requires storable { IsStorable (value_of value.now) }
+        ensures { Gives (λ v. value_of v.now) result (fitting (held self.now) (reference_of reference.now) (value_of value.now)) }
+    {
+        let part = self.part(reference);
+        let ty = reference.target_ty();
+        if fits_place(value, ty, part) {
+            Ok(part)
+        } else {
+            Err(Error::WriteRefType(value.ty(alloc)?, ty.clone(alloc)?))
+        }
+    }
+
+    /// Makes a last cell that holds the value, and answers its number.
+    pub(crate) fn add(&mut self, value: Instance) -> Result<usize, AllocError>
+        requires { IsContent self.old (value_of value) }
+        ensures ok { IfOk result (λ n. n ≡ length self.old) }
+        ensures added { OnOk result (self.new ≡ self.old ++ value_of value ∷ []) }
+        ensures err { OnErr result (self.new ≡ self.old) }
+        ensures sound { IsSound self.new }
+        ensures kept { (r : Reference) → IsKept self.old r → IsKept self.new r }
+    {
+        let n = self.cells.len();
+        self.cells.push(value)?;
+        Ok(n)
+    }
+
+    /// Puts the value in the place of the part that the reference names, and gives the old part back.
+    /// The condition: the value fits there.
+    pub(crate) fn replace(&mut self, reference: &RefInstance, value: Instance) -> Instance
+        requires content { IsContent self.old (value_of value) }
+        requires fit { IsOkAnd (held self.old (reference_of reference.now)) (λ v. IsTrue (fits (value_of value) v)) }
+        ensures put { self.new ≡ put_cells self.old (reference_of reference.now) (value_of value) }
+        ensures old { held self.old (reference_of reference.now) ≡ Ok (value_of result) }
+        ensures content { IsContent self.new (value_of result) }
+        ensures sound { IsSound self.new }
+        ensures kept { (r : Reference) → IsKept self.old r → IsKept self.new r }
+    {
+        let cell = &mut self.cells[reference.cell()];
+        match cell.put(reference.view(), value) {
+            Some(old) => old,
+            None => unreachable!(),
+        }
+    }
+}
