@@ -2,6 +2,7 @@
 //! ends.
 
 mod buffers;
+mod cells;
 mod conversions;
 mod errors;
 mod faults;

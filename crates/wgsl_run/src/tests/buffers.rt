@@ -19,7 +19,7 @@ use wgsl_store::Buffers;
 use wgsl_values::Instance;
 
 /// The bytes of the words, each little-endian.
-fn bytes_of(alloc: Global, words: &[u32]) -> Result<Vec<u8>, AllocError> {
+pub(super) fn bytes_of(alloc: Global, words: &[u32]) -> Result<Vec<u8>, AllocError> {
     let mut bytes = Vec::new(alloc);
     for word in words {
         bytes.extend_from_slice(&word.to_le_bytes())?;
@@ -92,7 +92,7 @@ fn aligned(
 }
 
 /// A structure of two members, each given by its type and its value.
-fn two(
+pub(super) fn two(
     rt: &impl Abort,
     alloc: Global,
     first: (StructMemberType, Instance),

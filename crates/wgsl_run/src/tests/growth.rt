@@ -5,6 +5,7 @@ mod buffers;
 mod conversions;
 mod errors;
 mod references;
+mod sessions;
 mod signatures;
 mod types;
 mod values;

@@ -84,7 +84,7 @@ pub(super) fn read_write(
 }
 
 /// The bytes of the value that the reference names.
-fn bytes_at(
+pub(super) fn bytes_at(
     rt: &impl Abort,
     alloc: Global,
     store: &Store,
@@ -98,7 +98,7 @@ fn bytes_at(
 }
 
 /// Asserts the text of the value that the reference names.
-fn assert_reads(
+pub(super) fn assert_reads(
     rt: &impl Abort,
     alloc: Global,
     store: &Store,
@@ -212,31 +212,6 @@ fn steps_that_lead_nowhere_are_refused(rt: HostRuntime) -> Result<(), Fail> {
     Ok(())
 }
 
-#[test]
-fn a_write_changes_the_bytes_of_its_part_alone(rt: HostRuntime) -> Result<(), Fail> {
-    let alloc = rt.alloc();
-    let mut store = Store::new(alloc);
-    let a = member(alloc, "a", Type::U32, Some(16))?;
-    let b = member(alloc, "b", Type::U32, None)?;
-    let ty = struct_type(alloc, "S", vec![in alloc; a, b]?)?;
-    let members = vec![in alloc; Instance::from(1u32), Instance::from(2u32)]?;
-    let value = Instance::from(structure_from(&rt, ty, members));
-    let whole = new(&rt, alloc, &mut store, value, ReadWrite)?;
-    let before = [1, 0, 0, 0, 0, 0, 0, 0, 0, 0, 0, 0, 0, 0, 0, 0, 2, 0, 0, 0];
-    assert_eq!(rt;
-        bytes_at(&rt, alloc, &store, &whole)?.as_slice(),
-        before.as_slice()
-    );
-    let a = view_member(&rt, alloc, &store, &whole, "a")?;
-    write(&rt, alloc, &mut store, &a, Instance::from(5u32))?;
-    let after = [5, 0, 0, 0, 0, 0, 0, 0, 0, 0, 0, 0, 0, 0, 0, 0, 2, 0, 0, 0];
-    assert_eq!(rt;
-        bytes_at(&rt, alloc, &store, &whole)?.as_slice(),
-        after.as_slice()
-    );
-    Ok(())
-}
-
 pub(super) fn show(
     rt: &impl Abort,
     alloc: Global,
@@ -304,17 +279,27 @@ fn a_chain_with_a_link_that_is_not_read_is_not_loaded(rt: HostRuntime) -> Result
     Ok(())
 }
 
+pub(super) fn convert_loaded(
+    rt: &impl Abort,
+    alloc: Global,
+    store: &Store,
+    value: &Instance,
+    ty: &Type,
+) -> Result<Option<Instance>, Error> {
+    assert!(rt; store.holds_value(value));
+    assert!(rt; value.is_well_formed());
+    value.convert_loaded(alloc, store, ty)
+}
+
 #[test]
 fn what_is_loaded_is_converted(rt: HostRuntime) -> Result<(), Fail> {
     let alloc = rt.alloc();
     let mut store = Store::new(alloc);
     let seven = new(&rt, alloc, &mut store, Instance::from(7i64), ReadWrite)?;
     let value = Instance::from(seven);
-    assert!(rt; store.holds_value(&value));
-    assert!(rt; value.is_well_formed());
-    let converted = value.convert_loaded(alloc, &store, &Type::U32)?;
+    let converted = convert_loaded(&rt, alloc, &store, &value, &Type::U32)?;
     assert_eq!(rt; converted, Some(Instance::from(7u32)));
-    assert!(rt; value.convert_loaded(alloc, &store, &Type::Bool)?.is_none());
+    assert!(rt; convert_loaded(&rt, alloc, &store, &value, &Type::Bool)?.is_none());
     Ok(())
 }
 

@@ -183,13 +183,24 @@ pub(super) fn structure_from(
     StructInstance::new(ty, members)
 }
 
+/// Pair(a, vec3(2u, 3u, 4u))
+pub(super) fn pair_with(
+    rt: &impl Abort,
+    alloc: Global,
+    a: u32,
+) -> Result<StructInstance, AllocError>
+    ensures { IfOk result (λ s. IsStorable (struct_view s)) }
+{
+    let b = Instance::from(vector_of(rt, alloc, &[2, 3, 4])?);
+    let members = vec![in alloc; Instance::from(a), b]?;
+    Ok(structure_from(rt, pair_type(alloc)?, members))
+}
+
 /// Pair(1u, vec3(2u, 3u, 4u))
 pub(super) fn pair_value(rt: &impl Abort, alloc: Global) -> Result<StructInstance, AllocError>
     ensures { IfOk result (λ s. IsStorable (struct_view s)) }
 {
-    let b = Instance::from(vector_of(rt, alloc, &[2, 3, 4])?);
-    let members = vec![in alloc; Instance::from(1u32), b]?;
-    Ok(structure_from(rt, pair_type(alloc)?, members))
+    pair_with(rt, alloc, 1)
 }
 
 /// Twins(1u, 2u), whose type has two members of the name a.

@@ -1,15 +1,26 @@
 //! Sessions: what each call is answered, alone and in lists.
 
+ghost use Rattle.wgsl_session.specs.Calls.{IsSoundCall};
+ghost use Rattle.wgsl_session.specs.View.{call_of};
+
 use crate::tests::samples::{pair_value, reference_of, vector_of};
 use std::alloc::{AllocError, Global};
 use std::process::Abort;
 use std::test::Fail;
-use wgsl_rules::AccessMode::ReadWrite;
+use wgsl_rules::AccessMode::{Read, ReadWrite};
 use wgsl_rules::AddressSpace::{Function, Storage};
 use wgsl_rules::Type;
-use wgsl_scalar::Error;
+use wgsl_scalar::{BuiltinReason, Error};
 use wgsl_session::{Call, Fault, Reply, Session};
 use wgsl_values::{Instance, PtrInstance};
+
+/// The call, which a session takes.
+pub(super) fn sound(rt: &impl Abort, call: Call) -> Call
+    ensures { IsSoundCall (call_of result) }
+{
+    assert!(rt; call.is_sound());
+    call
+}
 
 /// The answer of a call, whose condition is tested first.
 pub(super) fn call(rt: &impl Abort, session: &mut Session, call: Call) -> Result<Reply, Fault> {
@@ -155,5 +166,50 @@ fn a_list_of_calls_has_a_reply_for_each(rt: HostRuntime) -> Result<(), Fail> {
         Ok(Reply::Value(Instance::from(2u32))),
     ]?;
     assert!(rt; replies == wanted);
+    Ok(())
+}
+
+#[test]
+fn copies_of_calls_are_equal(rt: HostRuntime) -> Result<(), Fail> {
+    let alloc = rt.alloc();
+    let pair = Instance::from(pair_value(&rt, alloc)?);
+    let vector = Instance::from(vector_of(&rt, alloc, &[1, 2])?);
+    let calls = vec![in alloc;
+        Call::New(pair, Storage, Read),
+        Call::NewOf(1, Function, ReadWrite),
+        Call::Member(1, String::from_str(alloc, "b")?),
+        Call::Index(1, 2),
+        Call::Read(1),
+        Call::Write(1, vector),
+        Call::Replace(1, Instance::from(8u32)),
+        Call::Copy(1, 2),
+        Call::Load(1),
+    ]?;
+    for (i, call) in calls.iter().enumerate() {
+        let copy = call.clone(alloc)?;
+        for (j, other) in calls.iter().enumerate() {
+            assert_eq!(rt; &copy == other, i == j);
+        }
+    }
+    Ok(())
+}
+
+#[test]
+fn copies_of_replies_and_faults_are_equal(rt: HostRuntime) -> Result<(), Fail> {
+    let alloc = rt.alloc();
+    let pair = Instance::from(pair_value(&rt, alloc)?);
+    let replies = vec![in alloc; Reply::Handle(7), Reply::Value(pair), Reply::Done]?;
+    for reply in &replies {
+        assert_eq!(rt; &reply.clone(alloc)?, reply);
+    }
+    let missing = Error::Component(Type::U32, String::from_str(alloc, "c")?);
+    let faults = vec![in alloc;
+        Fault::NoHandle,
+        Fault::Of(Error::Builtin(BuiltinReason::OutOfRange)),
+        Fault::Of(missing),
+    ]?;
+    for fault in &faults {
+        assert_eq!(rt; &fault.clone(alloc)?, fault);
+    }
     Ok(())
 }

@@ -3,7 +3,7 @@
 use std::alloc::{AllocError, Global};
 use std::process::Abort;
 use std::test::Fail;
-use wgsl_rules::{StructMemberType, StructType, Type};
+use wgsl_rules::{MemberMeasures, StructMemberType, StructType, Type};
 
 fn vector(alloc: Global, n: u8, ty: Type) -> Result<Type, AllocError> {
     Ok(Type::Vec(n, Box::new(alloc, ty)?))
@@ -267,5 +267,43 @@ fn deep_types_are_measured_in_one_walk(rt: HostRuntime) -> Result<(), Fail> {
     assert_eq!(rt; ty.align_of(), Some(4));
     assert_eq!(rt; ty.min_size_of(), Some(4));
     assert!(rt; ty.has_layout());
+    Ok(())
+}
+
+#[test]
+fn measures_of_members_and_of_their_structure(rt: HostRuntime) -> Result<(), Fail> {
+    let alloc = rt.alloc();
+    let word = Type::U32.measures();
+    let vector = vector(alloc, 3, Type::U32)?.measures();
+    let first = word.of_member(None, None);
+    assert_eq!(rt; MemberMeasures::NONE.offset_of(first), Some(0));
+    let one = MemberMeasures::NONE.with(first);
+    assert_eq!(rt; one.offset_of(first), Some(4));
+    assert_eq!(rt; one.offset_of(word.of_member(None, Some(16))), Some(16));
+    let second = vector.of_member(None, None);
+    assert_eq!(rt; one.offset_of(second), Some(16));
+    let both = one.with(second);
+    assert!(rt; both.have_layout());
+    let whole = both.of_struct();
+    assert_eq!(rt; whole.size, Some(32));
+    assert_eq!(rt; whole.align, Some(16));
+    assert!(rt; whole.is_fixed && !whole.is_runtime_array);
+    Ok(())
+}
+
+#[test]
+fn measures_of_arrays_and_of_what_comes_after_them(rt: HostRuntime) -> Result<(), Fail> {
+    let vector = vector(rt.alloc(), 3, Type::U32)?.measures();
+    assert_eq!(rt; vector.stride(), Some(16));
+    let two = vector.of_array(Some(2));
+    assert_eq!(rt; two.size, Some(32));
+    assert!(rt; two.is_fixed && !two.is_runtime_array);
+    let endless = vector.of_array(None);
+    assert_eq!(rt; endless.size, None);
+    assert!(rt; endless.is_runtime_array && !endless.is_fixed);
+    let ends = MemberMeasures::NONE.with(endless.of_member(None, None));
+    assert!(rt; ends.have_layout());
+    let after = ends.with(Type::U32.measures().of_member(None, None));
+    assert!(rt; !after.have_layout());
     Ok(())
 }
