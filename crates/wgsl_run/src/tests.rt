@@ -1,32 +1,10 @@
-//! What public calls of all crates answer, and scripts over memory: what each line is answered, and how a run
-//! ends.
+//! Scripts over memory: what each line is answered, and how a run ends.
 
-mod buffers;
-mod cells;
-mod conversions;
-mod errors;
 mod faults;
 mod grammar;
 mod growth;
-mod instances;
 mod limits;
-mod literals;
-mod operators;
-mod parts;
-mod plain_memory;
-mod readme;
-mod references;
 mod rows;
-mod samples;
-mod sessions;
-mod signatures;
-mod sizes;
-mod texts;
-mod types;
-mod value_texts;
-mod value_types;
-mod values;
-mod views;
 
 use crate::{RunFault, run_script};
 use std::alloc::Global;

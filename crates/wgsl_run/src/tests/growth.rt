@@ -1,16 +1,6 @@
 //! Runs in which memory may be refused at any growth: they accept either answer, and check what must
 //! be so after each.
 
-mod buffers;
-mod conversions;
-mod errors;
-mod references;
-mod sessions;
-mod signatures;
-mod types;
-mod values;
-mod views;
-
 use crate::{RunFault, run_script};
 use std::alloc::{AllocError, Global};
 use std::test::Fail;
