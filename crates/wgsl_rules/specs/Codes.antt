@@ -1,4 +1,4 @@
--- The codes of types, values and memories: the tokens that a stack machine builds them from.
+-- The codes of types and values: the tokens that a stack machine builds them from.
 use Rattle.std.specs.Prelude.{◌≡◌, ◌⊎◌, ℕ, zero, suc, ℤ, Bool, List, [], ◌∷◌, Option, refl}
 use Rattle.std.specs.Coded.{Coded, code_by, coded×, coded⊎, coded_ℕ, coded_ℤ, coded_bool, coded_list, coded_option}
 use Rattle.std.proofs.Common.{◌∙◌, inl, inr}
@@ -9,7 +9,6 @@ use Rattle.wgsl_rules.specs.Types as types
 use Rattle.wgsl_rules.specs.Types.{Ty, Fields, no_fields, field}
 use Rattle.wgsl_rules.specs.Values as values
 use Rattle.wgsl_rules.specs.Values.{Step, Reference, Val, Vals, no_vals, val}
-use Rattle.wgsl_rules.specs.Memory.{State}
 use Rattle.wgsl_rules.specs.declared.syntax.AddressSpace.{AddressSpace}
 use Rattle.wgsl_rules.specs.declared.syntax.AccessMode.{AccessMode}
 use Rattle.wgsl_rules.specs.declared.syntax.TextureType.{TextureType}
@@ -478,11 +477,3 @@ top_val-run v = λ i. top_val (run-emit_val v [] [] i)
 abbrev pub val_code : Coded Val
 val_code =
     code_by (List ValToken) (coded_list val_token_code) (λ v. emit_val v []) (λ ts. top_val (run act_val ts [])) top_val-run
-
--- ---- memories
-
--- a memory is stored as the pair of its fields
-abbrev pub state_code : Coded State
-state_code =
-    code_by (List Val × List Reference) (coded× (coded_list val_code) (coded_list reference_code))
-    (λ s. (s.cells, s.handles)) (λ p. record { cells = p.0; handles = p.1 }) (λ _. refl)

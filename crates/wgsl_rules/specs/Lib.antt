@@ -9,7 +9,6 @@ pub mod Kinds
 pub mod Laws
 pub mod Layout
 pub mod Measures
-pub mod Memory
 pub mod Paths
 pub mod Refusals
 pub mod Same
