@@ -4,8 +4,10 @@
 
 mod buffers;
 mod count;
+mod flat;
 pub mod laws;
 mod loads;
+mod located;
 mod make;
 mod parts;
 mod plan;
