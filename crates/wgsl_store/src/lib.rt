@@ -3,6 +3,7 @@
 #![tactic(auto)]
 
 mod buffers;
+mod cell;
 mod count;
 mod flat;
 pub mod laws;
