@@ -14,6 +14,7 @@ pub mod Loads
 pub mod Numbers
 pub mod Overwritten
 pub mod Padding
+pub mod Parts
 pub mod Places
 pub mod Positive
 pub mod Puts

@@ -53,9 +53,8 @@ impl FlatCell {
       IsOkAnd,
       IsTrue,
       MatchOption,
-      OnFalse,
-      OnTrue,
     };
+    ghost use Rattle.std.specs.Bool.{OnFalse, OnTrue};
     ghost use Rattle.wgsl_rules.specs.Layout.{has_layout};
     ghost use Rattle.wgsl_rules.specs.Paths.{fits, put_viewed, viewed};
     ghost use Rattle.wgsl_rules.specs.Values.{IsStorable, type_of};
@@ -147,7 +146,7 @@ impl<'a> FlatPart<'a> {
     /// The first member of the name: structures alone have members.
     pub(crate) fn member(self, name: &str) -> Option<FlatPart<'a>>
         requires { IsFlatPart self }
-        ensures value { option_map part_value result ≡ option_map (λ p. p.1) (member_named name.now (part_value self)) }
+        ensures value { option_map part_value result ≡ option_map (λ p. p.1) (member_named name.now (part_value self.entry)) }
         ensures part { IfSome result IsFlatPart }
     {
         let located = self.located.member(name)?;
@@ -160,7 +159,7 @@ impl<'a> FlatPart<'a> {
     /// The part of the index: arrays, vectors and matrices have indexed parts.
     pub(crate) fn index(self, i: usize) -> Option<FlatPart<'a>>
         requires { IsFlatPart self }
-        ensures value { option_map part_value result ≡ option_map (λ p. p.1) (result_ok (part_at i (part_value self))) }
+        ensures value { option_map part_value result ≡ option_map (λ p. p.1) (result_ok (part_at i (part_value self.entry))) }
         ensures part { IfSome result IsFlatPart }
     {
         let located = self.located.index(i)?;
@@ -173,7 +172,7 @@ impl<'a> FlatPart<'a> {
     /// The part that the view leads to; `None` where it leads nowhere.
     pub(crate) fn viewed(self, view: &MemView) -> Option<FlatPart<'a>>
         requires { IsFlatPart self }
-        ensures value { option_map part_value result ≡ result_ok (viewed (steps_of view.now) (part_value self)) }
+        ensures value { option_map part_value result ≡ result_ok (viewed (steps_of view.now) (part_value self.entry)) }
         ensures part { IfSome result IsFlatPart }
     {
         let located = self.located.viewed(view)?;
@@ -186,7 +185,7 @@ impl<'a> FlatPart<'a> {
     /// The type of the part.
     pub(crate) fn ty(self, alloc: Global) -> Result<Type, AllocError>
         requires { IsFlatPart self }
-        ensures { IfOk result (λ t. type_view t ≡ type_of (part_value self)) }
+        ensures { IfOk result (λ t. type_view t ≡ type_of (part_value self.entry)) }
     {
         self.located.ty(alloc)
     }
@@ -194,7 +193,7 @@ impl<'a> FlatPart<'a> {
     /// Whether the part is of this type.
     pub(crate) fn has_ty(self, ty: &Type) -> bool
         requires { IsFlatPart self }
-        ensures { IsTrue result ↔ (type_view ty.now ≡ type_of (part_value self)) }
+        ensures { IsTrue result ↔ (type_view ty.now ≡ type_of (part_value self.entry)) }
     {
         self.located.has_ty(ty)
     }
@@ -202,7 +201,7 @@ impl<'a> FlatPart<'a> {
     /// A copy of the value of the part.
     pub(crate) fn value(self, alloc: Global) -> Result<Instance, AllocError>
         requires { IsFlatPart self }
-        ensures { IfOk result (λ v. value_of v ≡ part_value self) }
+        ensures { IfOk result (λ v. value_of v ≡ part_value self.entry) }
     {
         let at = self.located;
         match at.shape {
@@ -224,7 +223,7 @@ impl<'a> FlatPart<'a> {
     pub(crate) fn fits(self, value: &Instance) -> bool
         requires part { IsFlatPart self }
         requires storable { IsStorable (value_of value.now) }
-        ensures { result ≡ fits (value_of value.now) (part_value self) }
+        ensures { result ≡ fits (value_of value.now) (part_value self.entry) }
     {
         self.located.fits(value)
     }
@@ -234,7 +233,7 @@ impl<'a> FlatPart<'a> {
     pub(crate) fn no_part(self, alloc: Global, i: usize) -> Result<Error, AllocError>
         requires part { IsFlatPart self }
         requires none { result_ok (part_at i (part_value self)) ≡ None }
-        ensures { IfOk result (λ e. IsSomeAnd (refusal_of e) (λ f. part_at i (part_value self) ≡ Err f)) }
+        ensures { IfOk result (λ e. IsSomeAnd (refusal_of e) (λ f. part_at i (part_value self.entry) ≡ Err f)) }
     {
         let ty = self.ty(alloc)?;
         if self.located.is_indexable() {
@@ -263,8 +262,8 @@ impl<'a> Located<'a> {
     // The part that the view leads to; `None` where it leads nowhere.
     fn viewed(self, view: &MemView) -> Option<Located<'a>>
         requires { IsLocated self }
-        ensures range { option_map part_range result ≡ option_map (further self.start) (view_range (steps_of view.now) (part_range self).layout) }
-        ensures there { IfSome result (IsInside self) }
+        ensures range { option_map part_range result ≡ option_map (further self.entry.start) (view_range (steps_of view.now) (part_range self.entry).layout) }
+        ensures there { IfSome result (IsInside self.entry) }
     {
         match view {
             MemView::Whole => Some(self),
@@ -278,7 +277,7 @@ impl<'a> Located<'a> {
     fn fits(self, value: &Instance) -> bool
         requires located { IsLocated self }
         requires storable { IsStorable (value_of value.now) }
-        ensures { IsTrue result ↔ (layout_of (value_of value.now) ≡ (part_range self).layout) }
+        ensures { IsTrue result ↔ (layout_of (value_of value.now) ≡ (part_range self.entry).layout) }
     {
         let n = runtime_count(value);
         self.is_type_of(value) && (n == 0 || n == self.count)
@@ -287,7 +286,7 @@ impl<'a> Located<'a> {
     // Whether the value is of the part's type. The condition: the value may be stored.
     fn is_type_of(self, value: &Instance) -> bool
         requires { IsStorable (value_of value.now) }
-        ensures { IsTrue result ↔ (type_of (value_of value.now) ≡ shape_ty self.shape) }
+        ensures { IsTrue result ↔ (type_of (value_of value.now) ≡ shape_ty self.entry.shape) }
     {
         match self.shape {
             Shape::Whole(ty, _) | Shape::Component(ty) => value.has_ty(ty),
@@ -306,7 +305,7 @@ impl<'a> Located<'a> {
         requires whole { self.len ≡ length bytes.old }
         requires storable { IsStorable (value_of value.now) }
         requires alike { layout_of (value_of value.now) ≡ (part_range self).layout }
-        ensures { bytes.new ≡ put (value_of value.now) (shape_plan self.shape) self.start bytes.old }
+        ensures { bytes.new ≡ put (value_of value.now) (shape_plan self.entry.shape) self.entry.start bytes.old }
     {
         match self.shape {
             Shape::Whole(_, plan) | Shape::Column(_, _, plan) => {

@@ -36,8 +36,8 @@ impl<'a> Located<'a> {
     /// The first member of the name: structures alone have members.
     pub(crate) fn member(self, name: &str) -> Option<Located<'a>>
         requires { IsLocated self }
-        ensures range { option_map part_range result ≡ step_range (member_step name.now) self }
-        ensures there { IfSome result (IsInside self) }
+        ensures range { option_map part_range result ≡ step_range (member_step name.now) self.entry }
+        ensures there { IfSome result (IsInside self.entry) }
     {
         None
     }
@@ -45,22 +45,22 @@ impl<'a> Located<'a> {
     /// The part of the index: arrays, vectors and matrices have indexed parts.
     pub(crate) fn index(self, i: usize) -> Option<Located<'a>>
         requires { IsLocated self }
-        ensures range { option_map part_range result ≡ step_range (index_step i) self }
-        ensures there { IfSome result (IsInside self) }
+        ensures range { option_map part_range result ≡ step_range (index_step i) self.entry }
+        ensures there { IfSome result (IsInside self.entry) }
     {
         None
     }
 
     /// The type of the part.
     pub(crate) fn ty(self, alloc: Global) -> Result<Type, AllocError>
-        ensures { IfOk result (λ t. type_view t ≡ shape_ty self.shape) }
+        ensures { IfOk result (λ t. type_view t ≡ shape_ty self.entry.shape) }
     {
         Err(AllocError)
     }
 
     /// Whether the part is of this type.
     pub(crate) fn has_ty(self, ty: &Type) -> bool
-        ensures { IsTrue result ↔ (type_view ty.now ≡ shape_ty self.shape) }
+        ensures { IsTrue result ↔ (type_view ty.now ≡ shape_ty self.entry.shape) }
     {
         false
     }
