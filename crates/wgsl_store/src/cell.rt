@@ -199,7 +199,7 @@ impl<'a> Part<'a> {
     /// The first member of the name: structures alone have members.
     pub(crate) fn member(self, name: &str) -> Option<Part<'a>>
         requires { IsPart self }
-        ensures value { option_map part_value result ≡ option_map (λ p. p.1) (member_named name.now (part_value self)) }
+        ensures value { option_map part_value result ≡ option_map (λ p. p.1) (member_named name.now (part_value self.entry)) }
         ensures part { IfSome result IsPart }
     {
         match self {
@@ -211,7 +211,7 @@ impl<'a> Part<'a> {
     /// The part of the index: arrays, vectors and matrices have indexed parts.
     pub(crate) fn index(self, i: usize) -> Option<Part<'a>>
         requires { IsPart self }
-        ensures value { option_map part_value result ≡ option_map (λ p. p.1) (result_ok (part_at i (part_value self))) }
+        ensures value { option_map part_value result ≡ option_map (λ p. p.1) (result_ok (part_at i (part_value self.entry))) }
         ensures part { IfSome result IsPart }
     {
         match self {
@@ -223,7 +223,7 @@ impl<'a> Part<'a> {
     /// The part that the view leads to; `None` where it leads nowhere.
     pub(crate) fn viewed(self, view: &MemView) -> Option<Part<'a>>
         requires { IsPart self }
-        ensures value { option_map part_value result ≡ result_ok (viewed (steps_of view.now) (part_value self)) }
+        ensures value { option_map part_value result ≡ result_ok (viewed (steps_of view.now) (part_value self.entry)) }
         ensures part { IfSome result IsPart }
     {
         match self {
@@ -236,7 +236,7 @@ impl<'a> Part<'a> {
     pub(crate) fn ty(self, alloc: Global) -> Result<Type, AllocError>
         requires part { IsPart self }
         requires storable { IsStorable (part_value self) }
-        ensures { IfOk result (λ t. type_view t ≡ type_of (part_value self)) }
+        ensures { IfOk result (λ t. type_view t ≡ type_of (part_value self.entry)) }
     {
         match self {
             Part::Flat(part) => part.ty(alloc),
@@ -248,7 +248,7 @@ impl<'a> Part<'a> {
     pub(crate) fn has_ty(self, ty: &Type) -> bool
         requires part { IsPart self }
         requires storable { IsStorable (part_value self) }
-        ensures { IsTrue result ↔ (type_of (part_value self) ≡ type_view ty.now) }
+        ensures { IsTrue result ↔ (type_of (part_value self.entry) ≡ type_view ty.now) }
     {
         match self {
             Part::Flat(part) => part.has_ty(ty),
@@ -259,7 +259,7 @@ impl<'a> Part<'a> {
     /// A copy of the value of the part.
     pub(crate) fn value(self, alloc: Global) -> Result<Instance, AllocError>
         requires { IsPart self }
-        ensures { IfOk result (λ v. value_of v ≡ part_value self) }
+        ensures { IfOk result (λ v. value_of v ≡ part_value self.entry) }
     {
         match self {
             Part::Flat(part) => part.value(alloc),
@@ -273,7 +273,7 @@ impl<'a> Part<'a> {
         requires part { IsPart self }
         requires typed { type_of (part_value self) ≡ type_view ty.now }
         requires storable { IsStorable (value_of value.now) }
-        ensures { result ≡ fits (value_of value.now) (part_value self) }
+        ensures { result ≡ fits (value_of value.now) (part_value self.entry) }
     {
         match self {
             Part::Flat(part) => part.fits(value),
@@ -287,7 +287,7 @@ impl<'a> Part<'a> {
         requires part { IsPart self }
         requires none { result_ok (part_at i (part_value self)) ≡ None }
         requires storable { IsStorable (part_value self) }
-        ensures { IfOk result (λ e. IsSomeAnd (refusal_of e) (λ f. part_at i (part_value self) ≡ Err f)) }
+        ensures { IfOk result (λ e. IsSomeAnd (refusal_of e) (λ f. part_at i (part_value self.entry) ≡ Err f)) }
     {
         match self {
             Part::Flat(part) => part.no_part(alloc, i),
@@ -304,7 +304,7 @@ impl<'a> Part<'a> {
     ) -> Result<Option<Instance>, AllocError>
         requires part { IsPart self }
         requires well_formed { IsWellFormed (part_value self) }
-        ensures { IfOk result (λ o. option_map value_of o ≡ converted (part_value self) (type_view ty.now)) }
+        ensures { IfOk result (λ o. option_map value_of o ≡ converted (part_value self.entry) (type_view ty.now)) }
     {
         match self {
             Part::Flat(part) => part.value(alloc)?.convert_to(alloc, ty),

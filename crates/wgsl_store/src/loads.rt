@@ -55,7 +55,7 @@ fn as_reference(value: &Instance) -> Option<&RefInstance>
 
 // The reference that the part is. A part of bytes is none: references have no layout.
 fn reference_at<'a>(part: Part<'a>) -> Option<&'a RefInstance>
-    ensures { option_map (λ r. reference_of r.now) result ≡ as_reference (part_value part) }
+    ensures { option_map (λ r. reference_of r.now) result ≡ as_reference (part_value part.entry) }
 {
     match part {
         Part::Flat(_) => None,
