@@ -96,26 +96,26 @@ impl Cell {
         }
     }
 
-    /// Puts the value in the place of the part that the view leads to in the cell, and gives the old
-    /// part back. After want of memory nothing is changed; a cell that is a tree takes none. The
-    /// conditions: the value fits there, and may be stored.
+    /// Puts the value in the place of the part that the reference leads to in the cell, and gives the
+    /// old part back. After want of memory nothing is changed; a tree takes none. The conditions: the
+    /// value fits there, and may be stored.
     pub(crate) fn replace(
         &mut self,
         alloc: Global,
-        view: &MemView,
+        reference: &RefInstance,
         value: Instance,
     ) -> Result<Instance, AllocError>
         requires cell { IsCell self.old }
-        requires fit { IsOkAnd (viewed (steps_of view.now) (cell_value self.old)) (λ v. IsTrue (fits (value_of value) v)) }
+        requires fit { IsOkAnd (viewed (reference_of reference.now).view (cell_value self.old)) (λ v. IsTrue (fits (value_of value) v)) }
         requires storable { IsStorable (value_of value) }
-        ensures put { OnOk result (cell_value self.new ≡ put_viewed (steps_of view.now) (value_of value) (cell_value self.old)) }
-        ensures old { IfOk result (λ v. viewed (steps_of view.now) (cell_value self.old) ≡ Ok (value_of v)) }
+        ensures put { OnOk result (cell_value self.new ≡ put_viewed (reference_of reference.now).view (value_of value) (cell_value self.old)) }
+        ensures old { IfOk result (λ v. viewed (reference_of reference.now).view (cell_value self.old) ≡ Ok (value_of v)) }
         ensures err { OnErr result (cell_value self.new ≡ cell_value self.old) }
         ensures cell { IsCell self.new }
     {
         match self {
-            Cell::Flat(bytes) => replace_bytes(alloc, bytes, view, value),
-            Cell::Tree(whole) => Ok(replace_tree(whole, view, value)),
+            Cell::Flat(bytes) => replace_bytes(alloc, bytes, reference.view(), value),
+            Cell::Tree(whole) => Ok(replace_tree(whole, reference.view(), value)),
         }
     }
 }

@@ -237,6 +237,6 @@ impl Store {
         ensures kept { (r : Reference) → IsKept self.old r → IsKept self.new r }
     {
         let cell = &mut self.cells[reference.cell()];
-        cell.replace(alloc, reference.view(), value)
+        cell.replace(alloc, reference, value)
     }
 }
