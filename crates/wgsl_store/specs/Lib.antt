@@ -1,6 +1,5 @@
 pub mod Buffers
 pub mod Cells
-pub mod Fitting
 pub mod FlatCells
 pub mod Laws
 pub mod Loaded
