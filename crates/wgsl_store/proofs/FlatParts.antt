@@ -1,5 +1,5 @@
 -- Parts of cells of bytes, by the ranges at which they are located.
-use Rattle.std.proofs.Common.{◌≡◌, ℕ, ◌+◌, List, [], ◌∷◌, Option, Some, None, option_map, option_and_then, refl, sym, ap, ◌∙◌, arith}
+use Rattle.std.proofs.Common.{◌≡◌, ℕ, ◌+◌, List, [], ◌∷◌, Option, Some, None, option_map, option_and_then, Bool, true, false, refl, sym, ap, ◌∙◌, arith}
 use Rattle.std.specs.Result.{result_ok}
 use Rattle.wgsl_rules.specs.Types.{Ty}
 use Rattle.wgsl_rules.specs.Values.{Step, Val}
@@ -75,3 +75,11 @@ pub view-value : (steps : List Step) (b : List ℕ) (l : Located) (o : Option Ra
     → option_map (decoded_in b) o ≡ result_ok (viewed steps (decoded b l.start (part_range l).layout))
 view-value steps b l o e =
     ap (option_map (decoded_in b)) e ∙ further-decoded b l.start (view_range steps (part_range l).layout) ∙ sym (decoded-viewed steps b l.start (part_range l).layout)
+
+-- ---- tests
+
+pub same-truth : (a b : Bool) → (a ≡ true → b ≡ true) → (b ≡ true → a ≡ true) → a ≡ b
+same-truth true true f g = refl
+same-truth true false f g = sym (f refl)
+same-truth false true f g = g refl
+same-truth false false f g = refl
