@@ -2,6 +2,7 @@ pub mod Buffers
 pub mod Fitting
 pub mod Laws
 pub mod Loaded
+pub mod Located
 pub mod Memory
 pub mod MemoryLaws
 pub mod Plan

@@ -6,6 +6,7 @@ mod buffers;
 mod count;
 pub mod laws;
 mod loads;
+mod located;
 mod make;
 mod parts;
 mod plan;
