@@ -1,9 +1,11 @@
 -- Parts of cells of bytes, by the ranges at which they are located.
-use Rattle.std.proofs.Common.{◌≡◌, ℕ, ◌+◌, List, [], ◌∷◌, Option, Some, None, option_map, option_and_then, Bool, true, false, refl, sym, ap, ◌∙◌, arith}
+use mathlib.Core.Logic.{inl, inr}
+use Rattle.std.proofs.Common.{◌≡◌, ◌⊎◌, ℕ, ◌+◌, List, [], ◌∷◌, Option, Some, None, option_map, option_and_then, Bool, true, false, nat_eq, refl, sym, ap, ◌∙◌, arith, eqb-eq, eq-eqb}
+use Rattle.std.specs.Prelude.{◌↔◌}
 use Rattle.std.specs.Result.{result_ok}
-use Rattle.wgsl_rules.specs.Types.{Ty}
-use Rattle.wgsl_rules.specs.Values.{Step, Val}
-use Rattle.wgsl_rules.specs.Paths.{stepped, viewed}
+use Rattle.wgsl_rules.specs.Types.{Ty, vec}
+use Rattle.wgsl_rules.specs.Values.{Step, Val, vector, Vals, no_vals, val, count, item, type_of, first_type}
+use Rattle.wgsl_rules.specs.Paths.{parts, stepped, viewed}
 use Rattle.wgsl_rules.specs.Layout.{Layout, layout, type_in}
 use Rattle.wgsl_store.specs.Buffers.{decoded}
 use Rattle.wgsl_store.specs.Located.{part_range, shape_ty, step_range}
@@ -83,3 +85,25 @@ same-truth true true f g = refl
 same-truth true false f g = sym (f refl)
 same-truth false true f g = g refl
 same-truth false false f g = refl
+
+-- ---- vectors
+
+-- the type of a vector, by its first component
+pub vector-type : (w x : Val) (vs : Vals) → w ≡ vector vs → item 0 (parts w) ≡ Some x → type_of w ≡ vec (count (parts w)) (type_of x)
+vector-type w x vs is at = rw is (ap (vec (count vs)) (first vs (rw is at at)))
+  where
+    first : (us : Vals) → item 0 us ≡ Some x → first_type us ≡ type_of x
+    first no_vals e = absurd (cc)
+    first (val u us) e = let same : u ≡ x = cc in ap type_of same
+
+vec-parts : (m n : ℕ) (s t : Ty) → vec m s ≡ vec n t → (m ≡ n) × (s ≡ t)
+vec-parts m n s t e = (cc, cc)
+
+-- which test tells that it is of a vector type
+pub vector-told : (w x : Val) (vs : Vals) (n : ℕ) (t : Ty) (b : Bool) → w ≡ vector vs → item 0 (parts w) ≡ Some x → (b ≡ true) ↔ (type_of x ≡ t) → count (parts w) ≡ n → (b ≡ true) ↔ (type_of w ≡ vec n t)
+vector-told w x vs n t b is at told counted =
+    let own = vector-type w x vs is at in
+    (λ r. own ∙ ap (λ (k : ℕ). vec k (type_of x)) counted ∙ ap (vec n) (told.0 r), λ e. told.1 (vec-parts (count (parts w)) n (type_of x) t (sym own ∙ e)).1)
+
+pub vector-other : (w x : Val) (vs : Vals) (n : ℕ) (t : Ty) → w ≡ vector vs → item 0 (parts w) ≡ Some x → (count (parts w) ≡ n → ⊥) → type_of w ≡ vec n t → ⊥
+vector-other w x vs n t is at other e = other (vec-parts (count (parts w)) n (type_of x) t (sym (vector-type w x vs is at) ∙ e)).0

@@ -16,7 +16,7 @@ use Rattle.wgsl_store.specs.Buffers.{number_at, byte_at, bytes_with, buffer, dec
 use Rattle.wgsl_store.specs.Plan.{Plan, plan_of}
 use Rattle.wgsl_store.specs.Ranges.{Range, range_in, view_range, parts_in, overwritten}
 use Rattle.wgsl_store.specs.Reading.{IsThere}
-use Rattle.wgsl_store.specs.Walk.{put}
+use Rattle.wgsl_store.specs.Walk.{put, Stands}
 use Rattle.wgsl_store.proofs.lemmas.Tidy.{tidy}
 use Rattle.wgsl_store.proofs.lemmas.Ranges.{range-is, length-bytes}
 use Rattle.wgsl_store.proofs.lemmas.Follows.{Follows, FollowAll, follows, parts-follow, layout-any}
@@ -25,7 +25,7 @@ use Rattle.wgsl_store.proofs.lemmas.Counts.{count-fixed, count-some}
 use Rattle.wgsl_store.proofs.lemmas.Compose.{compose, laid-decodes}
 use Rattle.wgsl_store.proofs.lemmas.Roundtrip.{lays-itself}
 use Rattle.wgsl_store.proofs.lemmas.Leaves.{IsPaddingZero, layout-bytes-over, padding-byte}
-use Rattle.wgsl_store.proofs.lemmas.Standing.{put-leaves}
+use Rattle.wgsl_store.proofs.lemmas.Standing.{put-leaves, stands}
 use Rattle.wgsl_store.proofs.lemmas.Places.{fits-count, part-storable, put-type, put-count}
 use Rattle.wgsl_store.proofs.lemmas.Overwritten.{put-overwritten}
 use Rattle.wgsl_store.proofs.lemmas.ViewPaths.{path-in-is, layout-type}
@@ -168,6 +168,14 @@ counted-alike w n m t s h e c one = (to, from)
     from (inr k) = turned ∙ ap (λ (q : ℕ). layout q t) k
 
 -- ---- a write in place
+
+-- a value of the layout stands where the part does
+pub stands-there : (w : Val) (n : ℕ) (t : Ty) (p : Plan) (at len : ℕ) → IsThere n t p at len → IsStorable w → layout_of w ≡ layout n t → Stands w p at len
+stands-there w n t p at len h s e =
+    let typed : type_of w ≡ t = sym (layout-type (type_of w) (runtime_count w)) ∙ ap type_in e ∙ layout-type t n in
+    let own : has_layout (type_of w) ≡ true = ap has_layout typed ∙ h.laid in
+    let same_length = ap length_in e in
+    subst (λ (k : Plan). Stands w k at len) (ap plan_of typed ∙ sym h.planned) (stands w at len s own (omega (arith, h.inside, same_length)))
 
 -- where a part stands, the padding of its layout is 0
 padding-zero : (v : Val) (p : List ℕ) (r : Range) → has_layout (type_of v) ≡ true → range_in p (layout_of v) ≡ Some r → IsPaddingZero (buffer v) r.start r.layout

@@ -25,7 +25,7 @@ item-decoded i b o no_parts = refl
 item-decoded zero b o (part from l ps) = refl
 item-decoded (suc i) b o (part from l ps) = item-decoded i b o ps
 
-refused-behind : (o : Option (ℕ × Val)) (e : Refusal) → behind (or_refused o e) ≡ option_map (λ p. p.1) o
+pub refused-behind : (o : Option (ℕ × Val)) (e : Refusal) → behind (or_refused o e) ≡ option_map (λ p. p.1) o
 refused-behind None e = refl
 refused-behind (Some p) e = refl
 
