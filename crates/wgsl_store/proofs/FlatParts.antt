@@ -1,6 +1,5 @@
 -- Parts of cells of bytes, by the ranges at which they are located.
-use mathlib.Core.Logic.{inl, inr}
-use Rattle.std.proofs.Common.{◌≡◌, ◌⊎◌, ℕ, ◌+◌, List, [], ◌∷◌, Option, Some, None, option_map, option_and_then, Bool, true, false, nat_eq, refl, sym, ap, ◌∙◌, arith, eqb-eq, eq-eqb}
+use Rattle.std.proofs.Common.{◌≡◌, ℕ, ◌+◌, List, [], ◌∷◌, Option, Some, None, option_map, option_and_then, Bool, true, false, refl, sym, ap, ◌∙◌, arith}
 use Rattle.std.specs.Prelude.{◌↔◌}
 use Rattle.std.specs.Result.{result_ok}
 use Rattle.wgsl_rules.specs.Types.{Ty, vec}

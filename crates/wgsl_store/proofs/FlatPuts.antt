@@ -2,7 +2,7 @@
 use Rattle.std.proofs.Common.{◌≡◌, ℕ, ◌+◌, List, Option, Some, None, Ok, Err, option_map, true, refl, sym, ap, ◌∙◌, subst, arith}
 use Rattle.std.specs.Prelude.{◌↔◌, IsOk, IsOkAnd}
 use Rattle.std.specs.Result.{result_ok}
-use Rattle.wgsl_rules.specs.Layout.{has_layout, layout, layout_of, runtime_count, type_in}
+use Rattle.wgsl_rules.specs.Layout.{has_layout, layout, layout_of, runtime_count}
 use Rattle.wgsl_rules.specs.Paths.{fits, put_viewed, viewed}
 use Rattle.wgsl_rules.specs.Refusals.{Outcome}
 use Rattle.wgsl_rules.specs.Types.{Ty}
@@ -16,9 +16,8 @@ use Rattle.wgsl_store.specs.Ranges.{Range, further, view_range}
 use Rattle.wgsl_store.specs.Walk.{put}
 use Rattle.wgsl_store.specs.declared.flat.FlatCell.TheInside.{Inside}
 use Rattle.wgsl_store.specs.declared.located.Located.{Located}
-use Rattle.wgsl_store.proofs.lemmas.Flat.{IsLaid, IsPut, buffer-decodes, fits-laid, put-in-place, there-laid}
+use Rattle.wgsl_store.proofs.lemmas.Flat.{IsLaid, IsPut, buffer-decodes, fits-laid, put-in-place, there-laid, type-alike}
 use Rattle.wgsl_store.proofs.lemmas.Parts.{decoded-viewed}
-use Rattle.wgsl_store.proofs.lemmas.ViewPaths.{layout-type}
 
 -- ---- what a cell holds
 
@@ -89,5 +88,5 @@ place-put v w steps l s h t located e alike =
     let x = decoded (buffer v) l.start (part_range l).layout in
     let own = laid-at v l located in
     let fit = (fits-laid w x t own.storable own.laid).1 (alike ∙ sym own.alike) in
-    let typed : type_of w ≡ shape_ty l.shape = sym (layout-type (type_of w) (runtime_count w)) ∙ ap type_in alike ∙ layout-type (shape_ty l.shape) l.count in
+    let typed = type-alike w l.count (shape_ty l.shape) alike in
     put-in-place v w x steps (part_range l) (shape_plan l.shape) s h t (at-part v steps (part_range l) s h e) fit e (located.planned ∙ ap plan_of (sym typed))

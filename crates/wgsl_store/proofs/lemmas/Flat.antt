@@ -102,6 +102,10 @@ vec-there n k t p at len h =
 
 -- ---- what fits
 
+-- what has the layout of a type is of the type
+pub type-alike : (w : Val) (n : ℕ) (t : Ty) → layout_of w ≡ layout n t → type_of w ≡ t
+type-alike w n t e = sym (layout-type (type_of w) (runtime_count w)) ∙ ap type_in e ∙ layout-type t n
+
 -- values of one layout have the same paths
 same-parts : (p : List ℕ) (i : ℕ) (ps : Parts) (vs ws : Vals) → FollowAll ps vs → FollowAll ps ws → ((l : Layout) (x y : Val) → Follows l x → Follows l y → is_some (value_at p x) ≡ is_some (value_at p y))
     → is_some (option_and_then (value_at p) (item i vs)) ≡ is_some (option_and_then (value_at p) (item i ws))
@@ -128,7 +132,7 @@ fits-laid w v s t h = (to, from)
 
     from : layout_of w ≡ layout_of v → fits w v ≡ true
     from e =
-        let typed : type_of w ≡ type_of v = sym (layout-type (type_of w) (runtime_count w)) ∙ ap type_in e ∙ layout-type (type_of v) (runtime_count v) in
+        let typed = type-alike w (runtime_count v) (type_of v) e in
         let own : Follows (layout_of v) w = subst (λ (l : Layout). Follows l w) e (follows w s (ap has_layout typed ∙ h)) in
         (fits-Decides w v).1 (typed, λ p. same-layout-paths p (layout_of v) w v own (follows v t h))
 
@@ -172,7 +176,7 @@ counted-alike w n m t s h e c one = (to, from)
 -- a value of the layout stands where the part does
 pub stands-there : (w : Val) (n : ℕ) (t : Ty) (p : Plan) (at len : ℕ) → IsThere n t p at len → IsStorable w → layout_of w ≡ layout n t → Stands w p at len
 stands-there w n t p at len h s e =
-    let typed : type_of w ≡ t = sym (layout-type (type_of w) (runtime_count w)) ∙ ap type_in e ∙ layout-type t n in
+    let typed = type-alike w n t e in
     let own : has_layout (type_of w) ≡ true = ap has_layout typed ∙ h.laid in
     let same_length = ap length_in e in
     subst (λ (k : Plan). Stands w k at len) (ap plan_of typed ∙ sym h.planned) (stands w at len s own (omega (arith, h.inside, same_length)))

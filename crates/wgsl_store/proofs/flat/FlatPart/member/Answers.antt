@@ -12,7 +12,7 @@ use Rattle.wgsl_store.proofs.flat.FlatPart.member.Goals as goal
 pub returns-in_err-located-clause-value : goal.returns-in_err-located-clause-value
 returns-in_err-located-clause-value c =
     let v = decoded c.args.self.bytes.now c.args.self.located.start (part_range c.args.self.located).layout in
-    step-value (member_step c.args.name.now) c.args.self.bytes.now c.args.self.located None c.in_err-located.ensures.range ∙ refused-behind (member_named c.args.name.now v) (component (type_of v) c.args.name.now)
+    rw c.from_residual.ensures (step-value (member_step c.args.name.now) c.args.self.bytes.now c.args.self.located None c.in_err-located.ensures.range ∙ refused-behind (member_named c.args.name.now v) (component (type_of v) c.args.name.now))
 
 pub returns-clause-value : goal.returns-clause-value
 returns-clause-value c =

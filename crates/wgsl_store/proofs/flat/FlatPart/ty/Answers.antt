@@ -1,7 +1,13 @@
-use Rattle.std.proofs.Common.{sym, ◌∙◌}
+use Rattle.std.proofs.Common.{subst, sym}
+use Rattle.std.specs.Prelude.{IfOk}
+use Rattle.wgsl_rules.specs.Types.{Ty}
+use Rattle.wgsl_rules.specs.View.{type_view}
 use Rattle.wgsl_store.specs.Located.{shape_plan, shape_ty}
 use Rattle.wgsl_store.proofs.lemmas.Flat.{there-laid}
 use Rattle.wgsl_store.proofs.flat.FlatPart.ty.Goals as goal
 
 pub returns : goal.returns
-returns c = ?
+returns c =
+    let l = c.args.self.located in
+    let own = there-laid l.count (shape_ty l.shape) (shape_plan l.shape) l.start l.len c.args.self.bytes.now c.requires.there in
+    rw own.typed c.ty.ensures

@@ -11,7 +11,7 @@ use Rattle.wgsl_store.proofs.flat.FlatPart.viewed.Goals as goal
 
 pub returns-in_err-located-clause-value : goal.returns-in_err-located-clause-value
 returns-in_err-located-clause-value c =
-    view-value (steps_of c.args.view.now) c.args.self.bytes.now c.args.self.located None c.in_err-located.ensures.range
+    rw c.from_residual.ensures (view-value (steps_of c.args.view.now) c.args.self.bytes.now c.args.self.located None c.in_err-located.ensures.range)
 
 pub returns-clause-value : goal.returns-clause-value
 returns-clause-value c =
