@@ -1,5 +1,5 @@
 -- Cells that hold values as bytes: what they hold, and what a write in the place of a part makes of them.
-use Rattle.std.proofs.Common.{◌≡◌, ℕ, ◌+◌, List, Option, Some, None, Ok, Err, option_map, true, refl, sym, ap, ◌∙◌, subst, arith}
+use Rattle.std.proofs.Common.{Global, Vec, ◌≡◌, ℕ, ◌+◌, List, Option, Some, None, Ok, Err, option_map, true, refl, sym, ap, ◌∙◌, subst, arith}
 use Rattle.std.specs.Prelude.{◌↔◌, IsOk, IsOkAnd}
 use Rattle.std.specs.Result.{result_ok}
 use Rattle.wgsl_rules.specs.Layout.{has_layout, layout, layout_of, runtime_count}
@@ -90,3 +90,18 @@ place-put v w steps l s h t located e alike =
     let fit = (fits-laid w x t own.storable own.laid).1 (alike ∙ sym own.alike) in
     let typed = type-alike w l.count (shape_ty l.shape) alike in
     put-in-place v w x steps (part_range l) (shape_plan l.shape) s h t (at-part v steps (part_range l) s h e) fit e (located.planned ∙ ap plan_of (sym typed))
+
+-- the cell with these bytes holds the value after the put
+pub put-holds : (c : Inside) (bytes : Vec ℕ Global) (v w : Val) (steps : List Step) (l : Located) → Holds c v → IsStorable w → IsLocated l → view_range steps (layout_of v) ≡ Some (part_range l)
+    → layout_of w ≡ (part_range l).layout → bytes.items ≡ put w (shape_plan l.shape) l.start (buffer v)
+    → Holds (record { ty = c.ty; plan = c.plan; count = c.count; bytes = bytes }) (put_viewed steps w v)
+put-holds c bytes v w steps l h t located there alike is =
+    let after = place-put v w steps l h.storable (ap has_layout h.typed ∙ h.laid) t located there alike in
+    record {
+      typed = after.typed ∙ h.typed;
+      laid = h.laid;
+      planned = h.planned;
+      counted = h.counted ∙ sym after.counted;
+      storable = after.storable;
+      bytes = is ∙ after.its_bytes;
+    }

@@ -2,6 +2,7 @@ use Rattle.std.proofs.Common.{ℕ, length, subst}
 use Rattle.wgsl_values.specs.View.{value_of}
 use Rattle.wgsl_store.specs.Located.{shape_plan, shape_ty}
 use Rattle.wgsl_store.specs.Walk.{Stands}
+use Rattle.wgsl_store.proofs.Plans.{view-scalar}
 use Rattle.wgsl_store.proofs.lemmas.Flat.{stands-there}
 use Rattle.wgsl_store.proofs.located.Located.write.Goals as goal
 
@@ -27,4 +28,5 @@ write_value-requires-in-Component c =
     let w = value_of c.args.value.now in
     let there = subst (λ (n : ℕ). Stands w (shape_plan l.shape) l.start n) c.requires.whole
     (stands-there w l.count (shape_ty l.shape) (shape_plan l.shape) l.start l.len c.requires.located c.requires.storable c.requires.alike) in
-    rw c.in-Component.is at there
+    let at_scalar = rw c.in-Component.is at there in
+    rw view-scalar at_scalar
