@@ -13,10 +13,10 @@ ghost use Rattle.std.specs.Prelude.{
   option_map,
 };
 ghost use Rattle.wgsl_rules.specs.Layout.{layout, repeated};
-ghost use Rattle.wgsl_rules.specs.Paths.{index_in};
+ghost use Rattle.wgsl_rules.specs.Paths.{index_named};
 ghost use Rattle.wgsl_rules.specs.Types.{array, mat, vec};
 ghost use Rattle.wgsl_rules.specs.Values.{index as index_step, member as member_step};
-ghost use Rattle.wgsl_rules.specs.View.{type_view, struct_view};
+ghost use Rattle.wgsl_rules.specs.View.{type_view, struct_view, members_view};
 ghost use Rattle.wgsl_store.specs.Located.{
   IsInside,
   IsLocated,
@@ -34,7 +34,7 @@ ghost use Rattle.wgsl_store.specs.Reading.{IsThere};
 
 use crate::plan::Plan;
 use std::alloc::{AllocError, Global};
-use wgsl_rules::{StructType, Type};
+use wgsl_rules::{StructMemberType, StructType, Type};
 
 /// A part of a value of a type that has a layout, as the type alone tells it.
 #[derive(Clone, Copy)]
@@ -111,8 +111,10 @@ impl<'a> Located<'a> {
         let Plan::Members(places) = plan else {
             unreachable!()
         };
-        let i = position(ty, name)?;
-        let member = &ty.members[i];
+        let members = ty.members.as_slice();
+        let places = places.as_slice();
+        let i = position(members, name)?;
+        let member = &members[i];
         let place = &places[i];
         Some(Located {
             start: self.start + place.offset as usize,
@@ -261,10 +263,10 @@ impl<'a> Located<'a> {
 }
 
 // The position of the first member of the name.
-fn position(ty: &StructType, name: &str) -> Option<usize>
-    ensures { result ≡ index_in name.now (struct_view ty.now) }
+fn position(members: &[StructMemberType], name: &str) -> Option<usize>
+    ensures { result ≡ index_named name.now (members_view members.now) }
 {
-    for (i, member) in ty.members.iter().enumerate() {
+    for (i, member) in members.iter().enumerate() {
         if member.name.as_str() == name {
             return Some(i);
         }
