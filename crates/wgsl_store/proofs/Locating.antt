@@ -140,40 +140,41 @@ no-member s ms name n o e none =
     ap (λ (i : Option ℕ). elim i [ None ↦ None | Some k ↦ option_map (further o) (part_at k (member_parts n (Some 0) fs)) ]) none
     ∙ ap (λ (u : Ty). range_behind (member name) n u o) (sym (struct-of s ms e))
 
--- the member at a position that there is
-pub record IsMember (s : StructType) (ms : List StructMemberType) (ps : List CodePlace) (name : List ℕ) (i n o len : ℕ) (m : StructMemberType) : Type 0 where
+-- of the members at a position that there is: its place, that it stands there, and its range
+pub place-below : (ms : List StructMemberType) (ps : List CodePlace) (i n o len : ℕ) → i < length ms → AreThere n (members_view ms) (places_view ps) o len → i < length ps
+place-below [] ps i n o len lt h = absurd (omega arith)
+place-below (x ∷ ms) [] i n o len lt h = absurd h
+place-below (x ∷ ms) (p ∷ ps) zero n o len lt h = omega arith
+place-below (x ∷ ms) (p ∷ ps) (suc i) n o len lt h = let k = place-below ms ps i n o len (omega arith) h.1 in omega arith
+
+pub member-there : (ms : List StructMemberType) (ps : List CodePlace) (i n o len : ℕ) (m : StructMemberType) (p : CodePlace) → i < length ms → AreThere n (members_view ms) (places_view ps) o len → m ≡ get_or ms i m → p ≡ get_or ps i p
+    → IsThere n (type_view m.ty) (plan_view p.plan) (o + p.offset) len
+member-there ms ps i n o len m p lt h is at = (next-member ms ps i n m p o len lt is (place-below ms ps i n o len lt h) at (there-on ms ps i n o len lt h)).there
+
+pub member-range : (ms : List StructMemberType) (ps : List CodePlace) (i n o len : ℕ) (m : StructMemberType) (p : CodePlace) → i < length ms → AreThere n (members_view ms) (places_view ps) o len → m ≡ get_or ms i m → p ≡ get_or ps i p
+    → places_view ps ≡ places_of (Some 0) (members_view ms)
+    → Some (range_at (o + p.offset) (layout n (type_view m.ty))) ≡ option_map (further o) (part_at i (member_parts n (Some 0) (members_view ms)))
+member-range ms ps i n o len m p lt h is at planned = ap (option_map (further o)) (sym (nth-member ms ps i n (Some 0) m p lt is (place-below ms ps i n o len lt h) at planned))
+
+-- of the structure of these members
+pub record IsNamed (ms : List StructMemberType) (ps : List CodePlace) (i n o len : ℕ) : Type 0 where
   pub below : i < length ms
-  pub placed : m ≡ get_or ms i m → i < length ps
-  pub there : (p : CodePlace) → m ≡ get_or ms i m → p ≡ get_or ps i p → IsThere n (type_view m.ty) (plan_view p.plan) (o + p.offset) len
-  pub range : (p : CodePlace) → m ≡ get_or ms i m → p ≡ get_or ps i p → Some (range_at (o + p.offset) (layout n (type_view m.ty))) ≡ range_behind (member name) n (struct_type_view s) o
+  pub there : AreThere n (members_view ms) (places_view ps) o len
+  pub planned : places_view ps ≡ places_of (Some 0) (members_view ms)
 
-pub member-is : (s : StructType) (ms : List StructMemberType) (ps : List CodePlace) (name : List ℕ) (i n o len : ℕ) (m : StructMemberType) → IsThere n (struct_type_view s) (members (places_view ps)) o len
-    → ms ≡ (out-StructType s).members.items → Some i ≡ index_named name (members_view ms) → IsMember s ms ps name i n o len m
-member-is s ms ps name i n o len m h e named = record { below = below; placed = placed; there = there; range = ranged }
-  where
-    below : i < length ms
-    below = named-below name ms i (sym named)
+pub named : (s : StructType) (ms : List StructMemberType) (ps : List CodePlace) (name : List ℕ) (i n o len : ℕ) → IsThere n (struct_type_view s) (members (places_view ps)) o len
+    → ms ≡ (out-StructType s).members.items → Some i ≡ index_named name (members_view ms) → IsNamed ms ps i n o len
+named s ms ps name i n o len h e is = record {
+  below = named-below name ms i (sym is);
+  there = struct-there s ms n (places_view ps) o len h e;
+  planned = let here = subst (λ (u : Ty). IsThere n u (members (places_view ps)) o len) (struct-of s ms e) h in cc (here.planned);
+}
 
-    all : AreThere n (members_view (drop i ms)) (places_view (drop i ps)) o len
-    all = there-on ms ps i n o len below (struct-there s ms n (places_view ps) o len h e)
-
-    placed : m ≡ get_or ms i m → i < length ps
-    placed is = has-place ms ps i n m o len below is all
-
-    there : (p : CodePlace) → m ≡ get_or ms i m → p ≡ get_or ps i p → IsThere n (type_view m.ty) (plan_view p.plan) (o + p.offset) len
-    there p is at = (next-member ms ps i n m p o len below is (placed is) at all).there
-
-    planned : places_view ps ≡ places_of (Some 0) (members_view ms)
-    planned =
-        let here = subst (λ (u : Ty). IsThere n u (members (places_view ps)) o len) (struct-of s ms e) h in
-        cc (here.planned)
-
-    ranged : (p : CodePlace) → m ≡ get_or ms i m → p ≡ get_or ps i p → Some (range_at (o + p.offset) (layout n (type_view m.ty))) ≡ range_behind (member name) n (struct_type_view s) o
-    ranged p is at =
-        let fs = members_view ms in
-        ap (option_map (further o)) (sym (nth-member ms ps i n (Some 0) m p below is (placed is) at planned))
-        ∙ ap (λ (k : Option ℕ). elim k [ None ↦ None | Some j ↦ option_map (further o) (part_at j (member_parts n (Some 0) fs)) ]) named
-        ∙ ap (λ (u : Ty). range_behind (member name) n u o) (sym (struct-of s ms e))
+pub named-range : (s : StructType) (ms : List StructMemberType) (name : List ℕ) (i n o : ℕ) → ms ≡ (out-StructType s).members.items → Some i ≡ index_named name (members_view ms)
+    → option_map (further o) (part_at i (member_parts n (Some 0) (members_view ms))) ≡ range_behind (member name) n (struct_type_view s) o
+named-range s ms name i n o e is =
+    ap (λ (k : Option ℕ). elim k [ None ↦ None | Some j ↦ option_map (further o) (part_at j (member_parts n (Some 0) (members_view ms))) ]) is
+    ∙ ap (λ (u : Ty). range_behind (member name) n u o) (sym (struct-of s ms e))
 
 -- ---- how many parts there are
 
@@ -200,9 +201,21 @@ struct-count s n m e = e ∙ members-count (out-StructType s).members.items n (S
 
 -- ---- the type of a vector
 
+some-same : {A : Type 0} (x y : A) → Some x ≡ Some y → x ≡ y
+some-same x y e = cc
+
+vec-same : (k n : ℕ) (v u : Ty) → vec k v ≡ vec n u → v ≡ u
+vec-same k n v u e = cc
+
 pub vector-of : (t u w : Ty) (n m : ℕ) (b : Bool) → Some (m, w) ≡ vec_part t → m ≡ n → b ≡ same w u → (b ≡ true) ↔ (t ≡ vec n u)
 vector-of (vec k v) u w n m b e f is =
-    let p : k ≡ n = cc in
-    let q : w ≡ v = cc in
-    (λ h. let same_type : w ≡ u = (same-Decides w u).0 (sym is ∙ h) in cc, λ h. let same_type : v ≡ u = cc in is ∙ (same-Decides w u).1 (q ∙ same_type))
-vector-of t u w n m b e f is = absurd (cc)
+    let pair = some-same {A = ℕ × Ty} (m, w) (k, v) e in
+    let n_is : k ≡ n = sym (ap (λ (q : ℕ × Ty). q.0) pair) ∙ f in
+    let t_is : w ≡ v = ap (λ (q : ℕ × Ty). q.1) pair in (
+      λ h. ap (λ (j : ℕ). vec j v) n_is ∙ ap (vec n) (sym t_is ∙ (same-Decides w u).0 (sym is ∙ h)),
+      λ h. is ∙ (same-Decides w u).1 (t_is ∙ vec-same k n v u h),
+    )
+vector-of t u w n m b e f is = absurd (none-other (m, w) e)
+  where
+    none-other : (p : ℕ × Ty) → Some p ≡ None → ⊥
+    none-other p g = cc

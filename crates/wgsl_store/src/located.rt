@@ -10,9 +10,11 @@ ghost use Rattle.std.specs.Prelude.{
   IfOk,
   IfSome,
   IsTrue,
+  Some,
+  length,
   option_map,
 };
-ghost use Rattle.wgsl_rules.specs.Layout.{layout, repeated};
+ghost use Rattle.wgsl_rules.specs.Layout.{layout, member_parts, repeated};
 ghost use Rattle.wgsl_rules.specs.Paths.{index_named};
 ghost use Rattle.wgsl_rules.specs.Types.{array, mat, vec};
 ghost use Rattle.wgsl_rules.specs.Values.{index as index_step, member as member_step};
@@ -28,11 +30,11 @@ ghost use Rattle.wgsl_store.specs.Located.{
   shape_ty,
   step_range,
 };
-ghost use Rattle.wgsl_store.specs.Plan.{plan_view};
+ghost use Rattle.wgsl_store.specs.Plan.{places_of, places_view, plan_view};
 ghost use Rattle.wgsl_store.specs.Ranges.{further, part_at, parts_in};
-ghost use Rattle.wgsl_store.specs.Reading.{IsThere};
+ghost use Rattle.wgsl_store.specs.Reading.{AreThere, IsThere};
 
-use crate::plan::Plan;
+use crate::plan::{Place, Plan};
 use std::alloc::{AllocError, Global};
 use wgsl_rules::{StructMemberType, StructType, Type};
 
@@ -112,16 +114,31 @@ impl<'a> Located<'a> {
             unreachable!()
         };
         let members = ty.members.as_slice();
-        let places = places.as_slice();
         let i = position(members, name)?;
+        Some(self.member_at(members, places.as_slice(), i))
+    }
+
+    // The member at the position, where the part is a structure with these members at these places.
+    fn member_at(
+        self,
+        members: &'a [StructMemberType],
+        places: &'a [Place],
+        i: usize,
+    ) -> Located<'a>
+        requires below { i < length members.now }
+        requires there { AreThere self.count (members_view members.now) (places_view places.now) self.start self.len }
+        requires planned { places_view places.now ≡ places_of (Some 0) (members_view members.now) }
+        ensures range { Some (part_range result) ≡ option_map (further self.entry.start) (part_at i (member_parts self.entry.count (Some 0) (members_view members.now))) }
+        ensures there { IsInside self.entry result }
+    {
         let member = &members[i];
         let place = &places[i];
-        Some(Located {
+        Located {
             start: self.start + place.offset as usize,
             len: self.len,
             count: self.count,
             shape: Shape::Whole(&member.ty, &place.plan),
-        })
+        }
     }
 
     // The part of the index, where the part is of the type and the plan is that of the type.
@@ -244,7 +261,8 @@ impl<'a> Located<'a> {
         ensures { IsTrue result ↔ (type_view ty.now ≡ shape_ty self.entry.shape) }
     {
         match self.shape {
-            Shape::Whole(own, _) | Shape::Component(own) => *ty == *own,
+            Shape::Whole(own, _) => *ty == *own,
+            Shape::Component(own) => *ty == *own,
             Shape::Column(n, component, _) => is_vector_of(ty, n, component),
         }
     }

@@ -1,10 +1,13 @@
+use Rattle.std.proofs.Common.{◌∙◌}
 use Rattle.wgsl_rules.proofs.Views.{view-Struct, view-Array, view-Vec, view-Mat}
 use Rattle.wgsl_rules.specs.View.{type_view}
+use Rattle.wgsl_rules.specs.declared.ty.StructType.{out-StructType}
 use Rattle.wgsl_store.proofs.Locating.{struct-count, array-count, vector-count, matrix-count}
 use Rattle.wgsl_store.proofs.located.parts_of_type.Goals as goal
 
 pub returns-in-Struct : goal.returns-in-Struct
-returns-in-Struct c = rw (c.in-Struct.is, view-Struct) (let e = c.len.ensures in let d = c.deref.ensures in ?)
+returns-in-Struct c =
+    rw (c.in-Struct.is, view-Struct, ← c.deref.ensures) (struct-count c.deref.result.now c.args.count c.len.result (c.len.ensures ∙ (out-StructType c.deref.result.now).members.ok.0))
 
 pub returns-in-Array : goal.returns-in-Array
 returns-in-Array c = rw (c.in-Array.is, view-Array) (array-count c.unwrap_or.result c.args.count c.in-Array.n (type_view c.in-Array.field-0.value) c.unwrap_or.ensures)
