@@ -1,29 +1,33 @@
 -- One step deeper from a part that is located by its type.
-use Rattle.std.proofs.Common.{◌≡◌, ℕ, zero, suc, ◌+◌, ◌*◌, ◌<◌, ◌≤◌, List, [], ◌∷◌, length, get_or, drop, Option, Some, None, is_some, option_map, Bool, true, false, if◌then◌else◌, refl, sym, ap, ◌∙◌, subst, arith, string_bytes}
+use Rattle.std.proofs.Common.{◌≡◌, ℕ, zero, suc, ◌+◌, ◌*◌, ◌<◌, ◌≤◌, List, [], ◌∷◌, length, get_or, drop, Option, Some, None, Err, is_some, option_map, Bool, true, false, if◌then◌else◌, refl, sym, ap, ◌∙◌, subst, arith, string_bytes}
 use Rattle.std.specs.Prelude.{◌||◌, ◌↔◌, bytes_eq}
 use Rattle.std.specs.Option.{unwrap_or}
+use Rattle.std.specs.Result.{result_ok}
 use Rattle.std.proofs.lemmas.Bool.{false≢true}
 use Rattle.wgsl_rules.specs.Equal.{same-Decides}
 use Rattle.wgsl_rules.specs.Same.{same}
 use Rattle.wgsl_rules.specs.Types as types
-use Rattle.wgsl_rules.specs.Types.{Ty, struct, array, vec, mat, Fields, no_fields, field}
+use Rattle.wgsl_rules.specs.Types.{Ty, array, vec, mat, atomic}
 use Rattle.wgsl_rules.specs.TypeParts.{vec_part}
-use Rattle.wgsl_rules.specs.Values.{Step, member, index}
-use Rattle.wgsl_rules.specs.Paths.{index_named, index_in}
+use Rattle.wgsl_rules.specs.Kinds.{Kind}
+use Rattle.wgsl_rules.specs.Values.{member, index, array_of, vector, matrix, count, type_of}
+use Rattle.wgsl_rules.specs.Refusals.{out_of_bounds, not_indexable}
+use Rattle.wgsl_rules.specs.Paths.{index_named, placed, or_refused, part_at as part_of}
 use Rattle.wgsl_rules.specs.Size.{offset_after, end_after, extent_in}
-use Rattle.wgsl_rules.specs.View.{Field, type_view, struct_view as struct_type_view, member_view, members_view}
-use Rattle.wgsl_rules.specs.Layout.{amount, size, align, stride, scalar_kind, has_fixed_layout, Layout, Parts, no_parts, part, length_in, repeated, layout, member_parts}
+use Rattle.wgsl_rules.specs.View.{type_view, struct_view as struct_type_view, member_view, members_view}
+use Rattle.wgsl_rules.specs.Layout.{amount, size, align, stride, scalar_kind, atomic_kind, has_fixed_layout, Layout, Parts, no_parts, part, length_in, repeated, leaf, layout, member_parts}
 use Rattle.wgsl_rules.proofs.Views.{struct_view-is}
 use Rattle.wgsl_rules.specs.declared.ty.StructMemberType.{StructMemberType}
 use Rattle.wgsl_rules.specs.declared.ty.StructType.{StructType, out-StructType}
-use Rattle.wgsl_store.specs.Located.{range_behind, number_of_parts}
-use Rattle.wgsl_store.specs.Plan.{Plan, scalar, components, row, members, Places, Placed, places_of, place_view, plan_view, places_view}
+use Rattle.wgsl_store.specs.Located.{range_behind, number_of_parts, is_indexable}
+use Rattle.wgsl_store.specs.Buffers.{decoded, decoded_parts}
+use Rattle.wgsl_store.specs.Plan.{Plan, scalar, components, row, members, Placed, places_of, place_view, plan_view, places_view}
 use Rattle.wgsl_store.specs.Ranges.{Range, further, part_at, parts_in}
 use Rattle.wgsl_store.specs.Reading.{IsThere, AreThere}
 use Rattle.wgsl_store.specs.declared.plan.Place.{«Place» as CodePlace}
 use Rattle.wgsl_store.proofs.Making.{type-is}
 use Rattle.wgsl_store.proofs.Plans.{place-is}
-use Rattle.wgsl_store.proofs.Reading.{fixed-there, vector-there, matrix-there, array-there, has-place, next-member, struct-there, struct-of}
+use Rattle.wgsl_store.proofs.Reading.{fixed-there, vector-there, matrix-there, array-there, next-member, struct-there, struct-of}
 use Rattle.wgsl_store.proofs.lemmas.Follows.{layout-any}
 
 -- ---- parts alike
@@ -133,13 +137,6 @@ nth-member (x ∷ ms) (q ∷ ps) (suc i) n from m p lt e k d same =
     let rest : places_view ps ≡ places_of (end_after from (extent_in f.ty f.size f.align)) (members_view ms) = cc in
     nth-member ms ps i n (end_after from (extent_in f.ty f.size f.align)) m p (omega arith) e (omega arith) d rest
 
-pub no-member : (s : StructType) (ms : List StructMemberType) (name : List ℕ) (n o : ℕ) → ms ≡ (out-StructType s).members.items → None ≡ index_named name (members_view ms) → None ≡ range_behind (member name) n (struct_type_view s) o
-no-member s ms name n o e none =
-    let fs = members_view ms in
-    let t = struct (string_bytes (out-StructType s).name) fs in
-    ap (λ (i : Option ℕ). elim i [ None ↦ None | Some k ↦ option_map (further o) (part_at k (member_parts n (Some 0) fs)) ]) none
-    ∙ ap (λ (u : Ty). range_behind (member name) n u o) (sym (struct-of s ms e))
-
 -- of the members at a position that there is: its place, that it stands there, and its range
 pub place-below : (ms : List StructMemberType) (ps : List CodePlace) (i n o len : ℕ) → i < length ms → AreThere n (members_view ms) (places_view ps) o len → i < length ps
 place-below [] ps i n o len lt h = absurd (omega arith)
@@ -199,7 +196,12 @@ members-count (x ∷ ms) n from = let f = member_view x in ap suc (members-count
 pub struct-count : (s : StructType) (n m : ℕ) → m ≡ length (out-StructType s).members.items → m ≡ number_of_parts (parts_in (layout n (struct_type_view s)))
 struct-count s n m e = e ∙ members-count (out-StructType s).members.items n (Some 0) ∙ ap (λ (u : Ty). number_of_parts (parts_in (layout n u))) (sym (struct_view-is s))
 
--- ---- the type of a vector
+-- ---- types that are compared
+
+pub same-tells : (t u : Ty) (b : Bool) → b ≡ same t u → (b ≡ true) ↔ (t ≡ u)
+same-tells t u b is = (λ h. (same-Decides t u).0 (sym is ∙ h), λ h. is ∙ (same-Decides t u).1 h)
+
+-- with the type of a vector
 
 some-same : {A : Type 0} (x y : A) → Some x ≡ Some y → x ≡ y
 some-same x y e = cc
@@ -219,3 +221,41 @@ vector-of t u w n m b e f is = absurd (none-other (m, w) e)
   where
     none-other : (p : ℕ × Ty) → Some p ≡ None → ⊥
     none-other p g = cc
+
+-- ---- why what bytes lay out has no part of an index
+
+pub count-decoded : (b : List ℕ) (o : ℕ) (ps : Parts) → count (decoded_parts b o ps) ≡ number_of_parts ps
+count-decoded b o no_parts = refl
+count-decoded b o (part from l ps) = ap suc (count-decoded b o ps)
+
+out-of-bounds : {A : Type 0} (x : Option A) (i : ℕ) (t : Ty) (n m : ℕ) → n ≡ m → result_ok (or_refused x (out_of_bounds i t n)) ≡ None → or_refused x (out_of_bounds i t n) ≡ Err (out_of_bounds i t m)
+out-of-bounds None i t n m e h = ap (λ (k : ℕ). Err (out_of_bounds i t k)) e
+out-of-bounds (Some y) i t n m e h = absurd (cc)
+
+-- where parts have indices, there are so many
+pub indexable-refused : (i n : ℕ) (t : Ty) (b : List ℕ) (o : ℕ) → is_indexable t ≡ true → result_ok (part_of i (decoded b o (layout n t))) ≡ None
+    → part_of i (decoded b o (layout n t)) ≡ Err (out_of_bounds i (type_of (decoded b o (layout n t))) (number_of_parts (parts_in (layout n t))))
+indexable-refused i n (array t None) b o is h =
+    let vs = decoded_parts b o (parts_in (layout n (array t None))) in
+    out-of-bounds (placed i vs) i (type_of (array_of true vs)) (count vs) (number_of_parts (parts_in (layout n (array t None)))) (count-decoded b o (parts_in (layout n (array t None)))) h
+indexable-refused i n (array t (Some k)) b o is h =
+    let vs = decoded_parts b o (parts_in (layout n (array t (Some k)))) in
+    out-of-bounds (placed i vs) i (type_of (array_of false vs)) (count vs) (number_of_parts (parts_in (layout n (array t (Some k))))) (count-decoded b o (parts_in (layout n (array t (Some k))))) h
+indexable-refused i n (vec k t) b o is h =
+    let vs = decoded_parts b o (parts_in (layout n (vec k t))) in
+    out-of-bounds (placed i vs) i (type_of (vector vs)) (count vs) (number_of_parts (parts_in (layout n (vec k t)))) (count-decoded b o (parts_in (layout n (vec k t)))) h
+indexable-refused i n (mat c r t) b o is h =
+    let vs = decoded_parts b o (parts_in (layout n (mat c r t))) in
+    out-of-bounds (placed i vs) i (type_of (matrix vs)) (count vs) (number_of_parts (parts_in (layout n (mat c r t)))) (count-decoded b o (parts_in (layout n (mat c r t)))) h
+indexable-refused i n t b o is h = absurd (false≢true is)
+
+pub unindexable-refused : (i n : ℕ) (t : Ty) (b : List ℕ) (o : ℕ) → is_indexable t ≡ false → part_of i (decoded b o (layout n t)) ≡ Err (not_indexable (type_of (decoded b o (layout n t))))
+unindexable-refused i n (array t k) b o is = absurd (false≢true (sym is))
+unindexable-refused i n (vec k t) b o is = absurd (false≢true (sym is))
+unindexable-refused i n (mat c r t) b o is = absurd (false≢true (sym is))
+unindexable-refused i n (atomic t) b o is = by (atomic_kind t)
+  where
+    by : (k : Option Kind) → part_of i (decoded b o (leaf (atomic t) k)) ≡ Err (not_indexable (type_of (decoded b o (leaf (atomic t) k))))
+    by None = refl
+    by (Some k) = refl
+unindexable-refused i n t b o is = refl

@@ -1,4 +1,4 @@
-use Rattle.std.proofs.Common.{◌≤◌, ◌+◌, refl, arith}
+use Rattle.std.proofs.Common.{refl, arith}
 use Rattle.wgsl_store.proofs.Locating.{place-below, member-there, member-range}
 use Rattle.wgsl_store.proofs.located.Located.member_at.Goals as goal
 

@@ -1,6 +1,6 @@
 use Rattle.std.proofs.Common.{◌∙◌}
 use Rattle.wgsl_store.proofs.Plans.{view-members}
-use Rattle.wgsl_store.proofs.Locating.{named, named-range, no-member}
+use Rattle.wgsl_store.proofs.Locating.{named, named-range}
 use Rattle.wgsl_store.proofs.located.Located.member_of_struct.Goals as goal
 
 pub member_at-requires : goal.member_at-requires
