@@ -62,7 +62,8 @@ pub(crate) enum Shape<'a> {
 }
 
 impl<'a> Located<'a> {
-    /// The first member of the name: structures alone have members.
+    /// The first member of the name; `None` where there is none: structures alone have members. The condition:
+    /// this part stands in its whole, and its plan is that of its type.
     pub(crate) fn member(self, name: &str) -> Option<Located<'a>>
         requires { IsLocated self }
         ensures range { option_map part_range result ≡ step_range (member_step name.now) self.entry }
@@ -74,7 +75,8 @@ impl<'a> Located<'a> {
         }
     }
 
-    /// The part of the index: arrays, vectors and matrices have indexed parts.
+    /// The part of the index; `None` past the end, or where no part has an index: those of arrays, vectors and
+    /// matrices have. The condition: this part stands in its whole, and its plan is that of its type.
     pub(crate) fn index(self, i: usize) -> Option<Located<'a>>
         requires { IsLocated self }
         ensures range { option_map part_range result ≡ step_range (index_step i) self.entry }
@@ -231,7 +233,8 @@ impl<'a> Located<'a> {
         })
     }
 
-    /// How many members, elements, components or columns the part has.
+    /// How many members, elements, components or columns the part has. The condition: it stands in its whole,
+    /// and its plan is that of its type.
     pub(crate) fn part_count(self) -> usize
         requires { IsLocated self }
         ensures { result ≡ number_of_parts (parts_in (part_range self.entry).layout) }
@@ -267,7 +270,8 @@ impl<'a> Located<'a> {
         }
     }
 
-    /// Whether the part has indexed parts: it is an array, a vector or a matrix, or a column of one.
+    /// Whether the part has indexed parts: it is an array, a vector or a matrix. The condition: it stands in its
+    /// whole, and its plan is that of its type.
     pub(crate) fn is_indexable(self) -> bool
         requires { IsLocated self }
         ensures { result ≡ indexable (shape_ty self.entry.shape) }
