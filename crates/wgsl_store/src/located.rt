@@ -10,13 +10,15 @@ ghost use Rattle.std.specs.Prelude.{
   IfOk,
   IfSome,
   IsTrue,
+  Some,
+  length,
   option_map,
 };
-ghost use Rattle.wgsl_rules.specs.Layout.{layout, repeated};
-ghost use Rattle.wgsl_rules.specs.Paths.{index_in};
+ghost use Rattle.wgsl_rules.specs.Layout.{layout, member_parts, repeated};
+ghost use Rattle.wgsl_rules.specs.Paths.{index_named};
 ghost use Rattle.wgsl_rules.specs.Types.{array, mat, vec};
 ghost use Rattle.wgsl_rules.specs.Values.{index as index_step, member as member_step};
-ghost use Rattle.wgsl_rules.specs.View.{type_view, struct_view};
+ghost use Rattle.wgsl_rules.specs.View.{type_view, struct_view, members_view};
 ghost use Rattle.wgsl_store.specs.Located.{
   IsInside,
   IsLocated,
@@ -28,13 +30,13 @@ ghost use Rattle.wgsl_store.specs.Located.{
   shape_ty,
   step_range,
 };
-ghost use Rattle.wgsl_store.specs.Plan.{plan_view};
+ghost use Rattle.wgsl_store.specs.Plan.{places_of, places_view, plan_view};
 ghost use Rattle.wgsl_store.specs.Ranges.{further, part_at, parts_in};
-ghost use Rattle.wgsl_store.specs.Reading.{IsThere};
+ghost use Rattle.wgsl_store.specs.Reading.{AreThere, IsThere};
 
-use crate::plan::Plan;
+use crate::plan::{Place, Plan};
 use std::alloc::{AllocError, Global};
-use wgsl_rules::{StructType, Type};
+use wgsl_rules::{StructMemberType, StructType, Type};
 
 /// A part of a value of a type that has a layout, as the type alone tells it.
 #[derive(Clone, Copy)]
@@ -60,7 +62,8 @@ pub(crate) enum Shape<'a> {
 }
 
 impl<'a> Located<'a> {
-    /// The first member of the name: structures alone have members.
+    /// The first member of the name; `None` where there is none: structures alone have members. The condition:
+    /// this part stands in its whole, and its plan is that of its type.
     pub(crate) fn member(self, name: &str) -> Option<Located<'a>>
         requires { IsLocated self }
         ensures range { option_map part_range result ≡ step_range (member_step name.now) self.entry }
@@ -72,7 +75,8 @@ impl<'a> Located<'a> {
         }
     }
 
-    /// The part of the index: arrays, vectors and matrices have indexed parts.
+    /// The part of the index; `None` past the end, or where no part has an index: those of arrays, vectors and
+    /// matrices have. The condition: this part stands in its whole, and its plan is that of its type.
     pub(crate) fn index(self, i: usize) -> Option<Located<'a>>
         requires { IsLocated self }
         ensures range { option_map part_range result ≡ step_range (index_step i) self.entry }
@@ -111,15 +115,32 @@ impl<'a> Located<'a> {
         let Plan::Members(places) = plan else {
             unreachable!()
         };
-        let i = position(ty, name)?;
-        let member = &ty.members[i];
+        let members = ty.members.as_slice();
+        let i = position(members, name)?;
+        Some(self.member_at(members, places.as_slice(), i))
+    }
+
+    // The member at the position, where the part is a structure with these members at these places.
+    fn member_at(
+        self,
+        members: &'a [StructMemberType],
+        places: &'a [Place],
+        i: usize,
+    ) -> Located<'a>
+        requires below { i < length members.now }
+        requires there { AreThere self.count (members_view members.now) (places_view places.now) self.start self.len }
+        requires planned { places_view places.now ≡ places_of (Some 0) (members_view members.now) }
+        ensures range { Some (part_range result) ≡ option_map (further self.entry.start) (part_at i (member_parts self.entry.count (Some 0) (members_view members.now))) }
+        ensures there { IsInside self.entry result }
+    {
+        let member = &members[i];
         let place = &places[i];
-        Some(Located {
+        Located {
             start: self.start + place.offset as usize,
             len: self.len,
             count: self.count,
             shape: Shape::Whole(&member.ty, &place.plan),
-        })
+        }
     }
 
     // The part of the index, where the part is of the type and the plan is that of the type.
@@ -212,7 +233,8 @@ impl<'a> Located<'a> {
         })
     }
 
-    /// How many members, elements, components or columns the part has.
+    /// How many members, elements, components or columns the part has. The condition: it stands in its whole,
+    /// and its plan is that of its type.
     pub(crate) fn part_count(self) -> usize
         requires { IsLocated self }
         ensures { result ≡ number_of_parts (parts_in (part_range self.entry).layout) }
@@ -242,12 +264,14 @@ impl<'a> Located<'a> {
         ensures { IsTrue result ↔ (type_view ty.now ≡ shape_ty self.entry.shape) }
     {
         match self.shape {
-            Shape::Whole(own, _) | Shape::Component(own) => *ty == *own,
+            Shape::Whole(own, _) => *ty == *own,
+            Shape::Component(own) => *ty == *own,
             Shape::Column(n, component, _) => is_vector_of(ty, n, component),
         }
     }
 
-    /// Whether the part has indexed parts: it is an array, a vector or a matrix, or a column of one.
+    /// Whether the part has indexed parts: it is an array, a vector or a matrix. The condition: it stands in its
+    /// whole, and its plan is that of its type.
     pub(crate) fn is_indexable(self) -> bool
         requires { IsLocated self }
         ensures { result ≡ indexable (shape_ty self.entry.shape) }
@@ -261,10 +285,10 @@ impl<'a> Located<'a> {
 }
 
 // The position of the first member of the name.
-fn position(ty: &StructType, name: &str) -> Option<usize>
-    ensures { result ≡ index_in name.now (struct_view ty.now) }
+fn position(members: &[StructMemberType], name: &str) -> Option<usize>
+    ensures { result ≡ index_named name.now (members_view members.now) }
 {
-    for (i, member) in ty.members.iter().enumerate() {
+    for (i, member) in members.iter().enumerate() {
         if member.name.as_str() == name {
             return Some(i);
         }
