@@ -1,11 +1,11 @@
 -- Parts of cells of bytes, by the ranges at which they are located.
-use Rattle.std.proofs.Common.{◌≡◌, ℕ, ◌+◌, List, [], ◌∷◌, Option, Some, None, option_map, option_and_then, Bool, true, false, refl, sym, ap, ◌∙◌, arith}
+use Rattle.std.proofs.Common.{◌≡◌, ℕ, ◌+◌, List, ◌∷◌, Option, Some, None, option_map, option_and_then, Bool, true, false, refl, sym, ap, ◌∙◌, arith}
 use Rattle.std.specs.Prelude.{◌↔◌}
 use Rattle.std.specs.Result.{result_ok}
 use Rattle.wgsl_rules.specs.Types.{Ty, vec}
 use Rattle.wgsl_rules.specs.Values.{Step, Val, vector, Vals, no_vals, val, count, item, type_of, first_type}
 use Rattle.wgsl_rules.specs.Paths.{parts, stepped, viewed}
-use Rattle.wgsl_rules.specs.Layout.{Layout, layout, type_in}
+use Rattle.wgsl_rules.specs.Layout.{Layout, type_in}
 use Rattle.wgsl_store.specs.Buffers.{decoded}
 use Rattle.wgsl_store.specs.Located.{part_range, shape_ty, step_range}
 use Rattle.wgsl_store.specs.Ranges.{Range, further, part_at, parts_in, step_in, view_range}

@@ -1,18 +1,18 @@
 -- Values that bytes lay out in a place of their own: what is so of them, what fits there, and what a write there makes
 -- of the bytes of the whole.
 use mathlib.Core.Logic.{inl, inr}
-use Rattle.std.proofs.Common.{◌≡◌, ◌⊎◌, ℕ, zero, suc, ◌+◌, ◌≤◌, ◌<◌, ℤ, List, [], ◌∷◌, ◌++◌, length, Option, Some, None, is_some, option_map, option_and_then, Ok, Err, Bool, true, false, if◌then◌else◌, refl, sym, ap, ◌∙◌, subst, arith}
-use Rattle.std.specs.Prelude.{◌||◌, ◌↔◌, slice_index}
+use Rattle.std.proofs.Common.{◌≡◌, ◌⊎◌, ℕ, zero, suc, ◌+◌, ◌≤◌, List, [], ◌∷◌, ◌++◌, length, Option, Some, None, is_some, option_map, option_and_then, Ok, Err, Bool, true, false, if◌then◌else◌, refl, sym, ap, ◌∙◌, subst, arith}
+use Rattle.std.specs.Prelude.{◌||◌, ◌↔◌}
 use Rattle.std.proofs.lemmas.Bool.{false≢true}
 use Rattle.std.proofs.lemmas.List.FromFn.{get_or-map-range_with_len}
 use Rattle.wgsl_rules.specs.Types.{Ty, vec}
 use Rattle.wgsl_rules.specs.Values.{Step, Val, Vals, no_vals, val, item, type_of, IsStorable}
 use Rattle.wgsl_rules.specs.Refusals.{Outcome}
-use Rattle.wgsl_rules.specs.Paths.{parts, value_at, path_of, viewed, put_tree, put_viewed, fits, FitsPlace}
+use Rattle.wgsl_rules.specs.Paths.{parts, value_at, viewed, put_tree, put_viewed, fits, FitsPlace}
 use Rattle.wgsl_rules.proofs.Paths.{fits-Decides}
 use Rattle.wgsl_values.proofs.lemmas.Replaced.{a_part_replaced}
-use Rattle.wgsl_rules.specs.Layout.{HasLayout, has_fixed_layout, has_runtime_layout, has_layout, layout, layout_of, runtime_count, count_in, length_in, type_in, Layout, Parts, no_parts, part, leaves}
-use Rattle.wgsl_store.specs.Buffers.{number_at, byte_at, bytes_with, buffer, decoded, decode, is_covered}
+use Rattle.wgsl_rules.specs.Layout.{has_fixed_layout, has_runtime_layout, has_layout, layout, layout_of, runtime_count, count_in, length_in, type_in, Layout, Parts, no_parts, part, leaves}
+use Rattle.wgsl_store.specs.Buffers.{number_at, byte_at, buffer, decoded, decode}
 use Rattle.wgsl_store.specs.Plan.{Plan, plan_of}
 use Rattle.wgsl_store.specs.Ranges.{Range, range_in, view_range, parts_in, overwritten}
 use Rattle.wgsl_store.specs.Reading.{IsThere}

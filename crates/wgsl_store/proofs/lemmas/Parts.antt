@@ -1,15 +1,13 @@
 -- The parts of what bytes lay out are what the bytes lay out at the ranges of the parts.
 use Rattle.std.proofs.Common.{◌≡◌, ℕ, zero, suc, ◌+◌, ℤ, List, [], ◌∷◌, Option, Some, None, Ok, Err, option_map, option_and_then, true, false, refl, sym, ap, ◌∙◌, arith}
 use Rattle.std.specs.Result.{result_ok}
-use Rattle.std.proofs.lemmas.Bool.{false≢true}
 use Rattle.wgsl_rules.specs.Kinds.{Kind}
 use Rattle.wgsl_rules.specs.Types.{Ty, struct, array, vec, mat, atomic}
-use Rattle.wgsl_rules.specs.Values.{Step, member, index, Val, Vals, no_vals, val, count, item, type_of, array_of, vector, matrix}
-use Rattle.wgsl_rules.specs.Refusals.{Refusal, component, not_indexable, out_of_bounds, Outcome, and_then}
-use Rattle.wgsl_rules.specs.Paths.{index_in, placed, member_named, or_refused, part_at as part_of, stepped, viewed, within}
-use Rattle.wgsl_rules.specs.Layout.{Layout, scalar, composite, Parts, no_parts, part, type_in, layout, leaf, atomic_kind}
+use Rattle.wgsl_rules.specs.Values.{Step, member, index, Val, Vals, count, item, type_of, array_of, vector, matrix}
+use Rattle.wgsl_rules.specs.Refusals.{Refusal, component, out_of_bounds, Outcome, and_then}
+use Rattle.wgsl_rules.specs.Paths.{index_in, placed, or_refused, stepped, viewed}
+use Rattle.wgsl_rules.specs.Layout.{Layout, scalar, composite, Parts, no_parts, part, type_in}
 use Rattle.wgsl_store.specs.Buffers.{decoded, decoded_parts, made_of_parts, made_of_number, read_number}
-use Rattle.wgsl_store.specs.Located.{is_indexable, number_of_parts}
 use Rattle.wgsl_store.specs.Ranges.{Range, further, part_at, parts_in, range_in, step_in, path_in, view_range}
 
 -- the value behind a step
@@ -129,46 +127,3 @@ decoded-viewed (s ∷ steps) b o l =
         ≡ option_map (λ r. decoded b (o + r.start) r.layout) (option_and_then (λ i. option_and_then (λ r. option_map (further r.start) (view_range steps r.layout)) (part_at i (parts_in l))) i)
     by None on = refl
     by (Some i) on = parts on (part_at i (parts_in l))
-
--- ---- no part
-
-counted-decoded : (b : List ℕ) (o : ℕ) (ps : Parts) → count (decoded_parts b o ps) ≡ number_of_parts ps
-counted-decoded b o no_parts = refl
-counted-decoded b o (part from l ps) = ap suc (counted-decoded b o ps)
-
-past-end : (i : ℕ) (t : Ty) (vs : Vals) (n : ℕ) → count vs ≡ n → result_ok (within i t vs) ≡ None → within i t vs ≡ Err (out_of_bounds i t n)
-past-end i t vs n c e = by (placed i vs) e
-  where
-    by : (o : Option (ℕ × Val)) → result_ok (or_refused o (out_of_bounds i t (count vs))) ≡ None → or_refused o (out_of_bounds i t (count vs)) ≡ Err (out_of_bounds i t n)
-    by None e = ap (λ (k : ℕ). Err (out_of_bounds i t k)) c
-    by (Some p) e = absurd (cc)
-
--- an index past the end of what bytes lay out
-pub index-past : (i n : ℕ) (t : Ty) (b : List ℕ) (o : ℕ) → is_indexable t ≡ true → result_ok (part_of i (decoded b o (layout n t))) ≡ None
-    → part_of i (decoded b o (layout n t)) ≡ Err (out_of_bounds i (type_of (decoded b o (layout n t))) (number_of_parts (parts_in (layout n t))))
-index-past i n (array t None) b o h e =
-    let ps = parts_in (layout n (array t None)) in
-    past-end i (type_of (decoded b o (layout n (array t None)))) (decoded_parts b o ps) (number_of_parts ps) (counted-decoded b o ps) e
-index-past i n (array t (Some k)) b o h e =
-    let ps = parts_in (layout n (array t (Some k))) in
-    past-end i (type_of (decoded b o (layout n (array t (Some k))))) (decoded_parts b o ps) (number_of_parts ps) (counted-decoded b o ps) e
-index-past i n (vec k t) b o h e =
-    let ps = parts_in (layout n (vec k t)) in
-    past-end i (type_of (decoded b o (layout n (vec k t)))) (decoded_parts b o ps) (number_of_parts ps) (counted-decoded b o ps) e
-index-past i n (mat c r t) b o h e =
-    let ps = parts_in (layout n (mat c r t)) in
-    past-end i (type_of (decoded b o (layout n (mat c r t)))) (decoded_parts b o ps) (number_of_parts ps) (counted-decoded b o ps) e
-index-past i n t b o h e = absurd (false≢true h)
-
-leaf-unindexed : (i : ℕ) (t : Ty) (k : Option Kind) (b : List ℕ) (o : ℕ) → part_of i (decoded b o (leaf (atomic t) k)) ≡ Err (not_indexable (type_of (decoded b o (leaf (atomic t) k))))
-leaf-unindexed i t None b o = refl
-leaf-unindexed i t (Some k) b o = refl
-
--- an index into what has no indexed parts
-pub index-none : (i n : ℕ) (t : Ty) (b : List ℕ) (o : ℕ) → is_indexable t ≡ false → part_of i (decoded b o (layout n t)) ≡ Err (not_indexable (type_of (decoded b o (layout n t))))
-index-none i n (array t None) b o h = absurd (false≢true (sym h))
-index-none i n (array t (Some k)) b o h = absurd (false≢true (sym h))
-index-none i n (vec k t) b o h = absurd (false≢true (sym h))
-index-none i n (mat c r t) b o h = absurd (false≢true (sym h))
-index-none i n (atomic t) b o h = leaf-unindexed i t (atomic_kind t) b o
-index-none i n t b o h = refl

@@ -1,4 +1,4 @@
-use Rattle.std.proofs.Common.{◌≡◌, ◌∙◌, List, ℕ, ap, sym, subst, arith, length}
+use Rattle.std.proofs.Common.{◌≡◌, ◌∙◌, ℕ, ap, sym, subst, arith, length}
 use Rattle.std.proofs.Math.Seq.{take-append_seam}
 use Rattle.wgsl_rules.specs.Layout.{length_in, layout_len, layout_of}
 use Rattle.wgsl_rules.specs.Values.{type_of}

@@ -1,11 +1,9 @@
-use Rattle.std.proofs.Common.{Global, Vec, ◌≡◌, ◌∙◌, ℕ, List, Some, None, length, ap, arith, refl, sym}
-use Rattle.std.specs.Prelude.{option_map}
+use Rattle.std.proofs.Common.{◌≡◌, ◌∙◌, Some, None, length, ap, arith, refl}
 use Rattle.std.specs.Vec.{with_items}
 use Rattle.std.proofs.lemmas.Bool.{false≢true}
 use Rattle.std.proofs.Math.Seq.{take-append_seam}
 use Rattle.wgsl_rules.specs.Layout.{has_layout, layout_of}
 use Rattle.wgsl_rules.specs.Paths.{put_viewed}
-use Rattle.wgsl_rules.specs.Values.{type_of}
 use Rattle.wgsl_rules.specs.View.{type_view}
 use Rattle.wgsl_values.specs.View.{steps_of, value_of}
 use Rattle.wgsl_store.specs.Buffers.{buffer}
@@ -14,8 +12,6 @@ use Rattle.wgsl_store.specs.Located.{part_range, shape_plan}
 use Rattle.wgsl_store.specs.Plan.{plan_view}
 use Rattle.wgsl_store.specs.Ranges.{view_range}
 use Rattle.wgsl_store.specs.Walk.{put}
-use Rattle.wgsl_store.specs.declared.flat.FlatCell.TheInside.{Inside}
-use Rattle.wgsl_store.specs.declared.located.Located.{Located}
 use Rattle.wgsl_store.proofs.FlatPuts.{found-at, held-layout, held-value, holds-own, nowhere, place-told, put-holds}
 use Rattle.wgsl_store.proofs.lemmas.Flat.{whole-there}
 use Rattle.wgsl_store.proofs.flat.FlatCell.put.Goals as goal

@@ -1,7 +1,3 @@
-use Rattle.std.proofs.Common.{subst, sym}
-use Rattle.std.specs.Prelude.{IfOk}
-use Rattle.wgsl_rules.specs.Types.{Ty}
-use Rattle.wgsl_rules.specs.View.{type_view}
 use Rattle.wgsl_store.specs.Located.{shape_plan, shape_ty}
 use Rattle.wgsl_store.proofs.lemmas.Flat.{there-laid}
 use Rattle.wgsl_store.proofs.flat.FlatPart.ty.Goals as goal

@@ -1,12 +1,7 @@
-use Rattle.std.proofs.Common.{Some, None, ◌∙◌}
-use Rattle.wgsl_rules.specs.Paths.{member_named}
-use Rattle.wgsl_rules.specs.Refusals.{component}
-use Rattle.wgsl_rules.specs.Values.{index as index_step, member as member_step, type_of}
-use Rattle.wgsl_store.specs.Buffers.{decoded}
+use Rattle.std.proofs.Common.{Some, None}
 use Rattle.wgsl_store.specs.Located.{part_range}
 use Rattle.wgsl_values.specs.View.{steps_of}
-use Rattle.wgsl_store.proofs.FlatParts.{step-value, view-value}
-use Rattle.wgsl_store.proofs.lemmas.Parts.{refused-behind}
+use Rattle.wgsl_store.proofs.FlatParts.{view-value}
 use Rattle.wgsl_store.proofs.flat.FlatPart.viewed.Goals as goal
 
 pub returns-in_err-located-clause-value : goal.returns-in_err-located-clause-value

@@ -1,4 +1,4 @@
-use Rattle.std.proofs.Common.{◌≡◌, ◌∷◌, ◌∙◌, sym, refl}
+use Rattle.std.proofs.Common.{◌≡◌, ◌∷◌, ◌∙◌, refl}
 use Rattle.wgsl_rules.specs.Values.{index as index_step, member as member_step}
 use Rattle.wgsl_values.specs.View.{steps_of}
 use Rattle.wgsl_values.proofs.Views.{steps_of-Member, steps_of-Index}

@@ -1,4 +1,4 @@
-use Rattle.std.proofs.Common.{ℕ, length, subst}
+use Rattle.std.proofs.Common.{ℕ, subst}
 use Rattle.wgsl_values.specs.View.{value_of}
 use Rattle.wgsl_store.specs.Located.{shape_plan, shape_ty}
 use Rattle.wgsl_store.specs.Walk.{Stands}
