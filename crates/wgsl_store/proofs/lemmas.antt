@@ -4,6 +4,7 @@ pub mod Compose
 pub mod Counts
 pub mod Decoded
 pub mod Fixed
+pub mod Flat
 pub mod Follows
 pub mod Held
 pub mod HeldPaths

@@ -1,9 +1,9 @@
 -- A part of a value of a type that has a layout, as the type alone tells it (WGSL: internal layout of values).
-use Rattle.std.specs.Prelude.{◌≡◌, Option, option_map, option_and_then}
-use Rattle.wgsl_rules.specs.Types.{Ty, vec}
+use Rattle.std.specs.Prelude.{◌≡◌, ℕ, suc, Bool, true, false, Option, option_map, option_and_then}
+use Rattle.wgsl_rules.specs.Types.{Ty, array, vec, mat}
 use Rattle.wgsl_rules.specs.Values.{Step}
 use Rattle.wgsl_rules.specs.View.{type_view}
-use Rattle.wgsl_rules.specs.Layout.{layout}
+use Rattle.wgsl_rules.specs.Layout.{Parts, no_parts, part, layout}
 use Rattle.wgsl_store.specs.Plan.{Plan, scalar, plan_view}
 use Rattle.wgsl_store.specs.Ranges.{Range, further, part_at, parts_in, step_in}
 use Rattle.wgsl_store.specs.Reading.{IsThere}
@@ -31,12 +31,29 @@ part_range l = record { start = l.start; layout = layout l.count (shape_ty l.sha
 abbrev pub IsLocated : Located → Type 0
 IsLocated l = IsThere l.count (shape_ty l.shape) (shape_plan l.shape) l.start l.len
 
--- the range one step deeper
-abbrev pub step_range : Step → Located → Option Range
-step_range s l = option_and_then (λ i. option_map (further l.start) (part_at i (parts_in (part_range l).layout))) (step_in s (shape_ty l.shape))
-
 -- a part of a part stands in the same whole
 pub record IsInside (outer inner : Located) : Type 0 where
   pub there : IsLocated inner
   pub len : inner.len ≡ outer.len
   pub count : inner.count ≡ outer.count
+
+-- the range one step deeper than a value of the type t that begins at `start`, with n elements in the runtime-sized
+-- array that the whole is or ends in
+abbrev pub range_behind : Step → ℕ → Ty → ℕ → Option Range
+range_behind s n t start = option_and_then (λ i. option_map (further start) (part_at i (parts_in (layout n t)))) (step_in s t)
+
+-- the range one step deeper than a part
+abbrev pub step_range : Step → Located → Option Range
+step_range s l = range_behind s l.count (shape_ty l.shape) l.start
+
+-- how many parts there are
+abbrev pub number_of_parts : Parts → ℕ
+number_of_parts no_parts = 0
+number_of_parts (part from l ps) = suc (number_of_parts ps)
+
+-- the parts of arrays, vectors and matrices have indices
+abbrev pub is_indexable : Ty → Bool
+is_indexable (array t n) = true
+is_indexable (vec n t) = true
+is_indexable (mat c r t) = true
+is_indexable t = false

@@ -1,5 +1,11 @@
 //! Cells that hold their values as bytes (WGSL: memory locations; internal layout of values).
 
+ghost use Rattle.std.specs.Prelude.{◌≡◌, ◌↔◌, IsTrue};
+ghost use Rattle.wgsl_rules.specs.Types.{vec};
+ghost use Rattle.wgsl_rules.specs.Values.{IsStorable, type_of};
+ghost use Rattle.wgsl_rules.specs.View.{type_view};
+ghost use Rattle.wgsl_values.specs.View.{vec_view};
+
 use crate::located::{Located, Shape};
 use crate::make::TypePlan;
 use crate::plan::Plan;
@@ -9,7 +15,7 @@ use std::alloc::{AllocError, Global};
 use std::marker::Model;
 use wgsl_rules::{Ty, Type};
 use wgsl_scalar::Error;
-use wgsl_values::{Instance, MemView};
+use wgsl_values::{Instance, MemView, VecInstance};
 
 /// The bytes of a value of a type that has a layout, in memory of their own; padding is 0. Contracts see
 /// the value.
@@ -291,7 +297,7 @@ impl<'a> Located<'a> {
         match self.shape {
             Shape::Whole(ty, _) | Shape::Component(ty) => value.has_ty(ty),
             Shape::Column(n, component, _) => match value {
-                Instance::Vec(v) => v.n() == usize::from(n) && v[0].has_ty(component),
+                Instance::Vec(v) => is_vector_of(v, n, component),
                 Instance::Literal(_) | Instance::Struct(_) | Instance::Array(_) => false,
                 Instance::Mat(_) | Instance::Ptr(_) | Instance::Ref(_) => false,
                 Instance::Atomic(_) | Instance::Deferred(_) => false,
@@ -308,10 +314,17 @@ impl<'a> Located<'a> {
         ensures { bytes.new ≡ put (value_of value.now) (shape_plan self.entry.shape) self.entry.start bytes.old }
     {
         match self.shape {
-            Shape::Whole(_, plan) | Shape::Column(_, _, plan) => {
-                write_value(bytes, self.start, value, plan)
-            }
+            Shape::Whole(_, plan) => write_value(bytes, self.start, value, plan),
+            Shape::Column(_, _, plan) => write_value(bytes, self.start, value, plan),
             Shape::Component(_) => write_value(bytes, self.start, value, &Plan::Scalar),
         }
     }
+}
+
+// Whether the vector has n components of the type. The condition: the vector may be stored.
+fn is_vector_of(value: &VecInstance, n: u8, component: &Type) -> bool
+    requires { IsStorable (vec_view value.now) }
+    ensures { IsTrue result ↔ (type_of (vec_view value.now) ≡ vec n (type_view component.now)) }
+{
+    value.n() == usize::from(n) && value[0].has_ty(component)
 }

@@ -1,11 +1,11 @@
 -- The parts of what bytes lay out are what the bytes lay out at the ranges of the parts.
-use Rattle.std.proofs.Common.{◌≡◌, ℕ, zero, suc, ◌+◌, List, [], ◌∷◌, Option, Some, None, Ok, Err, option_map, option_and_then, refl, sym, ap, ◌∙◌, arith}
+use Rattle.std.proofs.Common.{◌≡◌, ℕ, zero, suc, ◌+◌, ℤ, List, [], ◌∷◌, Option, Some, None, Ok, Err, option_map, option_and_then, true, false, refl, sym, ap, ◌∙◌, arith}
 use Rattle.std.specs.Result.{result_ok}
 use Rattle.wgsl_rules.specs.Kinds.{Kind}
 use Rattle.wgsl_rules.specs.Types.{Ty, struct, array, vec, mat, atomic}
-use Rattle.wgsl_rules.specs.Values.{Step, member, index, Val, Vals, no_vals, val, count, item, type_of, array_of, vector, matrix}
+use Rattle.wgsl_rules.specs.Values.{Step, member, index, Val, Vals, count, item, type_of, array_of, vector, matrix}
 use Rattle.wgsl_rules.specs.Refusals.{Refusal, component, out_of_bounds, Outcome, and_then}
-use Rattle.wgsl_rules.specs.Paths.{index_in, placed, member_named, or_refused, stepped, viewed}
+use Rattle.wgsl_rules.specs.Paths.{index_in, placed, or_refused, stepped, viewed}
 use Rattle.wgsl_rules.specs.Layout.{Layout, scalar, composite, Parts, no_parts, part, type_in}
 use Rattle.wgsl_store.specs.Buffers.{decoded, decoded_parts, made_of_parts, made_of_number, read_number}
 use Rattle.wgsl_store.specs.Ranges.{Range, further, part_at, parts_in, range_in, step_in, path_in, view_range}
@@ -25,7 +25,7 @@ item-decoded i b o no_parts = refl
 item-decoded zero b o (part from l ps) = refl
 item-decoded (suc i) b o (part from l ps) = item-decoded i b o ps
 
-refused-behind : (o : Option (ℕ × Val)) (e : Refusal) → behind (or_refused o e) ≡ option_map (λ p. p.1) o
+pub refused-behind : (o : Option (ℕ × Val)) (e : Refusal) → behind (or_refused o e) ≡ option_map (λ p. p.1) o
 refused-behind None e = refl
 refused-behind (Some p) e = refl
 
