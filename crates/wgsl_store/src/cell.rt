@@ -137,11 +137,7 @@ fn put_bytes(bytes: &mut FlatCell, view: &MemView, value: Instance) -> Result<()
 }
 
 // `Cell::put` in a cell that is a tree.
-fn put_tree(
-    whole: &mut Instance,
-    reference: &RefInstance,
-    value: Instance,
-) -> Result<(), Instance>
+fn put_tree(whole: &mut Instance, reference: &RefInstance, value: Instance) -> Result<(), Instance>
     requires leads { LeadsIn (value_of whole.old) (reference_of reference.now) }
     requires storable { IsStorable (value_of value) }
     ensures fit { IsOk result ↔ IsOkAnd (viewed (reference_of reference.now).view (value_of whole.old)) (λ v. IsTrue (fits (value_of value) v)) }
@@ -176,11 +172,10 @@ fn replace_bytes(
         unreachable!()
     };
     let old = part.value(alloc)?;
-    if bytes.put(view, &value) {
-        Ok(old)
-    } else {
-        unreachable!()
+    if !bytes.put(view, &value) {
+        unreachable!();
     }
+    Ok(old)
 }
 
 // `Cell::replace` in a cell that is a tree.
@@ -297,11 +292,7 @@ impl<'a> Part<'a> {
 
     /// The value of the part in the type; `None` where it does not convert to it. The condition: it is
     /// well-formed.
-    pub(crate) fn convert_to(
-        self,
-        alloc: Global,
-        ty: &Type,
-    ) -> Result<Option<Instance>, AllocError>
+    pub(crate) fn convert_to(self, alloc: Global, ty: &Type) -> Result<Option<Instance>, AllocError>
         requires part { IsPart self }
         requires well_formed { IsWellFormed (part_value self) }
         ensures { IfOk result (λ o. option_map value_of o ≡ converted (part_value self.entry) (type_view ty.now)) }

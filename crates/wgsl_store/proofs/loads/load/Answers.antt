@@ -18,6 +18,6 @@ loop-next-smaller c =
 pub loop-next-preserved : goal.loop-next-preserved
 loop-next-preserved c = (
   next-read c.args.store.now (reference_of c.args.reference.now) (reference_of c.in-Some.next.now) (part_value c.loop-next.part) (part_value c.in_ok-part-2.part)
-  c.loop-next.invariant.0 c.in-Some.ensures c.in_ok-part-2.ensures.content c.in_ok-part-2.ensures.outcome,
+      c.loop-next.invariant.0 c.in-Some.ensures c.in_ok-part-2.ensures.content c.in_ok-part-2.ensures.outcome,
   c.in_ok-part-2.ensures.part,
 )
