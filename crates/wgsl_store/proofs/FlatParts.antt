@@ -50,11 +50,6 @@ located-on s steps all l next e all_is =
     view-on s steps l.start (part_range l).layout (Some (part_range next)) (e ∙ step_range-is s l)
     ∙ ap (λ (v : List Step). option_map (further l.start) (view_range v (part_range l).layout)) (sym all_is)
 
-pub located-nowhere : (s : Step) (steps all : List Step) (l : Located) → None ≡ step_range s l → all ≡ s ∷ steps → None ≡ option_map (further l.start) (view_range all (part_range l).layout)
-located-nowhere s steps all l e all_is =
-    view-on s steps l.start (part_range l).layout None (e ∙ step_range-is s l)
-    ∙ ap (λ (v : List Step). option_map (further l.start) (view_range v (part_range l).layout)) (sym all_is)
-
 -- ---- values
 
 further-decoded : (b : List ℕ) (a : ℕ) (o : Option Range) → option_map (decoded_in b) (option_map (further a) o) ≡ option_map (λ r. decoded b (a + r.start) r.layout) o
@@ -103,6 +98,3 @@ pub vector-told : (w x : Val) (vs : Vals) (n : ℕ) (t : Ty) (b : Bool) → w �
 vector-told w x vs n t b is at told counted =
     let own = vector-type w x vs is at in
     (λ r. own ∙ ap (λ (k : ℕ). vec k (type_of x)) counted ∙ ap (vec n) (told.0 r), λ e. told.1 (vec-parts (count (parts w)) n (type_of x) t (sym own ∙ e)).1)
-
-pub vector-other : (w x : Val) (vs : Vals) (n : ℕ) (t : Ty) → w ≡ vector vs → item 0 (parts w) ≡ Some x → (count (parts w) ≡ n → ⊥) → type_of w ≡ vec n t → ⊥
-vector-other w x vs n t is at other e = other (vec-parts (count (parts w)) n (type_of x) t (sym (vector-type w x vs is at) ∙ e)).0

@@ -42,7 +42,8 @@ impl Model for FlatCell {
     ghost invariant = { IsFlatCell };
 }
 
-/// A part of a cell of bytes, lent.
+/// A part of a cell of bytes, lent. Each call on it asks as a condition that it is located in its bytes, as
+/// [`FlatCell::whole`] and the calls that lead to further parts promise.
 #[derive(Clone, Copy)]
 pub(crate) struct FlatPart<'a> {
     bytes: &'a [u8],
@@ -91,15 +92,9 @@ impl FlatCell {
         ensures value { part_value result ≡ self.now }
         ensures part { IsFlatPart result }
     {
-        let located = Located {
-            start: 0,
-            len: self.bytes.len(),
-            count: self.count,
-            shape: Shape::Whole(&self.ty, &self.plan),
-        };
         FlatPart {
             bytes: self.bytes.as_slice(),
-            located,
+            located: Located::of_whole(&self.ty, &self.plan, self.count, self.bytes.len()),
         }
     }
 
@@ -112,12 +107,7 @@ impl FlatCell {
         ensures put { OnTrue result (self.new ≡ put_viewed (steps_of view.now) (value_of value.now) self.old) }
         ensures same { OnFalse result (self.new ≡ self.old) }
     {
-        let whole = Located {
-            start: 0,
-            len: self.bytes.len(),
-            count: self.count,
-            shape: Shape::Whole(&self.ty, &self.plan),
-        };
+        let whole = Located::of_whole(&self.ty, &self.plan, self.count, self.bytes.len());
         let Some(part) = whole.viewed(view) else {
             unreachable!()
         };
@@ -264,6 +254,19 @@ impl<'a> Located<'a> {
     ghost use Rattle.wgsl_store.specs.Ranges.{further, view_range};
     ghost use Rattle.wgsl_store.specs.Walk.{put};
     ghost use Rattle.wgsl_values.specs.View.{value_of, steps_of};
+
+    // The whole of a value of the type, which takes `len` bytes, by the plan of the type; with `count`
+    // elements in the runtime-sized array that the type is or ends in.
+    fn of_whole(ty: &'a Type, plan: &'a Plan, count: usize, len: usize) -> Located<'a>
+        ensures { result ≡ record { start = 0; len = len; count = count; shape = Shape.Whole ty.entry plan.entry } }
+    {
+        Located {
+            start: 0,
+            len,
+            count,
+            shape: Shape::Whole(ty, plan),
+        }
+    }
 
     // The part that the view leads to; `None` where it leads nowhere.
     fn viewed(self, view: &MemView) -> Option<Located<'a>>

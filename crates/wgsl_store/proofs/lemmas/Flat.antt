@@ -3,9 +3,8 @@
 use mathlib.Core.Logic.{inl, inr}
 use Rattle.std.proofs.Common.{◌≡◌, ◌⊎◌, ℕ, zero, suc, ◌+◌, ◌≤◌, List, [], ◌∷◌, ◌++◌, length, Option, Some, None, is_some, option_map, option_and_then, Ok, Err, Bool, true, false, if◌then◌else◌, refl, sym, ap, ◌∙◌, subst, arith}
 use Rattle.std.specs.Prelude.{◌||◌, ◌↔◌}
-use Rattle.std.proofs.lemmas.Bool.{false≢true}
 use Rattle.std.proofs.lemmas.List.FromFn.{get_or-map-range_with_len}
-use Rattle.wgsl_rules.specs.Types.{Ty, vec}
+use Rattle.wgsl_rules.specs.Types.{Ty}
 use Rattle.wgsl_rules.specs.Values.{Step, Val, Vals, no_vals, val, item, type_of, IsStorable}
 use Rattle.wgsl_rules.specs.Refusals.{Outcome}
 use Rattle.wgsl_rules.specs.Paths.{parts, value_at, viewed, put_tree, put_viewed, fits, FitsPlace}
@@ -81,24 +80,6 @@ whole-there v n t p len s h e c planned long =
 
     some : has_runtime_layout (type_of v) ≡ true → 1 ≤ n
     some r = let one = count-some v s r in omega arith
-
--- a vector has a fixed layout
-vec-fixed : (k : ℕ) (t : Ty) → has_layout (vec k t) ≡ true → has_fixed_layout (vec k t) ≡ true
-vec-fixed k t h = by (has_fixed_layout (vec k t)) refl h
-  where
-    by : (c : Bool) → has_fixed_layout (vec k t) ≡ c → (c || false) ≡ true → c ≡ true
-    by true f h = refl
-    by false f h = h
-
--- so no count shows in where it stands
-pub vec-alike : (n k : ℕ) (t : Ty) → has_layout (vec k t) ≡ true → layout 0 (vec k t) ≡ layout n (vec k t)
-vec-alike n k t h = layout-any (vec k t) 0 n (vec-fixed k t h)
-
-pub vec-there : (n k : ℕ) (t : Ty) (p : Plan) (at len : ℕ) → IsThere n (vec k t) p at len → IsThere 0 (vec k t) p at len
-vec-there n k t p at len h =
-    let f = vec-fixed k t h.laid in
-    let same_length = ap length_in (vec-alike n k t h.laid) in
-    record { laid = h.laid; counted = λ g. absurd (false≢true (sym g ∙ f)); planned = h.planned; inside = omega (arith, h.inside, same_length) }
 
 -- ---- what fits
 

@@ -23,7 +23,7 @@ viewed-requires c =
     let h = c.self.invariant in
     let same = ap length h.bytes in
     let len : c.len.result ≡ length (buffer v) = omega (arith, c.len.ensures, own.bytes.ok.0, same) in
-    whole-there v own.count (type_view own.ty) (plan_view own.plan) c.len.result h.storable h.laid h.typed h.counted h.planned len
+    rw c.of_whole-whole.ensures (whole-there v own.count (type_view own.ty) (plan_view own.plan) c.len.result h.storable h.laid h.typed h.counted h.planned len)
 
 pub unreachable-requires : goal.unreachable-requires
 unreachable-requires c =
@@ -31,7 +31,7 @@ unreachable-requires c =
     let v = flat_value own in
     let h = c.self.invariant in
     let steps = steps_of c.args.view.now in
-    let none : view_range steps (layout_of v) ≡ None = found-at v steps own.count (type_view own.ty) None (held-layout own v h) c.in_default.ensures.range in
+    let none : view_range steps (layout_of v) ≡ None = found-at v steps own.count (type_view own.ty) None (held-layout own v h) (rw c.of_whole-whole.ensures at c.in_default.ensures.range) in
     nowhere v steps h.storable (ap has_layout h.typed ∙ h.laid) none (rw (← c.self.view_is) at c.requires.there)
 
 pub returns-then-not-fits-clause-fit : goal.returns-then-not-fits-clause-fit
@@ -41,7 +41,7 @@ returns-then-not-fits-clause-fit c =
     let h = c.self.invariant in
     let steps = steps_of c.args.view.now in
     let part = c.in-Some.part in
-    let found : view_range steps (layout_of v) ≡ Some (part_range part) = found-at v steps own.count (type_view own.ty) (Some (part_range part)) (held-layout own v h) c.in-Some.ensures.range in
+    let found : view_range steps (layout_of v) ≡ Some (part_range part) = found-at v steps own.count (type_view own.ty) (Some (part_range part)) (held-layout own v h) (rw c.of_whole-whole.ensures at c.in-Some.ensures.range) in
     let told = place-told v (value_of c.args.value.now) steps part h.storable (ap has_layout h.typed ∙ h.laid) c.requires.storable c.in-Some.ensures.there.there found in
     rw (← c.self.view_is) (λ r. absurd (false≢true r), λ k. c.if-not-fits.ensures.1 (told.0 k))
 
@@ -52,7 +52,7 @@ returns-clause-fit c =
     let h = c.self.invariant in
     let steps = steps_of c.args.view.now in
     let part = c.in-Some.part in
-    let found : view_range steps (layout_of v) ≡ Some (part_range part) = found-at v steps own.count (type_view own.ty) (Some (part_range part)) (held-layout own v h) c.in-Some.ensures.range in
+    let found : view_range steps (layout_of v) ≡ Some (part_range part) = found-at v steps own.count (type_view own.ty) (Some (part_range part)) (held-layout own v h) (rw c.of_whole-whole.ensures at c.in-Some.ensures.range) in
     let told = place-told v (value_of c.args.value.now) steps part h.storable (ap has_layout h.typed ∙ h.laid) c.requires.storable c.in-Some.ensures.there.there found in
     rw (← c.self.view_is) (λ r. told.1 (c.if-not-fits.ensures.0 refl), λ k. refl)
 
@@ -67,7 +67,7 @@ after-holds c =
     let steps = steps_of c.args.view.now in
     let part = c.in-Some.part in
     let new = c.write.new.bytes in
-    let found : view_range steps (layout_of v) ≡ Some (part_range part) = found-at v steps own.count (type_view own.ty) (Some (part_range part)) (held-layout own v h) c.in-Some.ensures.range in
+    let found : view_range steps (layout_of v) ≡ Some (part_range part) = found-at v steps own.count (type_view own.ty) (Some (part_range part)) (held-layout own v h) (rw c.of_whole-whole.ensures at c.in-Some.ensures.range) in
     let long : own.bytes.len ≡ length new = omega (arith, c.write.auto.bytes, c.as_mut_slice.ensures.len) in
     let kept : (with_items own.bytes new).items ≡ new = rw long (take-append_seam new _) in
     let written : new ≡ put w (shape_plan part.shape) part.start (buffer v) =

@@ -15,4 +15,4 @@ returns-clause-part c =
     let shown = ap length c.as_slice.ensures.value in
     let long : c.len.result ≡ length c.as_slice.result.now = omega (arith, c.len.ensures, c.as_slice.ensures.len) in
     let len : c.len.result ≡ length (buffer v) = omega (arith, long, shown, same) in
-    record { there = whole-there v own.count (type_view own.ty) (plan_view own.plan) c.len.result h.storable h.laid h.typed h.counted h.planned len; whole = long }
+    rw c.of_whole.ensures (record { there = whole-there v own.count (type_view own.ty) (plan_view own.plan) c.len.result h.storable h.laid h.typed h.counted h.planned len; whole = long })
