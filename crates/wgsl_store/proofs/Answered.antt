@@ -1,5 +1,6 @@
 -- What the calls on a reference answer, from what the calls that they make answered.
 use Rattle.std.proofs.Common.{◌≡◌, ℕ, List, [], ◌∷◌, ◌++◌, length, Option, Some, None, Ok, Err, option_map, Bool, true, false, ◌&&◌, if◌then◌else◌, refl, sym, ap, ◌∙◌, subst}
+use Rattle.std.specs.Prelude.{IsOkAnd, IsTrue}
 use Rattle.std.specs.Result.{result_ok}
 use Rattle.wgsl_rules.specs.Access.{can_write}
 use Rattle.wgsl_rules.specs.Equal.{same_is}
@@ -9,8 +10,7 @@ use Rattle.wgsl_rules.specs.Values.{Step, member, index, Reference, Val, deferre
 use Rattle.wgsl_rules.specs.Refusals.{not_read_write, write_ref_type, Outcome, and_then}
 use Rattle.wgsl_rules.specs.Paths.{parts, viewed, member_named, part_at, same_paths, fits}
 use Rattle.wgsl_store.specs.Memory.{held, IsKept, put_cells}
-use Rattle.wgsl_store.specs.ReferenceCalls.{going_on, read, deeper, read_written}
-use Rattle.wgsl_store.specs.Fitting.{fitting}
+use Rattle.wgsl_store.specs.ReferenceCalls.{going_on, read, deeper, old_value, read_written}
 use Rattle.wgsl_store.proofs.lemmas.Sound.{deeper-kept, whole-kept-new}
 use Rattle.wgsl_values.proofs.lemmas.Steps.{viewed-member, member_named-item, stepped-item, item-storable, parts-storable}
 
@@ -73,19 +73,12 @@ fits-other w v t b e n f = by (same (type_of w) (type_of v)) refl
 
 -- ---- an accepted write that answers the old value
 
-fitting-held : (o : Outcome Val) (r : Reference) (w v : Val) → and_then o (λ v. if fits w v then Ok v else Err (write_ref_type (type_of w) r.ty)) ≡ Ok v → o ≡ Ok v
-fitting-held (Err f) r w v e = absurd (cc)
-fitting-held (Ok x) r w v e = by (fits w x) e
-  where
-    by : (b : Bool) → ◌≡◌ {A = Outcome Val} (if b then Ok x else Err (write_ref_type (type_of w) r.ty)) (Ok v) → ◌≡◌ {A = Outcome Val} (Ok x) (Ok v)
-    by true e = e
-    by false e = absurd (cc)
-
-pub read_written-is : (cells new : List Val) (r : Reference) (w v old : Val) → can_write r.access ≡ true → fitting (held cells) r w ≡ Ok v → held cells r ≡ Ok old → new ≡ put_cells cells r w
+pub read_written-is : (cells new : List Val) (r : Reference) (w old : Val) → can_write r.access ≡ true → IsOkAnd (held cells r) (λ v. IsTrue (fits w v)) → held cells r ≡ Ok old → new ≡ put_cells cells r w
     → read_written cells r w ≡ Ok (record { old = old; cells = new })
-read_written-is cells new r w v old can fit is put =
-    let same : ◌≡◌ {A = Outcome Val} (Ok v) (Ok old) = sym (fitting-held (held cells r) r w v fit) ∙ is in
-    let eq : v ≡ old = cc in
-    ap (λ (b : Bool). and_then (if b then fitting (held cells) r w else Err not_read_write) (λ o. Ok (record { old = o; cells = put_cells cells r w }))) can
-    ∙ ap (λ (o : Outcome Val). and_then o (λ x. Ok (record { old = x; cells = put_cells cells r w }))) fit
-    ∙ rw (eq, put) refl
+read_written-is cells new r w old can fit is put =
+    let fitted : fits w old ≡ true = subst (λ (o : Outcome Val). IsOkAnd o (λ v. IsTrue (fits w v))) is fit in
+    let accepted : old_value not_read_write (held cells) r w ≡ Ok old =
+    ap (λ (b : Bool). if b then and_then (held cells r) (λ v. if fits w v then Ok v else Err (write_ref_type (type_of w) r.ty)) else Err not_read_write) can
+    ∙ ap (λ (o : Outcome Val). and_then o (λ v. if fits w v then Ok v else Err (write_ref_type (type_of w) r.ty))) is
+    ∙ ap (λ (b : Bool). if b then Ok old else Err (write_ref_type (type_of w) r.ty)) fitted in
+    ap (λ (o : Outcome Val). and_then o (λ x. Ok (record { old = x; cells = put_cells cells r w }))) accepted ∙ rw put refl

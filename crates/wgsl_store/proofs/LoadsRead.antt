@@ -1,9 +1,10 @@
 -- Loads, reference by reference.
-use Rattle.std.proofs.Common.{◌≡◌, ℕ, suc, List, Option, Some, None, Ok, Err, ap, ◌∙◌}
+use Rattle.std.proofs.Common.{◌≡◌, ℕ, suc, ◌<◌, List, Option, Some, None, Ok, Err, Bool, true, false, if◌then◌else◌, sym, ap, ◌∙◌, arith}
 use Rattle.wgsl_rules.specs.Types.{Ty, ref}
-use Rattle.wgsl_rules.specs.Values.{Reference, Val, reference}
-use Rattle.wgsl_rules.specs.Refusals.{Refusal, Outcome, and_then}
-use Rattle.std.specs.Prelude.{MatchOption}
+use Rattle.wgsl_rules.specs.Values.{Reference, Val, reference, type_of}
+use Rattle.wgsl_rules.specs.Refusals.{Refusal, not_read, Outcome, and_then}
+use Rattle.wgsl_rules.specs.Access.{can_read}
+use Rattle.std.specs.Prelude.{IsOkAnd, MatchOption}
 use Rattle.wgsl_scalar.specs.Answers.{refusal_of}
 use Rattle.wgsl_scalar.specs.declared.error.Error.{Error}
 use Rattle.wgsl_store.specs.Loaded.{as_reference}
@@ -56,3 +57,21 @@ next-gives cells r q v e l is = by (refusal_of e)
     by : (o : Option Refusal) → MatchOption o (Unit {0}) (λ f. read (held cells) q ≡ Err f) → MatchOption o (Unit {0}) (λ f. load (held cells) r.ty r ≡ Err f)
     by None h = tt
     by (Some f) h = next-refused cells r q v f l is h
+
+-- ---- what is read next is of a type of fewer references
+
+read-typed : (cells : List Val) (q : Reference) (w : Val) → IsKept cells q → read (held cells) q ≡ Ok w → type_of w ≡ q.ty
+read-typed cells q w k e = by (can_read q.access) e
+  where
+    at : (o : Outcome Val) → IsOkAnd o (λ x. type_of x ≡ q.ty) → o ≡ Ok w → type_of w ≡ q.ty
+    at (Ok x) h is = let same : x ≡ w = cc in ap type_of (sym same) ∙ h
+    at (Err f) h is = absurd h
+
+    by : (b : Bool) → ◌≡◌ {A = Outcome Val} (if b then held cells q else Err not_read) (Ok w) → type_of w ≡ q.ty
+    by true is = at (held cells q) k is
+    by false is = absurd (cc)
+
+pub next-smaller : (cells : List Val) (r q : Reference) (v w : Val) → LoadsOn cells r v → Some q ≡ as_reference v → read (held cells) q ≡ Ok w → reference_depth (type_of w) < reference_depth (type_of v)
+next-smaller cells r q v w l e is =
+    let typed : type_of w ≡ q.ty = read-typed cells q w (next-kept cells r q v l e) is in
+    rw (is-reference q v e, typed) (omega arith)

@@ -258,7 +258,7 @@ members-there name fs n ps o len h =
     (there-from fs n (Some 0) 0 (length_in (layout n (struct name fs))) o len (are-laid name fs n h.laid h.counted) (tidy (struct name fs) n h.laid).0 h.inside)
 
 -- a structure's type, by its members
-struct-of : (s : StructType) (ms : List StructMemberType) → ms ≡ (out-StructType s).members.items → struct_type_view s ≡ struct (string_bytes (out-StructType s).name) (members_view ms)
+pub struct-of : (s : StructType) (ms : List StructMemberType) → ms ≡ (out-StructType s).members.items → struct_type_view s ≡ struct (string_bytes (out-StructType s).name) (members_view ms)
 struct-of s ms e = struct_view-is s ∙ ap (λ (xs : List StructMemberType). struct (string_bytes (out-StructType s).name) (members_view xs)) (sym e)
 
 pub struct-there : (s : StructType) (ms : List StructMemberType) (n : ℕ) (ps : Places) (o len : ℕ) → IsThere n (struct_type_view s) (members ps) o len → ms ≡ (out-StructType s).members.items → AreThere n (members_view ms) ps o len

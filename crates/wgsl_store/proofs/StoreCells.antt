@@ -1,16 +1,19 @@
--- The values of the cells of a store, after a new cell or a put; and the parts that references name.
-use Rattle.std.proofs.Common.{◌≡◌, ℕ, zero, suc, List, [], ◌∷◌, map, get_or, set, slice_get, Option, Some, None, Ok, Err, option_map, refl, sym, ap, ◌∙◌, subst}
-use Rattle.std.specs.Prelude.{IsOkAnd, IfSome, IsTrue}
+-- The cells of a store and their values, after a new cell or a put; and the parts that references name.
+use Rattle.std.proofs.Common.{◌≡◌, ℕ, zero, suc, List, [], ◌∷◌, ◌++◌, map, get_or, set, slice_get, Option, Some, None, Result, Ok, Err, option_map, false, refl, sym, ap, ◌∙◌, subst, arith}
+use Rattle.std.proofs.lemmas.List.{map-append}
+use Rattle.std.specs.List.{All}
+use Rattle.std.specs.Prelude.{IsOk, IsOkAnd, IfOk, IfSome, IsTrue, OnOk, OnErr}
 use Rattle.std.specs.Result.{result_ok}
-use Rattle.wgsl_rules.specs.Values.{Step, Reference, Val}
+use Rattle.wgsl_rules.specs.Layout.{has_layout}
+use Rattle.wgsl_rules.specs.Values.{Step, Reference, Val, type_of}
 use Rattle.wgsl_rules.specs.Refusals.{not_read, Outcome, and_then}
-use Rattle.wgsl_rules.specs.Paths.{or_refused, viewed, put_viewed, fits}
+use Rattle.wgsl_rules.specs.Paths.{or_refused, viewed, put_tree, put_viewed, fits}
+use Rattle.wgsl_rules.proofs.Paths.{fits-Decides}
 use Rattle.wgsl_store.specs.Memory.{held, references, IsContent, IsSound, at_position, put_cells}
-use Rattle.wgsl_store.proofs.lemmas.Held.{has-cell, held-value}
-use Rattle.wgsl_store.proofs.lemmas.Sound.{put-good, all-keep}
+use Rattle.wgsl_store.proofs.lemmas.Held.{has-cell, has-path, held-value}
+use Rattle.wgsl_store.proofs.lemmas.Places.{put-type}
+use Rattle.wgsl_store.proofs.lemmas.Sound.{append-sound, append-keeps, put-good, all-keep}
 use Rattle.wgsl_store.specs.MemoryLaws.{StaysKept}
-use Rattle.wgsl_values.specs.View.{value_of}
-use Rattle.wgsl_values.specs.declared.inst.Instance.{Instance}
 
 -- an outcome that is an answer, with a fact
 pub record Answered {A : Type 0} (o : Outcome A) (P : A → Type 0) : Type 0 where
@@ -21,6 +24,24 @@ pub record Answered {A : Type 0} (o : Outcome A) (P : A → Type 0) : Type 0 whe
 pub answered : {A : Type 0} (o : Outcome A) (P : A → Type 0) → IsOkAnd o P → Answered o P
 answered (Ok x) P h = record { answer = x; is = refl; fact = h }
 answered (Err e) P h = absurd h
+
+-- ---- a tree stays of a type without a layout
+
+-- a put of what fits keeps the type of the whole
+put-typed : (steps : List Step) (w v : Val) → IsOkAnd (viewed steps v) (λ x. IsTrue (fits w x)) → type_of (put_viewed steps w v) ≡ type_of v
+put-typed steps w v h =
+    let a = answered (viewed steps v) (λ x. IsTrue (fits w x)) h in
+    let p = has-path steps v a.answer a.is in
+    ap (λ (o : Outcome (List ℕ)). type_of (elim o [ Ok q ↦ put_tree q w v | Err r ↦ v ])) p.there ∙ put-type p.path w v a.answer p.stands ((fits-Decides w a.answer).0 a.fact).0
+
+pub replaced-form : (steps : List Step) (w v new : Val) → has_layout (type_of v) ≡ false → IsOkAnd (viewed steps v) (λ x. IsTrue (fits w x)) → new ≡ put_viewed steps w v → has_layout (type_of new) ≡ false
+replaced-form steps w v new h fit put = ap (λ (x : Val). has_layout (type_of x)) put ∙ ap has_layout (put-typed steps w v fit) ∙ h
+
+-- whether the put was accepted or not
+pub put-form : {X : Type 0} (steps : List Step) (w v new : Val) (o : Result Unit X) → has_layout (type_of v) ≡ false → (IsOk o → IsOkAnd (viewed steps v) (λ x. IsTrue (fits w x)))
+    → OnOk o (new ≡ put_viewed steps w v) → OnErr o (new ≡ v) → has_layout (type_of new) ≡ false
+put-form steps w v new (Ok u) h fit put same = replaced-form steps w v new h (fit refl) put
+put-form steps w v new (Err x) h fit put same = ap (λ (y : Val). has_layout (type_of y)) same ∙ h
 
 -- ---- parts that are found
 
@@ -38,44 +59,84 @@ found-content view cells r (Some x) s e = by (held cells r) refl e
     by (Ok y) is e = held-value cells r (view x) s (is ∙ ap Ok (let same : y ≡ view x = cc in same))
     by (Err f) is e = absurd (cc)
 
+-- ---- the cell of a reference
+
+cell-is : {X : Type 0} (view : X → Val) (cs : List X) (i : ℕ) (d : X) (x : Val) → slice_get (map view cs) i ≡ Some x → view (get_or cs i d) ≡ x
+cell-is view [] i d x e = absurd (cc)
+cell-is view (c ∷ cs) zero d x e = cc
+cell-is view (c ∷ cs) (suc i) d x e = cell-is view cs i d x e
+
+-- what the reference holds is what its view leads to in the cell
+pub held-there : {X : Type 0} (view : X → Val) (cs : List X) (cells : List Val) (r : Reference) (P : Val → Type 0) (i : ℕ) (cell : X) → map view cs ≡ cells → IsOkAnd (held cells r) P
+    → i ≡ r.cell → cell ≡ get_or cs i cell → held cells r ≡ viewed r.view (view cell)
+held-there view cs cells r P i cell are h at was =
+    let a = answered (held cells r) P h in
+    let c = has-cell cells r a.answer a.is in
+    let there : slice_get (map view cs) i ≡ Some c.cell = rw (are, at) c.there in
+    let same : view cell ≡ c.cell = ap view was ∙ cell-is view cs i cell c.cell there in
+    a.is ∙ sym c.leads ∙ ap (viewed r.view) (sym same)
+
+-- ---- a new cell
+
+pub added-cells : {X : Type 0} (view : X → Val) (cs after : List X) (cells : List Val) (x : X) (w : Val) → map view cs ≡ cells → after ≡ cs ++ x ∷ [] → view x ≡ w → map view after ≡ cells ++ w ∷ []
+added-cells view cs after cells x w are at is =
+    ap (map view) at ∙ map-append view cs (x ∷ []) ∙ ap (λ (vs : List Val). vs ++ view x ∷ []) are ∙ ap (λ (v : Val). cells ++ v ∷ []) is
+
+pub added-good : (cells after : List Val) (w : Val) → IsSound cells → IsContent cells w → after ≡ cells ++ w ∷ [] → StaysKept cells after
+added-good cells after w s h e = subst (λ (vs : List Val). StaysKept cells vs) (sym e) (record { sound = append-sound cells w s h; keeps = append-keeps cells w })
+
+pub all-one : {X : Type 0} (P : X → Type 0) (x : X) → P x → All P (x ∷ [])
+all-one P x h zero d lt = h
+all-one P x h (suc k) d lt = absurd (omega arith)
+
 -- ---- a put
 
-map-set : (cs : List Instance) (i : ℕ) (new d : Instance) (f : Val → Val) → value_of new ≡ f (value_of (get_or cs i d)) → map value_of (set cs i new) ≡ at_position i f (map value_of cs)
-map-set [] i new d f e = refl
-map-set (c ∷ cs) zero new d f e = ap (λ (v : Val). v ∷ map value_of cs) e
-map-set (c ∷ cs) (suc i) new d f e = ap (λ (vs : List Val). value_of c ∷ vs) (map-set cs i new d f e)
+map-set : {X : Type 0} (view : X → Val) (cs : List X) (i : ℕ) (new d : X) (f : Val → Val) → view new ≡ f (view (get_or cs i d)) → map view (set cs i new) ≡ at_position i f (map view cs)
+map-set view [] i new d f e = refl
+map-set view (c ∷ cs) zero new d f e = ap (λ (v : Val). v ∷ map view cs) e
+map-set view (c ∷ cs) (suc i) new d f e = ap (λ (vs : List Val). view c ∷ vs) (map-set view cs i new d f e)
 
-cell-is : (cs : List Instance) (i : ℕ) (d : Instance) (x : Val) → slice_get (map value_of cs) i ≡ Some x → value_of (get_or cs i d) ≡ x
-cell-is [] i d x e = absurd (cc)
-cell-is (c ∷ cs) zero d x e = cc
-cell-is (c ∷ cs) (suc i) d x e = cell-is cs i d x e
+same-set : {X : Type 0} (view : X → Val) (cs : List X) (i : ℕ) (new d : X) → view new ≡ view (get_or cs i d) → map view (set cs i new) ≡ map view cs
+same-set view [] i new d e = refl
+same-set view (c ∷ cs) zero new d e = ap (λ (v : Val). v ∷ map view cs) e
+same-set view (c ∷ cs) (suc i) new d e = ap (λ (vs : List Val). view c ∷ vs) (same-set view cs i new d e)
 
 -- the cells after a put into the cell that was there are those of the definition
-pub replaced-cells : (cs : List Instance) (cells : List Val) (r : Reference) (i : ℕ) (steps : List Step) (new cell : Instance) (w : Val) → map value_of cs ≡ cells → i ≡ r.cell → steps ≡ r.view
-    → cell ≡ get_or cs i cell → value_of new ≡ put_viewed steps w (value_of cell) → map value_of (set cs i new) ≡ put_cells cells r w
-replaced-cells cs cells r i steps new cell w are at along was put =
-    map-set cs i new cell (put_viewed steps w) (put ∙ ap (λ (c : Instance). put_viewed steps w (value_of c)) was)
-    ∙ ap (λ (j : ℕ). at_position j (put_viewed steps w) (map value_of cs)) at
-    ∙ ap (λ (ss : List Step). at_position r.cell (put_viewed ss w) (map value_of cs)) along
+pub replaced-cells : {X : Type 0} (view : X → Val) (cs : List X) (cells : List Val) (r : Reference) (i : ℕ) (new cell : X) (w : Val) → map view cs ≡ cells → i ≡ r.cell
+    → cell ≡ get_or cs i cell → view new ≡ put_viewed r.view w (view cell) → map view (set cs i new) ≡ put_cells cells r w
+replaced-cells view cs cells r i new cell w are at was put =
+    map-set view cs i new cell (put_viewed r.view w) (put ∙ ap (λ (c : _). put_viewed r.view w (view c)) was)
+    ∙ ap (λ (j : ℕ). at_position j (put_viewed r.view w) (map view cs)) at
     ∙ ap (λ (vs : List Val). put_cells vs r w) are
 
--- they are sound, and each reference stays kept
-pub replaced-good : (cells after : List Val) (r : Reference) (w : Val) → IsSound cells → IsContent cells w → IsOkAnd (held cells r) (λ v. IsTrue (fits w v)) → after ≡ put_cells cells r w → StaysKept cells after
+-- after a cell was put back that holds what it held, they are as before
+pub same-cells : {X : Type 0} (view : X → Val) (cs : List X) (cells : List Val) (i : ℕ) (new cell : X) → map view cs ≡ cells → cell ≡ get_or cs i cell → view new ≡ view cell → map view (set cs i new) ≡ cells
+same-cells view cs cells i new cell are was same = same-set view cs i new cell (same ∙ ap view was) ∙ are
+
+-- ---- what a call on a cell changes in the store
+
+-- the cells after a call that puts a value where it is accepted, and else changes nothing
+pub record IsPutOr {E A : Type 0} (o : Result A E) (cells after : List Val) (r : Reference) (w : Val) : Type 0 where
+  pub put : OnOk o (after ≡ put_cells cells r w)
+  pub same : OnErr o (after ≡ cells)
+
+pub put-or : {X E A : Type 0} (view : X → Val) (o : Result A E) (cs : List X) (cells : List Val) (r : Reference) (i : ℕ) (new cell : X) (w : Val) → map view cs ≡ cells → i ≡ r.cell → cell ≡ get_or cs i cell
+    → OnOk o (view new ≡ put_viewed r.view w (view cell)) → OnErr o (view new ≡ view cell) → IsPutOr o cells (map view (set cs i new)) r w
+put-or view (Ok x) cs cells r i new cell w are at was put same = record { put = replaced-cells view cs cells r i new cell w are at was put; same = tt }
+put-or view (Err e) cs cells r i new cell w are at was put same = record { put = tt; same = same-cells view cs cells i new cell are was same }
+
+-- after a put of what fits the cells are sound, and each reference stays kept
+replaced-good : (cells after : List Val) (r : Reference) (w : Val) → IsSound cells → IsContent cells w → IsOkAnd (held cells r) (λ v. IsTrue (fits w v)) → after ≡ put_cells cells r w → StaysKept cells after
 replaced-good cells after r w s h fit e =
     let a = answered (held cells r) (λ v. IsTrue (fits w v)) fit in
     subst (λ (vs : List Val). StaysKept cells vs) (sym e) (put-good cells r w a.answer s h a.is a.fact)
 
--- what was taken out of the cell that was there is what the reference held
-pub taken-out : (cs : List Instance) (cells : List Val) (r : Reference) (P : Val → Type 0) (i : ℕ) (steps : List Step) (cell : Instance) (y : Val) → map value_of cs ≡ cells → IsOkAnd (held cells r) P
-    → i ≡ r.cell → steps ≡ r.view → cell ≡ get_or cs i cell → Some y ≡ result_ok (viewed steps (value_of cell)) → held cells r ≡ Ok y
-taken-out cs cells r P i steps cell y are h at along was out =
-    let a = answered (held cells r) P h in
-    let c = has-cell cells r a.answer a.is in
-    let there : slice_get (map value_of cs) i ≡ Some c.cell = rw (are, at) c.there in
-    let is = ap value_of was ∙ cell-is cs i cell c.cell there in
-    let same : Some y ≡ Some a.answer = out ∙ ap (λ (v : Val). result_ok (viewed steps v)) is ∙ ap (λ (ss : List Step). result_ok (viewed ss c.cell)) along ∙ ap (λ (o : Outcome Val). result_ok o) c.leads in
-    a.is ∙ ap Ok (let eq : a.answer ≡ y = cc in eq)
+pub put-or-good : {E A : Type 0} (o : Result A E) (cells after : List Val) (r : Reference) (w : Val) → IsSound cells → IsContent cells w → (IsOk o → IsOkAnd (held cells r) (λ v. IsTrue (fits w v)))
+    → IsPutOr o cells after r w → StaysKept cells after
+put-or-good (Ok x) cells after r w s h fit p = replaced-good cells after r w s h (fit refl) p.put
+put-or-good (Err e) cells after r w s h fit p = subst (λ (vs : List Val). StaysKept cells vs) (sym p.same) (record { sound = s; keeps = λ q k. k })
 
--- it may be put into a cell of the store as it then is
-pub taken-content : (cells after : List Val) (r : Reference) (y : Val) → IsSound cells → StaysKept cells after → held cells r ≡ Ok y → IsContent after y
-taken-content cells after r y s good e = let h = held-value cells r y s e in (h.0, all-keep cells after (references y) good.keeps h.1)
+-- what was taken out may be put into a cell of the store as it then is
+pub taken-content : {E X : Type 0} (view : X → Val) (o : Result X E) (cells after : List Val) (r : Reference) → IsSound cells → StaysKept cells after → IfOk o (λ x. held cells r ≡ Ok (view x)) → IfOk o (λ x. IsContent after (view x))
+taken-content view (Ok x) cells after r s good e = let h = held-value cells r (view x) s e in (h.0, all-keep cells after (references (view x)) good.keeps h.1)
+taken-content view (Err e) cells after r s good h = tt

@@ -4,6 +4,7 @@ pub mod Compose
 pub mod Counts
 pub mod Decoded
 pub mod Fixed
+pub mod Flat
 pub mod Follows
 pub mod Held
 pub mod HeldPaths
@@ -14,6 +15,7 @@ pub mod Loads
 pub mod Numbers
 pub mod Overwritten
 pub mod Padding
+pub mod Parts
 pub mod Places
 pub mod Positive
 pub mod Puts

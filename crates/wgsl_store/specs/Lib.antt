@@ -1,7 +1,9 @@
 pub mod Buffers
-pub mod Fitting
+pub mod Cells
+pub mod FlatCells
 pub mod Laws
 pub mod Loaded
+pub mod Located
 pub mod Memory
 pub mod MemoryLaws
 pub mod Plan

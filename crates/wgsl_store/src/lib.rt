@@ -3,9 +3,12 @@
 #![tactic(auto)]
 
 mod buffers;
+mod cell;
 mod count;
+mod flat;
 pub mod laws;
 mod loads;
+mod located;
 mod make;
 mod parts;
 mod plan;

@@ -4,11 +4,13 @@ ghost use Rattle.std.specs.Prelude.{◌≡◌, IfOk, IfSome, option_map};
 ghost use Rattle.wgsl_rules.specs.Values.{IsStorable, IsWellFormed};
 ghost use Rattle.wgsl_rules.specs.View.{type_view};
 ghost use Rattle.wgsl_scalar.specs.Answers.{Gives};
+ghost use Rattle.wgsl_store.specs.Cells.{IsPart, part_value};
 ghost use Rattle.wgsl_store.specs.Loaded.{as_reference, loaded_in};
 ghost use Rattle.wgsl_store.specs.Memory.{HoldsValue, IsContent, IsKept, held};
 ghost use Rattle.wgsl_store.specs.ReferenceCalls.{load, loaded};
 ghost use Rattle.wgsl_values.specs.View.{value_of, reference_of};
 
+use crate::cell::Part;
 use crate::store::Store;
 use std::alloc::Global;
 use wgsl_rules::{Convert, Ty, Type};
@@ -51,14 +53,25 @@ fn as_reference(value: &Instance) -> Option<&RefInstance>
     }
 }
 
-// The value that the reference leads to, read on while it is a reference. The condition: it is kept.
-fn load<'a>(reference: &RefInstance, store: &'a Store) -> Result<&'a Instance, Error>
+// The reference that the part is. A part of bytes is none: references have no layout.
+fn reference_at<'a>(part: Part<'a>) -> Option<&'a RefInstance>
+    ensures { option_map (λ r. reference_of r.now) result ≡ as_reference (part_value part.entry) }
+{
+    match part {
+        Part::Flat(_) => None,
+        Part::Tree(value) => as_reference(value),
+    }
+}
+
+// The part that the reference leads to, read on while it is a reference. The condition: it is kept.
+fn load<'a>(reference: &RefInstance, store: &'a Store) -> Result<Part<'a>, Error>
     requires { IsKept store.now (reference_of reference.now) }
-    ensures outcome { let r = reference_of reference.now in Gives (λ v. value_of v.now) result (load (held store.now) r.ty r) }
-    ensures content { IfOk result (λ v. IsContent store.now (value_of v.now)) }
+    ensures outcome { let r = reference_of reference.now in Gives part_value result (load (held store.now) r.ty r) }
+    ensures part { IfOk result IsPart }
+    ensures content { IfOk result (λ p. IsContent store.now (part_value p)) }
 {
     let mut part = store.readable(reference)?;
-    while let Some(next) = as_reference(part) {
+    while let Some(next) = reference_at(part) {
         part = store.readable(next)?;
     }
     Ok(part)
@@ -67,7 +80,7 @@ fn load<'a>(reference: &RefInstance, store: &'a Store) -> Result<&'a Instance, E
 impl Loads for Instance {
     fn loaded(self, alloc: Global, store: &Store) -> Result<Instance, Error> {
         match as_reference(&self) {
-            Some(reference) => Ok(load(reference, store)?.clone(alloc)?),
+            Some(reference) => Ok(load(reference, store)?.value(alloc)?),
             None => Ok(self),
         }
     }
@@ -78,10 +91,10 @@ impl Loads for Instance {
         store: &Store,
         ty: &Type,
     ) -> Result<Option<Instance>, Error> {
-        let value = match as_reference(self) {
+        let part = match as_reference(self) {
             Some(reference) => load(reference, store)?,
-            None => self,
+            None => Part::Tree(self),
         };
-        Ok(value.convert_to(alloc, ty)?)
+        Ok(part.convert_to(alloc, ty)?)
     }
 }

@@ -92,8 +92,9 @@ fn read_literal(bytes: &[u8], at: usize, ty: &Type) -> LiteralInstance
     }
 }
 
-// The vector of n components of the type that begins at `base`, by its plan.
-fn read_vector(
+/// The vector of n components of the type that begins at `base`, by its plan. The condition: its type has a
+/// layout, and the bytes hold it whole.
+pub(crate) fn read_vector(
     alloc: Global,
     bytes: &[u8],
     base: usize,

@@ -7,17 +7,21 @@ ghost use Rattle.std.specs.Prelude.{
   [],
   IfOk,
   IfErr,
+  IsOk,
   OnOk,
   OnErr,
   None,
+  Some,
   string_bytes,
 };
 ghost use Rattle.wgsl_rules.specs.Values.{
   Reference,
   IsStorable,
+  type_of,
   index as index_step,
   member as member_step,
 };
+ghost use Rattle.wgsl_rules.specs.Refusals.{write_ref_type};
 ghost use Rattle.wgsl_scalar.specs.Answers.{Gives, refusal_of};
 ghost use Rattle.wgsl_store.specs.Memory.{HoldsValue, IsContent, IsKept, IsSound, held};
 ghost use Rattle.wgsl_store.specs.ReferenceCalls.{
@@ -27,11 +31,10 @@ ghost use Rattle.wgsl_store.specs.ReferenceCalls.{
   whole_of_new,
   written,
 };
-ghost use Rattle.wgsl_values.specs.View.{value_of};
+ghost use Rattle.wgsl_values.specs.View.{reference_of, value_of};
 
-use crate::parts::{indexed, member, no_part};
 use crate::store::Store;
-use std::alloc::Global;
+use std::alloc::{AllocError, Global};
 use wgsl_rules::{AccessMode, AddressSpace, Ty};
 use wgsl_scalar::Error;
 use wgsl_values::{Instance, MemView, RefInstance};
@@ -89,12 +92,14 @@ pub trait References: Sized {
 
     /// Puts the value in the place of the part. Refusals in order: `NotWrite` without write access,
     /// `WriteRefType`, the type of the value first, where the value does not fit: it is of another
-    /// type, or has other paths, as a runtime-sized array of another length has.
+    /// type, or has other paths, as a runtime-sized array of another length has. A write that is accepted
+    /// takes no memory: it is never answered with `Memory`.
     fn write(&self, alloc: Global, store: &mut Store, value: Instance) -> Result<(), Error>
         requires kept { IsKept store.old (reference_of self.now) }
         requires storable { IsStorable (value_of value) }
         requires held { HoldsValue store.old (value_of value) }
         ensures outcome { Gives (λ _. store.new) result (written store.old (reference_of self.now) (value_of value)) }
+        ensures accepted { IsOk (written store.old (reference_of self.now) (value_of value)) → IsOk result }
         ensures err { OnErr result (store.new ≡ store.old) }
         ensures sound { OnOk result (IsSound store.new) }
         ensures kept { (r : Reference) → IsKept store.old r → IsKept store.new r };
@@ -118,6 +123,15 @@ pub trait References: Sized {
         ensures kept { (r : Reference) → IsKept store.old r → IsKept store.new r };
 }
 
+// Why the value does not fit the place that the reference names: `WriteRefType`, the type of the value
+// first. The condition: it may be stored.
+fn misfit(alloc: Global, reference: &RefInstance, value: &Instance) -> Result<Error, AllocError>
+    requires { IsStorable (value_of value.now) }
+    ensures { IfOk result (λ e. refusal_of e ≡ Some (write_ref_type (type_of (value_of value.now)) (reference_of reference.now).ty)) }
+{
+    Ok(Error::WriteRefType(value.ty(alloc)?, reference.target_ty().clone(alloc)?))
+}
+
 impl References for RefInstance {
     ghost use Rattle.wgsl_values.specs.View.{reference_of};
 
@@ -131,7 +145,7 @@ impl References for RefInstance {
         access: AccessMode,
     ) -> Result<RefInstance, Error> {
         let ty = value.ty(alloc)?;
-        let cell = store.add(value)?;
+        let cell = store.add(alloc, value)?;
         Ok(RefInstance::from_parts(cell, MemView::Whole, ty, space, access))
     }
 
@@ -142,7 +156,7 @@ impl References for RefInstance {
         name: String,
     ) -> Result<RefInstance, Error> {
         let whole = store.readable(self)?;
-        let Some(part) = member(whole, name.as_str()) else {
+        let Some(part) = whole.member(name.as_str()) else {
             return Err(Error::Component(whole.ty(alloc)?, name));
         };
         let ty = part.ty(alloc)?;
@@ -153,8 +167,8 @@ impl References for RefInstance {
 
     fn view_index(&self, alloc: Global, store: &Store, i: usize) -> Result<RefInstance, Error> {
         let whole = store.readable(self)?;
-        let Some(part) = indexed(whole, i) else {
-            return Err(no_part(alloc, whole, i)?);
+        let Some(part) = whole.index(i) else {
+            return Err(whole.no_part(alloc, i)?);
         };
         let ty = part.ty(alloc)?;
         let mut view = self.view().clone(alloc)?;
@@ -163,16 +177,17 @@ impl References for RefInstance {
     }
 
     fn read(&self, alloc: Global, store: &Store) -> Result<Instance, Error> {
-        Ok(store.readable(self)?.clone(alloc)?)
+        Ok(store.readable(self)?.value(alloc)?)
     }
 
     fn write(&self, alloc: Global, store: &mut Store, value: Instance) -> Result<(), Error> {
         if !self.access().is_write() {
             return Err(Error::NotWrite);
         }
-        store.replaceable(alloc, self, &value)?;
-        store.replace(self, value);
-        Ok(())
+        match store.put(self, value) {
+            Ok(()) => Ok(()),
+            Err(value) => Err(misfit(alloc, self, &value)?),
+        }
     }
 
     fn read_write(
@@ -184,7 +199,9 @@ impl References for RefInstance {
         if !self.access().is_write() {
             return Err(Error::NotReadWrite);
         }
-        store.replaceable(alloc, self, &value)?;
-        Ok(store.replace(self, value))
+        if !store.fits(self, &value) {
+            return Err(misfit(alloc, self, &value)?);
+        }
+        Ok(store.replace(alloc, self, value)?)
     }
 }

@@ -5,6 +5,7 @@ ghost use Rattle.wgsl_scalar.specs.Answers.{Gives};
 ghost use Rattle.wgsl_store.specs.Memory.{HoldsValue, held};
 ghost use Rattle.wgsl_store.specs.Shown.{shown};
 
+use crate::references::References;
 use crate::store::Store;
 use std::alloc::Global;
 use wgsl_rules::Ty;
@@ -23,14 +24,14 @@ pub trait Show: Ty {
 
 impl Show for RefInstance {
     fn show(&self, alloc: Global, store: &Store) -> Result<String, Error> {
-        let value = store.readable(self)?;
+        let value = self.read(alloc, store)?;
         Ok(format!(in alloc; "{self}({value})")?)
     }
 }
 
 impl Show for PtrInstance {
     fn show(&self, alloc: Global, store: &Store) -> Result<String, Error> {
-        let value = store.readable(self.ptr())?;
+        let value = self.ptr().read(alloc, store)?;
         Ok(format!(in alloc; "{self}({value})")?)
     }
 }

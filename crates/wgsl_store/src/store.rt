@@ -1,19 +1,20 @@
 //! The cells that references name (WGSL: memory locations).
 
-use crate::parts::{fits_place, part, part_count, part_viewed};
+use crate::cell::{Cell, Part};
+use crate::parts::{part, part_count};
 use std::alloc::{AllocError, Global};
 use std::marker::Model;
-use wgsl_rules::Ty;
 use wgsl_scalar::Error;
 use wgsl_values::{Instance, RefInstance};
 
 /// The cells of a shader's memory, counted from 0. A cell lives as long as the store.
 ///
 /// Each cell holds a value that may be stored, and each reference or pointer at any path of any cell
-/// is kept: its cell is there, and its view leads to a value of its type.
+/// is kept: its cell is there, and its view leads to a value of its type. A value whose type has a
+/// layout is held as its bytes.
 #[derive(Drop)]
 pub struct Store {
-    cells: Vec<Instance>,
+    cells: Vec<Cell>,
 }
 
 impl Model for Store {
@@ -21,16 +22,15 @@ impl Model for Store {
     ghost use Rattle.std.specs.Coded.{coded_list};
     ghost use Rattle.wgsl_rules.specs.Values.{Val};
     ghost use Rattle.wgsl_rules.specs.Codes.{val_code};
-    ghost use Rattle.wgsl_store.specs.Memory.{IsSound};
-    ghost use Rattle.wgsl_values.specs.View.{value_of};
+    ghost use Rattle.wgsl_store.specs.Cells.{AreCells, cell_value};
 
     ghost Value = { List Val };
 
     ghost coded = { coded_list val_code };
 
-    ghost view = { λ s. map value_of s.cells.items };
+    ghost view = { λ s. map cell_value s.cells.items };
 
-    ghost invariant = { λ s. IsSound (map value_of s.cells.items) };
+    ghost invariant = { λ s. AreCells s.cells.items };
 }
 
 impl Store {
@@ -42,8 +42,10 @@ impl Store {
       ◌∷◌,
       [],
       length,
+      IfErr,
       IfOk,
       IfSome,
+      IsOk,
       IsOkAnd,
       IsTrue,
       OnOk,
@@ -55,6 +57,7 @@ impl Store {
     ghost use Rattle.std.specs.Result.{result_ok};
     ghost use Rattle.wgsl_rules.specs.Paths.{fits, parts};
     ghost use Rattle.wgsl_rules.specs.Values.{Reference, IsStorable};
+    ghost use Rattle.wgsl_store.specs.Cells.{IsPart, part_value};
     ghost use Rattle.wgsl_store.specs.Memory.{
       AllKept,
       HoldsValue,
@@ -66,7 +69,6 @@ impl Store {
       references_in,
     };
     ghost use Rattle.wgsl_store.specs.ReferenceCalls.{read};
-    ghost use Rattle.wgsl_store.specs.Fitting.{fitting};
     ghost use Rattle.wgsl_scalar.specs.Answers.{Gives};
     ghost use Rattle.wgsl_values.specs.View.{value_of, reference_of};
 
@@ -127,29 +129,32 @@ impl Store {
         true
     }
 
-    // The value of a cell, if it is there.
-    fn cell(&self, i: usize) -> Option<&Instance>
-        ensures value { option_map (λ v. value_of v.now) result ≡ slice_get self.now i }
+    // The whole of a cell, if it is there.
+    fn cell(&self, i: usize) -> Option<Part<'_>>
+        ensures value { option_map part_value result ≡ slice_get self.now i }
+        ensures part { IfSome result IsPart }
         ensures sound { IsSound self.now }
     {
-        self.cells.get(i)
+        Some(self.cells.get(i)?.whole())
     }
 
     // The part that the reference names; `None` where its cell is not there, or its view leads
     // nowhere.
-    fn find(&self, reference: &RefInstance) -> Option<&Instance>
-        ensures part { option_map (λ v. value_of v.now) result ≡ result_ok (held self.now (reference_of reference.now)) }
-        ensures content { IfSome result (λ v. IsContent self.now (value_of v.now)) }
+    fn find(&self, reference: &RefInstance) -> Option<Part<'_>>
+        ensures value { option_map part_value result ≡ result_ok (held self.now (reference_of reference.now)) }
+        ensures part { IfSome result IsPart }
+        ensures content { IfSome result (λ p. IsContent self.now (part_value p)) }
     {
         let cell = self.cell(reference.cell())?;
-        part_viewed(cell, reference.view())
+        cell.viewed(reference.view())
     }
 
     // The part that the reference names. The condition: it is kept.
-    fn part(&self, reference: &RefInstance) -> &Instance
+    fn part(&self, reference: &RefInstance) -> Part<'_>
         requires { IsKept self.now (reference_of reference.now) }
-        ensures part { held self.now (reference_of reference.now) ≡ Ok (value_of result.now) }
-        ensures content { IsContent self.now (value_of result.now) }
+        ensures value { held self.now (reference_of reference.now) ≡ Ok (part_value result) }
+        ensures part { IsPart result }
+        ensures content { IsContent self.now (part_value result) }
     {
         match self.find(reference) {
             Some(part) => part,
@@ -159,10 +164,11 @@ impl Store {
 
     /// The part that the reference names, where it may be read; else `NotRead`. The condition: it is
     /// kept.
-    pub(crate) fn readable(&self, reference: &RefInstance) -> Result<&Instance, Error>
+    pub(crate) fn readable(&self, reference: &RefInstance) -> Result<Part<'_>, Error>
         requires { IsKept self.now (reference_of reference.now) }
-        ensures outcome { Gives (λ v. value_of v.now) result (read (held self.now) (reference_of reference.now)) }
-        ensures content { IfOk result (λ v. IsContent self.now (value_of v.now)) }
+        ensures outcome { Gives part_value result (read (held self.now) (reference_of reference.now)) }
+        ensures part { IfOk result IsPart }
+        ensures content { IfOk result (λ p. IsContent self.now (part_value p)) }
     {
         if reference.access().is_read() {
             Ok(self.part(reference))
@@ -171,29 +177,18 @@ impl Store {
         }
     }
 
-    /// The part that the reference names, where the value fits its place; else `WriteRefType`. The
+    /// Whether the value fits the place of the part that the reference names. It takes no memory. The
     /// conditions: the reference is kept, and the value may be stored.
-    pub(crate) fn replaceable(
-        &self,
-        alloc: Global,
-        reference: &RefInstance,
-        value: &Instance,
-    ) -> Result<&Instance, Error>
+    pub(crate) fn fits(&self, reference: &RefInstance, value: &Instance) -> bool
         requires kept { IsKept self.now (reference_of reference.now) }
         requires storable { IsStorable (value_of value.now) }
-        ensures { Gives (λ v. value_of v.now) result (fitting (held self.now) (reference_of reference.now) (value_of value.now)) }
+        ensures { IsTrue result ↔ IsOkAnd (held self.now (reference_of reference.now)) (λ v. IsTrue (fits (value_of value.now) v)) }
     {
-        let part = self.part(reference);
-        let ty = reference.target_ty();
-        if fits_place(value, ty, part) {
-            Ok(part)
-        } else {
-            Err(Error::WriteRefType(value.ty(alloc)?, ty.clone(alloc)?))
-        }
+        self.part(reference).fits(reference.target_ty(), value)
     }
 
     /// Makes a last cell that holds the value, and answers its number.
-    pub(crate) fn add(&mut self, value: Instance) -> Result<usize, AllocError>
+    pub(crate) fn add(&mut self, alloc: Global, value: Instance) -> Result<usize, AllocError>
         requires { IsContent self.old (value_of value) }
         ensures ok { IfOk result (λ n. n ≡ length self.old) }
         ensures added { OnOk result (self.new ≡ self.old ++ value_of value ∷ []) }
@@ -202,25 +197,46 @@ impl Store {
         ensures kept { (r : Reference) → IsKept self.old r → IsKept self.new r }
     {
         let n = self.cells.len();
-        self.cells.push(value)?;
+        let cell = Cell::new(alloc, value)?;
+        self.cells.push(cell)?;
         Ok(n)
     }
 
-    /// Puts the value in the place of the part that the reference names, and gives the old part back.
-    /// The condition: the value fits there.
-    pub(crate) fn replace(&mut self, reference: &RefInstance, value: Instance) -> Instance
+    /// Puts the value in the place of the part that the reference names, where it fits there; else
+    /// gives the value back, and nothing is changed. It takes no memory. The condition: the reference
+    /// is kept.
+    pub(crate) fn put(&mut self, reference: &RefInstance, value: Instance) -> Result<(), Instance>
+        requires kept { IsKept self.old (reference_of reference.now) }
         requires content { IsContent self.old (value_of value) }
-        requires fit { IsOkAnd (held self.old (reference_of reference.now)) (λ v. IsTrue (fits (value_of value) v)) }
-        ensures put { self.new ≡ put_cells self.old (reference_of reference.now) (value_of value) }
-        ensures old { held self.old (reference_of reference.now) ≡ Ok (value_of result) }
-        ensures content { IsContent self.new (value_of result) }
+        ensures fit { IsOk result ↔ IsOkAnd (held self.old (reference_of reference.now)) (λ v. IsTrue (fits (value_of value) v)) }
+        ensures ok { OnOk result (self.new ≡ put_cells self.old (reference_of reference.now) (value_of value)) }
+        ensures err { OnErr result (self.new ≡ self.old) }
+        ensures back { IfErr result (λ v. value_of v ≡ value_of value) }
         ensures sound { IsSound self.new }
         ensures kept { (r : Reference) → IsKept self.old r → IsKept self.new r }
     {
         let cell = &mut self.cells[reference.cell()];
-        match cell.put(reference.view(), value) {
-            Some(old) => old,
-            None => unreachable!(),
-        }
+        cell.put(reference, value)
+    }
+
+    /// Puts the value in the place of the part that the reference names, and gives the old part back.
+    /// The condition: the value fits there.
+    pub(crate) fn replace(
+        &mut self,
+        alloc: Global,
+        reference: &RefInstance,
+        value: Instance,
+    ) -> Result<Instance, AllocError>
+        requires content { IsContent self.old (value_of value) }
+        requires fit { IsOkAnd (held self.old (reference_of reference.now)) (λ v. IsTrue (fits (value_of value) v)) }
+        ensures put { OnOk result (self.new ≡ put_cells self.old (reference_of reference.now) (value_of value)) }
+        ensures old { IfOk result (λ v. held self.old (reference_of reference.now) ≡ Ok (value_of v)) }
+        ensures err { OnErr result (self.new ≡ self.old) }
+        ensures content { IfOk result (λ v. IsContent self.new (value_of v)) }
+        ensures sound { IsSound self.new }
+        ensures kept { (r : Reference) → IsKept self.old r → IsKept self.new r }
+    {
+        let cell = &mut self.cells[reference.cell()];
+        cell.replace(alloc, reference, value)
     }
 }

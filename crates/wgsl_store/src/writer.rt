@@ -1,12 +1,13 @@
 //! The bytes of a value, written in place by the plan of its type (WGSL: internal layout of values).
 
 ghost use Rattle.std.specs.Prelude.{◌≡◌, length, IfOk, option_map};
-ghost use Rattle.wgsl_rules.specs.Layout.{elements, runtime_count};
+ghost use Rattle.wgsl_rules.specs.Layout.{HasLayout, elements, runtime_count};
 ghost use Rattle.wgsl_rules.specs.Paths.{parts};
-ghost use Rattle.wgsl_rules.specs.Values.{IsStorable};
+ghost use Rattle.wgsl_rules.specs.Values.{IsStorable, type_of};
 ghost use Rattle.wgsl_scalar.specs.Literals.{literal_of};
-ghost use Rattle.wgsl_store.specs.Buffers.{buffer_of};
+ghost use Rattle.wgsl_store.specs.Buffers.{buffer, buffer_of};
 ghost use Rattle.wgsl_store.specs.Plan.{plan_view, places_view, scalar};
+ghost use Rattle.wgsl_store.specs.TypePlan.{IsPlanOf};
 ghost use Rattle.wgsl_store.specs.Walk.{put, put_row, put_members, Stands, StandInRow, StandAsMembers};
 ghost use Rattle.wgsl_values.specs.View.{value_of, mat_view, vals_view};
 
@@ -26,17 +27,32 @@ pub(crate) fn write_buffer(alloc: Global, value: &Instance) -> Result<Option<Vec
     if !ty.has_layout {
         return Ok(None);
     }
+    Ok(Some(write_whole(alloc, value, &ty)?))
+}
+
+/// The bytes of a value, as many as its layout has, in memory of their own. The conditions: the value is
+/// storable, its type has a layout, and `ty` is the plan of that type.
+pub(crate) fn write_whole(
+    alloc: Global,
+    value: &Instance,
+    ty: &TypePlan,
+) -> Result<Vec<u8>, AllocError>
+    requires storable { IsStorable (value_of value.now) }
+    requires planned { IsPlanOf (type_of (value_of value.now)) ty.now }
+    requires laid { HasLayout (type_of (value_of value.now)) }
+    ensures { IfOk result (λ b. b.items ≡ buffer (value_of value.now)) }
+{
     // More bytes than can be counted are more than there is memory for.
     let Some(len) = ty.length(runtime_count(value)) else {
         return Err(AllocError);
     };
     let mut out = vec![in alloc; 0u8; len]?;
     write_value(out.as_mut_slice(), 0, value, &ty.plan);
-    Ok(Some(out))
+    Ok(out)
 }
 
-// The elements of the runtime-sized array that the value is or ends in.
-fn runtime_count(value: &Instance) -> usize
+/// The elements of the runtime-sized array that the value is or ends in.
+pub(crate) fn runtime_count(value: &Instance) -> usize
     ensures { result ≡ runtime_count (value_of value.now) }
 {
     match value {

@@ -158,15 +158,19 @@ past f (l ∷ ls) a to j h le =
     behind : (o n j : ℕ) → o + n ≤ j → (nat_le o j && nat_lt j (o + n)) ≡ false
     behind o n j h = grind (arith, nat_tests)
 
--- ---- a layout in bytes of which its range is zeroed
+-- ---- a layout in bytes of which the padding is zeroed
 
 -- the bytes from o on, so many, are 0
 pub record AreZero (b : List ℕ) (o n : ℕ) : Type 0 where
   pub zeros : (j : ℕ) → j < n → slice_index b (o + j) ≡ 0
 
-pub layout-bytes : (f : List ℕ → ℤ) (l : Layout) (o : ℕ) (b : List ℕ) → IsTidy l → o + length_in l ≤ length b → AreZero b o (length_in l)
+-- the bytes are 0 that are padding where the layout begins at o
+pub record IsPaddingZero (b : List ℕ) (o : ℕ) (l : Layout) : Type 0 where
+  pub zeros : (j : ℕ) → j < length_in l → is_covered (leaves l) j ≡ false → slice_index b (o + j) ≡ 0
+
+pub layout-bytes-over : (f : List ℕ → ℤ) (l : Layout) (o : ℕ) (b : List ℕ) → IsTidy l → o + length_in l ≤ length b → IsPaddingZero b o l
     → written_leaves f (leaves l) o b ≡ overwritten b o (bytes_with f l)
-layout-bytes f l o b t le z =
+layout-bytes-over f l o b t le z =
     same_number_lists (written_leaves f (leaves l) o b) (overwritten b o (bytes_with f l)) (long ∙ sym over) (λ k lt. by k (dec_lt k o) (dec_lt k (o + length_in l)))
   where
     order : AreInOrder 0 (leaves l) (length_in l)
@@ -184,20 +188,33 @@ layout-bytes f l o b t le z =
     at : (k j : ℕ) → k ≡ o + j → slice_index (written_leaves f (leaves l) o b) k ≡ (if is_covered (leaves l) j then byte_at f (leaves l) j else slice_index b k)
     at k j e = subst (λ (n : ℕ). slice_index (written_leaves f (leaves l) o b) n ≡ (if is_covered (leaves l) j then byte_at f (leaves l) j else slice_index b n)) (sym e) (leaves-byte f (leaves l) 0 (length_in l) o b j order le)
 
+    -- a byte that no leaf covers is 0 in both
+    padded : (k j : ℕ) → k ≡ o + j → j < length_in l → (c : Bool) → is_covered (leaves l) j ≡ c → (if c then byte_at f (leaves l) j else slice_index b k) ≡ byte_at f (leaves l) j
+    padded k j e lt true is = refl
+    padded k j e lt false is = ap (slice_index b) e ∙ z.zeros j lt is ∙ ap (λ (c : Bool). if c then byte_at f (leaves l) j else 0) (sym is) ∙ nothing f (leaves l) j
+
     by : (k : ℕ) → Dec (k < o) → Dec (k < o + length_in l) → slice_index (written_leaves f (leaves l) o b) k ≡ slice_index (overwritten b o (bytes_with f l)) k
     by k (yes lt) d =
         leaves-before f (leaves l) 0 (length_in l) o b k order le lt ∙ sym (over-before b (bytes_with f l) o k (omega (arith, whole)) lt)
     by k (no ge) (yes lt) =
         let j : k ≡ o + (k - o) = omega arith in
         let e : 0 + (k - o) ≡ k - o = omega arith in
-        let zero_at : slice_index b k ≡ 0 = ap (slice_index b) j ∙ z.zeros (k - o) (omega arith) in
-        at k (k - o) j ∙ ap (λ (n : ℕ). if is_covered (leaves l) (k - o) then byte_at f (leaves l) (k - o) else n) zero_at ∙ nothing f (leaves l) (k - o)
+        at k (k - o) j ∙ padded k (k - o) j (omega arith) (is_covered (leaves l) (k - o)) refl
         ∙ sym (over-inside b (bytes_with f l) o k (k - o) (omega (arith, whole)) j (omega (arith, whole))
         ∙ get_or-map-range_with_len (byte_at f (leaves l)) 0 (length_in l) (k - o) (k - o) 0 (omega arith) e)
     by k (no ge) (no far) =
         let j : k ≡ o + (k - o) = omega arith in
         at k (k - o) j ∙ ap (λ (t : Bool). if t then byte_at f (leaves l) (k - o) else slice_index b k) (past f (leaves l) 0 (length_in l) (k - o) order (omega arith))
         ∙ sym (over-behind b (bytes_with f l) o k (omega (arith, whole)) (omega (arith, whole)))
+
+-- in bytes of which the whole range is zeroed
+pub layout-bytes : (f : List ℕ → ℤ) (l : Layout) (o : ℕ) (b : List ℕ) → IsTidy l → o + length_in l ≤ length b → AreZero b o (length_in l)
+    → written_leaves f (leaves l) o b ≡ overwritten b o (bytes_with f l)
+layout-bytes f l o b t le z = layout-bytes-over f l o b t le (record { zeros = λ j lt is. z.zeros j lt })
+
+-- padding has the byte 0 in the bytes of a layout
+pub padding-byte : (f : List ℕ → ℤ) (ls : List Leaf) (j : ℕ) → is_covered ls j ≡ false → byte_at f ls j ≡ 0
+padding-byte f ls j is = sym (ap (λ (c : Bool). if c then byte_at f ls j else 0) (sym is) ∙ nothing f ls j)
 
 -- what is overwritten again, as long, is overwritten once
 pub over-again : (b c z : List ℕ) (a : ℕ) → length z ≡ length c → a + length c ≤ length b → overwritten (overwritten b a z) a c ≡ overwritten b a c

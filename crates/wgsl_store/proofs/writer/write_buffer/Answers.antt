@@ -1,35 +1,12 @@
-use Rattle.std.proofs.Common.{◌≡◌, ◌∙◌, List, ℕ, Some, true, ap, sym, subst, arith, length}
-use Rattle.std.proofs.Math.Seq.{take-append_seam}
-use Rattle.wgsl_rules.specs.Layout.{has_layout, length_in, layout_len, layout_of}
-use Rattle.wgsl_rules.specs.Values.{type_of}
+use Rattle.std.proofs.Common.{◌∙◌, List, ℕ, Some, ap, sym}
 use Rattle.wgsl_values.specs.View.{value_of}
-use Rattle.wgsl_store.specs.Plan.{Plan}
-use Rattle.wgsl_store.specs.Walk.{put, Stands}
-use Rattle.wgsl_store.proofs.lemmas.Standing.{stands}
-use Rattle.wgsl_store.proofs.lemmas.Written.{whole-written}
-use Rattle.wgsl_store.proofs.Totals.{length-is, buffer_of-is}
+use Rattle.wgsl_store.proofs.Totals.{buffer_of-is}
 use Rattle.wgsl_store.proofs.writer.write_buffer.Goals as goal
 
-pub write_value-requires : goal.write_value-requires
-write_value-requires c =
-    let v = value_of c.args.value.now in
-    let ty = c.in_ok-ty.ensures in
-    let laid : has_layout (type_of v) ≡ true = sym ty.layout ∙ c.if-not-ty.false in
-    let long : c.in-Some.len ≡ length_in (layout_of v) =
-    c.in-Some.ensures (type_of v) ty ∙ ap (λ (n : ℕ). layout_len n (type_of v)) c.runtime_count.ensures ∙ sym (length-is v laid) in
-    subst (λ (p : Plan). Stands v p 0 (length c.as_mut_slice.result.now)) (sym ty.plan)
-    (stands v 0 (length c.as_mut_slice.result.now) c.requires laid (omega (arith, c.as_mut_slice.ensures.len, c.in_ok-out.ensures.len, long)))
+pub write_whole-requires : goal.write_whole-requires
+write_whole-requires c = record { storable = c.requires; planned = c.in_ok-ty.ensures; laid = sym c.in_ok-ty.ensures.layout ∙ c.if-not-ty.false }
 
 pub returns : goal.returns
 returns c =
-    let v = value_of c.args.value.now in
-    let ty = c.in_ok-ty.ensures in
-    let laid : has_layout (type_of v) ≡ true = sym ty.layout ∙ c.if-not-ty.false in
-    let len : c.in-Some.len ≡ length_in (layout_of v) =
-    c.in-Some.ensures (type_of v) ty ∙ ap (λ (n : ℕ). layout_len n (type_of v)) c.runtime_count.ensures ∙ sym (length-is v laid) in
-    let new = c.write_value.new.out in
-    let long : c.in_ok-out.out.len ≡ length new = omega (arith, c.write_value.auto.out, c.as_mut_slice.ensures.len) in
-    let made = c.write_value.ensures ∙ ap (λ (p : Plan). put v p 0 c.as_mut_slice.result.now) ty.plan in
-    rw long (ap (λ (b : List ℕ). Some b) (take-append_seam new _
-    ∙ whole-written v c.in-Some.len c.as_mut_slice.result.now new c.requires laid len
-    (c.as_mut_slice.ensures.value ∙ c.in_ok-out.ensures.items_if_clones_equal (λ y e. e)) made) ∙ sym (buffer_of-is v c.requires laid))
+    ap (λ (b : List ℕ). Some b) c.in_ok-write_whole.ensures
+    ∙ sym (buffer_of-is (value_of c.args.value.now) c.requires (sym c.in_ok-ty.ensures.layout ∙ c.if-not-ty.false))

@@ -7,5 +7,5 @@ use Rattle.wgsl_store.proofs.references.RefInstanceReferences.read_write.Goals a
 pub returns-clause-outcome : goal.returns-clause-outcome
 returns-clause-outcome c =
     let can : can_write (reference_of c.args.self.now).access ≡ true = ap can_write (sym c.access.ensures) ∙ sym c.is_write.ensures ∙ c.if-not-is_write.false in
-    read_written-is c.args.store.now c.replace.new.self (reference_of c.args.self.now) (value_of c.args.value) (value_of c.in_ok-replaceable.field-0.now) (value_of c.replace.result)
-    can c.in_ok-replaceable.ensures c.replace.ensures.old c.replace.ensures.put
+    read_written-is c.args.store.now c.replace.new.self (reference_of c.args.self.now) (value_of c.args.value) (value_of c.in_ok-replace.field-0)
+    can (c.fits.ensures.0 c.if-not-fits.false) c.in_ok-replace.ensures.old c.in_ok-replace.ensures.put

@@ -1,0 +1,41 @@
+-- Cells that hold their values as bytes, and parts of them (WGSL: memory locations; internal layout of values).
+use Rattle.std.specs.Prelude.{◌≡◌, length}
+use Rattle.wgsl_rules.specs.Layout.{HasLayout, layout, runtime_count}
+use Rattle.wgsl_rules.specs.Values.{Val, type_of, IsStorable}
+use Rattle.wgsl_rules.specs.View.{type_view}
+use Rattle.wgsl_store.specs.Buffers.{buffer, decoded}
+use Rattle.wgsl_store.specs.Located.{IsLocated, shape_ty}
+use Rattle.wgsl_store.specs.Plan.{plan_of, plan_view}
+use Rattle.wgsl_store.specs.declared.flat.FlatCell.TheInside.{Inside}
+use Rattle.wgsl_store.specs.declared.flat.FlatPart.{FlatPart}
+
+-- ---- cells
+
+-- the value that the bytes lay out
+abbrev pub flat_value : Inside → Val
+flat_value c = decoded c.bytes.items 0 (layout c.count (type_view c.ty))
+
+-- the cell holds the value, which may be stored: as its buffer, with its type, the plan of the type and the count of
+-- its elements
+pub record Holds (c : Inside) (v : Val) : Type 0 where
+  pub typed : type_of v ≡ type_view c.ty
+  pub laid : HasLayout (type_view c.ty)
+  pub planned : plan_view c.plan ≡ plan_of (type_view c.ty)
+  pub counted : c.count ≡ runtime_count v
+  pub storable : IsStorable v
+  pub bytes : c.bytes.items ≡ buffer v
+
+-- a cell holds the value that its bytes lay out
+abbrev pub IsFlatCell : Inside → Type 0
+IsFlatCell c = Holds c (flat_value c)
+
+-- ---- parts
+
+-- the value that the bytes of the part lay out
+abbrev pub part_value : FlatPart → Val
+part_value p = decoded p.bytes.now p.located.start (layout p.located.count (shape_ty p.located.shape))
+
+-- the part is located in these bytes
+pub record IsFlatPart (p : FlatPart) : Type 0 where
+  pub there : IsLocated p.located
+  pub whole : p.located.len ≡ length p.bytes.now

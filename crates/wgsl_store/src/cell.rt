@@ -1,0 +1,305 @@
+//! Cells and the parts of them that are lent, each as bytes or as a tree (WGSL: memory locations; memory
+//! views).
+
+ghost use Rattle.std.specs.Prelude.{
+  ◌≡◌,
+  ◌↔◌,
+  Err,
+  IfErr,
+  IfOk,
+  IfSome,
+  IsOk,
+  IsOkAnd,
+  IsSomeAnd,
+  IsTrue,
+  None,
+  Ok,
+  OnErr,
+  OnOk,
+  option_map,
+};
+ghost use Rattle.std.specs.Result.{result_ok};
+ghost use Rattle.wgsl_rules.specs.Converted.{converted};
+ghost use Rattle.wgsl_rules.specs.Paths.{fits, member_named, part_at, put_viewed, viewed};
+ghost use Rattle.wgsl_rules.specs.Values.{IsStorable, IsWellFormed, type_of};
+ghost use Rattle.wgsl_rules.specs.View.{type_view};
+ghost use Rattle.wgsl_scalar.specs.Answers.{refusal_of};
+ghost use Rattle.wgsl_store.specs.Cells.{IsCell, IsPart, LeadsIn, cell_value, part_value};
+ghost use Rattle.wgsl_values.specs.View.{reference_of, steps_of, value_of};
+
+use crate::flat::{FlatCell, FlatPart};
+use crate::parts::{fits_place, indexed, member, no_part, part_viewed};
+use std::alloc::{AllocError, Global};
+use wgsl_rules::{Convert, Ty, Type};
+use wgsl_scalar::Error;
+use wgsl_values::{Instance, MemView, RefInstance};
+
+/// What a cell of a store holds.
+#[derive(Drop)]
+pub(crate) enum Cell {
+    /// A value of a type that has a layout, as its bytes.
+    Flat(FlatCell),
+    /// A value of any other type.
+    Tree(Instance),
+}
+
+/// A part of a cell, lent: as the type and the bytes tell it, or the value itself.
+#[derive(Clone, Copy)]
+pub(crate) enum Part<'a> {
+    /// A range of bytes, with its type.
+    Flat(FlatPart<'a>),
+    /// A value.
+    Tree(&'a Instance),
+}
+
+impl Cell {
+    /// A cell that holds the value: as bytes where its type has a layout. The condition: it may be
+    /// stored.
+    pub(crate) fn new(alloc: Global, value: Instance) -> Result<Cell, AllocError>
+        requires { IsStorable (value_of value) }
+        ensures value { IfOk result (λ c. cell_value c ≡ value_of value) }
+        ensures cell { IfOk result IsCell }
+    {
+        match FlatCell::new(alloc, &value)? {
+            Some(bytes) => Ok(Cell::Flat(bytes)),
+            None => Ok(Cell::Tree(value)),
+        }
+    }
+
+    /// The whole value, lent.
+    pub(crate) fn whole(&self) -> Part<'_>
+        ensures value { part_value result ≡ cell_value self.now }
+        ensures part { IsPart result }
+    {
+        match self {
+            Cell::Flat(bytes) => Part::Flat(bytes.whole()),
+            Cell::Tree(value) => Part::Tree(value),
+        }
+    }
+
+    /// Puts the value in the place of the part that the reference leads to in the cell, where it fits
+    /// there; else gives the value back, and nothing is changed. It takes no memory. The conditions:
+    /// the reference leads to a value of its type, and the value may be stored.
+    pub(crate) fn put(&mut self, reference: &RefInstance, value: Instance) -> Result<(), Instance>
+        requires cell { IsCell self.old }
+        requires leads { LeadsIn (cell_value self.old) (reference_of reference.now) }
+        requires storable { IsStorable (value_of value) }
+        ensures fit { IsOk result ↔ IsOkAnd (viewed (reference_of reference.now).view (cell_value self.old)) (λ v. IsTrue (fits (value_of value) v)) }
+        ensures ok { OnOk result (cell_value self.new ≡ put_viewed (reference_of reference.now).view (value_of value) (cell_value self.old)) }
+        ensures err { OnErr result (cell_value self.new ≡ cell_value self.old) }
+        ensures back { IfErr result (λ v. value_of v ≡ value_of value) }
+        ensures cell { IsCell self.new }
+    {
+        match self {
+            Cell::Flat(bytes) => put_bytes(bytes, reference.view(), value),
+            Cell::Tree(whole) => put_tree(whole, reference, value),
+        }
+    }
+
+    /// Puts the value in the place of the part that the reference leads to in the cell, and gives the
+    /// old part back. After want of memory nothing is changed; a tree takes none. The conditions: the
+    /// value fits there, and may be stored.
+    pub(crate) fn replace(
+        &mut self,
+        alloc: Global,
+        reference: &RefInstance,
+        value: Instance,
+    ) -> Result<Instance, AllocError>
+        requires cell { IsCell self.old }
+        requires fit { IsOkAnd (viewed (reference_of reference.now).view (cell_value self.old)) (λ v. IsTrue (fits (value_of value) v)) }
+        requires storable { IsStorable (value_of value) }
+        ensures put { OnOk result (cell_value self.new ≡ put_viewed (reference_of reference.now).view (value_of value) (cell_value self.old)) }
+        ensures old { IfOk result (λ v. viewed (reference_of reference.now).view (cell_value self.old) ≡ Ok (value_of v)) }
+        ensures err { OnErr result (cell_value self.new ≡ cell_value self.old) }
+        ensures cell { IsCell self.new }
+    {
+        match self {
+            Cell::Flat(bytes) => replace_bytes(alloc, bytes, reference.view(), value),
+            Cell::Tree(whole) => Ok(replace_tree(whole, reference.view(), value)),
+        }
+    }
+}
+
+// `Cell::put` in a cell of bytes.
+fn put_bytes(bytes: &mut FlatCell, view: &MemView, value: Instance) -> Result<(), Instance>
+    requires leads { IsOk (viewed (steps_of view.now) bytes.old) }
+    requires storable { IsStorable (value_of value) }
+    ensures fit { IsOk result ↔ IsOkAnd (viewed (steps_of view.now) bytes.old) (λ v. IsTrue (fits (value_of value) v)) }
+    ensures ok { OnOk result (bytes.new ≡ put_viewed (steps_of view.now) (value_of value) bytes.old) }
+    ensures err { OnErr result (bytes.new ≡ bytes.old) }
+    ensures back { IfErr result (λ v. value_of v ≡ value_of value) }
+{
+    if bytes.put(view, &value) {
+        Ok(())
+    } else {
+        Err(value)
+    }
+}
+
+// `Cell::put` in a cell that is a tree.
+fn put_tree(whole: &mut Instance, reference: &RefInstance, value: Instance) -> Result<(), Instance>
+    requires leads { LeadsIn (value_of whole.old) (reference_of reference.now) }
+    requires storable { IsStorable (value_of value) }
+    ensures fit { IsOk result ↔ IsOkAnd (viewed (reference_of reference.now).view (value_of whole.old)) (λ v. IsTrue (fits (value_of value) v)) }
+    ensures ok { OnOk result (value_of whole.new ≡ put_viewed (reference_of reference.now).view (value_of value) (value_of whole.old)) }
+    ensures err { OnErr result (value_of whole.new ≡ value_of whole.old) }
+    ensures back { IfErr result (λ v. value_of v ≡ value_of value) }
+{
+    let Some(part) = part_viewed(whole, reference.view()) else {
+        unreachable!()
+    };
+    if !fits_place(&value, reference.target_ty(), part) {
+        return Err(value);
+    }
+    let _ = whole.put(reference.view(), value);
+    Ok(())
+}
+
+// `Cell::replace` in a cell of bytes: the old part is read before the new one is written.
+fn replace_bytes(
+    alloc: Global,
+    bytes: &mut FlatCell,
+    view: &MemView,
+    value: Instance,
+) -> Result<Instance, AllocError>
+    requires fit { IsOkAnd (viewed (steps_of view.now) bytes.old) (λ v. IsTrue (fits (value_of value) v)) }
+    requires storable { IsStorable (value_of value) }
+    ensures put { OnOk result (bytes.new ≡ put_viewed (steps_of view.now) (value_of value) bytes.old) }
+    ensures old { IfOk result (λ v. viewed (steps_of view.now) bytes.old ≡ Ok (value_of v)) }
+    ensures err { OnErr result (bytes.new ≡ bytes.old) }
+{
+    let Some(part) = bytes.whole().viewed(view) else {
+        unreachable!()
+    };
+    let old = part.value(alloc)?;
+    if !bytes.put(view, &value) {
+        unreachable!();
+    }
+    Ok(old)
+}
+
+// `Cell::replace` in a cell that is a tree.
+fn replace_tree(whole: &mut Instance, view: &MemView, value: Instance) -> Instance
+    requires { IsOk (viewed (steps_of view.now) (value_of whole.old)) }
+    ensures put { value_of whole.new ≡ put_viewed (steps_of view.now) (value_of value) (value_of whole.old) }
+    ensures old { viewed (steps_of view.now) (value_of whole.old) ≡ Ok (value_of result) }
+{
+    match whole.put(view, value) {
+        Some(old) => old,
+        None => unreachable!(),
+    }
+}
+
+impl<'a> Part<'a> {
+    /// The first member of the name: structures alone have members.
+    pub(crate) fn member(self, name: &str) -> Option<Part<'a>>
+        requires { IsPart self }
+        ensures value { option_map part_value result ≡ option_map (λ p. p.1) (member_named name.now (part_value self.entry)) }
+        ensures part { IfSome result IsPart }
+    {
+        match self {
+            Part::Flat(part) => Some(Part::Flat(part.member(name)?)),
+            Part::Tree(value) => Some(Part::Tree(member(value, name)?)),
+        }
+    }
+
+    /// The part of the index: arrays, vectors and matrices have indexed parts.
+    pub(crate) fn index(self, i: usize) -> Option<Part<'a>>
+        requires { IsPart self }
+        ensures value { option_map part_value result ≡ option_map (λ p. p.1) (result_ok (part_at i (part_value self.entry))) }
+        ensures part { IfSome result IsPart }
+    {
+        match self {
+            Part::Flat(part) => Some(Part::Flat(part.index(i)?)),
+            Part::Tree(value) => Some(Part::Tree(indexed(value, i)?)),
+        }
+    }
+
+    /// The part that the view leads to; `None` where it leads nowhere.
+    pub(crate) fn viewed(self, view: &MemView) -> Option<Part<'a>>
+        requires { IsPart self }
+        ensures value { option_map part_value result ≡ result_ok (viewed (steps_of view.now) (part_value self.entry)) }
+        ensures part { IfSome result IsPart }
+    {
+        match self {
+            Part::Flat(part) => Some(Part::Flat(part.viewed(view)?)),
+            Part::Tree(value) => Some(Part::Tree(part_viewed(value, view)?)),
+        }
+    }
+
+    /// The type of the part. The condition: it may be stored.
+    pub(crate) fn ty(self, alloc: Global) -> Result<Type, AllocError>
+        requires part { IsPart self }
+        requires storable { IsStorable (part_value self) }
+        ensures { IfOk result (λ t. type_view t ≡ type_of (part_value self.entry)) }
+    {
+        match self {
+            Part::Flat(part) => part.ty(alloc),
+            Part::Tree(value) => value.ty(alloc),
+        }
+    }
+
+    /// Whether the part is of this type. The condition: it may be stored.
+    pub(crate) fn has_ty(self, ty: &Type) -> bool
+        requires part { IsPart self }
+        requires storable { IsStorable (part_value self) }
+        ensures { IsTrue result ↔ (type_of (part_value self.entry) ≡ type_view ty.now) }
+    {
+        match self {
+            Part::Flat(part) => part.has_ty(ty),
+            Part::Tree(value) => value.has_ty(ty),
+        }
+    }
+
+    /// A copy of the value of the part.
+    pub(crate) fn value(self, alloc: Global) -> Result<Instance, AllocError>
+        requires { IsPart self }
+        ensures { IfOk result (λ v. value_of v ≡ part_value self.entry) }
+    {
+        match self {
+            Part::Flat(part) => part.value(alloc),
+            Part::Tree(value) => value.clone(alloc),
+        }
+    }
+
+    /// Whether the value fits the place of the part, which is of the type. The condition: the value may
+    /// be stored.
+    pub(crate) fn fits(self, ty: &Type, value: &Instance) -> bool
+        requires part { IsPart self }
+        requires typed { type_of (part_value self) ≡ type_view ty.now }
+        requires storable { IsStorable (value_of value.now) }
+        ensures { result ≡ fits (value_of value.now) (part_value self.entry) }
+    {
+        match self {
+            Part::Flat(part) => part.fits(value),
+            Part::Tree(part) => fits_place(value, ty, part),
+        }
+    }
+
+    /// Why there is no part of the index: `NotIndexable`, or `OutOfBounds` past the end. The conditions:
+    /// there is none, and the part may be stored.
+    pub(crate) fn no_part(self, alloc: Global, i: usize) -> Result<Error, AllocError>
+        requires part { IsPart self }
+        requires none { result_ok (part_at i (part_value self)) ≡ None }
+        requires storable { IsStorable (part_value self) }
+        ensures { IfOk result (λ e. IsSomeAnd (refusal_of e) (λ f. part_at i (part_value self.entry) ≡ Err f)) }
+    {
+        match self {
+            Part::Flat(part) => part.no_part(alloc, i),
+            Part::Tree(value) => no_part(alloc, value, i),
+        }
+    }
+
+    /// The value of the part in the type; `None` where it does not convert to it. The condition: it is
+    /// well-formed.
+    pub(crate) fn convert_to(self, alloc: Global, ty: &Type) -> Result<Option<Instance>, AllocError>
+        requires part { IsPart self }
+        requires well_formed { IsWellFormed (part_value self) }
+        ensures { IfOk result (λ o. option_map value_of o ≡ converted (part_value self.entry) (type_view ty.now)) }
+    {
+        match self {
+            Part::Flat(part) => part.value(alloc)?.convert_to(alloc, ty),
+            Part::Tree(value) => value.convert_to(alloc, ty),
+        }
+    }
+}

@@ -1,0 +1,333 @@
+//! Cells that hold their values as bytes (WGSL: memory locations; internal layout of values).
+
+ghost use Rattle.std.specs.Prelude.{◌≡◌, ◌↔◌, IsTrue};
+ghost use Rattle.wgsl_rules.specs.Types.{vec};
+ghost use Rattle.wgsl_rules.specs.Values.{IsStorable, type_of};
+ghost use Rattle.wgsl_rules.specs.View.{type_view};
+ghost use Rattle.wgsl_values.specs.View.{vec_view};
+
+use crate::located::{Located, Shape};
+use crate::make::TypePlan;
+use crate::plan::Plan;
+use crate::reader::{read_value, read_vector};
+use crate::writer::{runtime_count, write_value, write_whole};
+use std::alloc::{AllocError, Global};
+use std::marker::Model;
+use wgsl_rules::{Ty, Type};
+use wgsl_scalar::Error;
+use wgsl_values::{Instance, MemView, VecInstance};
+
+/// The bytes of a value of a type that has a layout, in memory of their own; padding is 0. Contracts see
+/// the value.
+#[derive(Drop)]
+pub(crate) struct FlatCell {
+    ty: Type,
+    plan: Plan,
+    count: usize,
+    bytes: Vec<u8>,
+}
+
+impl Model for FlatCell {
+    ghost use Rattle.wgsl_rules.specs.Codes.{val_code};
+    ghost use Rattle.wgsl_rules.specs.Values.{Val};
+
+    ghost Value = { Val };
+
+    ghost coded = { val_code };
+
+    ghost use Rattle.wgsl_store.specs.FlatCells.{IsFlatCell, flat_value};
+
+    ghost view = { flat_value };
+
+    ghost invariant = { IsFlatCell };
+}
+
+/// A part of a cell of bytes, lent. Each call on it asks as a condition that it is located in its bytes, as
+/// [`FlatCell::whole`] and the calls that lead to further parts promise.
+#[derive(Clone, Copy)]
+pub(crate) struct FlatPart<'a> {
+    bytes: &'a [u8],
+    located: Located<'a>,
+}
+
+impl FlatCell {
+    ghost use Rattle.std.specs.Prelude.{
+      ◌≡◌,
+      ◌↔◌,
+      false,
+      IfOk,
+      IsOk,
+      IsOkAnd,
+      IsTrue,
+      MatchOption,
+    };
+    ghost use Rattle.std.specs.Bool.{OnFalse, OnTrue};
+    ghost use Rattle.wgsl_rules.specs.Layout.{has_layout};
+    ghost use Rattle.wgsl_rules.specs.Paths.{fits, put_viewed, viewed};
+    ghost use Rattle.wgsl_rules.specs.Values.{IsStorable, type_of};
+    ghost use Rattle.wgsl_store.specs.FlatCells.{IsFlatPart, part_value};
+    ghost use Rattle.wgsl_values.specs.View.{value_of, steps_of};
+
+    /// The bytes of the value; `None` where its type has no layout. The condition: the value may be stored.
+    pub(crate) fn new(alloc: Global, value: &Instance) -> Result<Option<FlatCell>, AllocError>
+        requires { IsStorable (value_of value.now) }
+        ensures { let v = value_of value.now in IfOk result (λ o. MatchOption o (has_layout (type_of v) ≡ false) (λ c. c ≡ v)) }
+    {
+        let ty = value.ty(alloc)?;
+        let of_type = TypePlan::of_type(alloc, &ty)?;
+        if !of_type.has_layout {
+            return Ok(None);
+        }
+        let bytes = write_whole(alloc, value, &of_type)?;
+        Ok(Some(FlatCell {
+            ty,
+            plan: of_type.plan,
+            count: runtime_count(value),
+            bytes,
+        }))
+    }
+
+    /// The whole value, lent.
+    pub(crate) fn whole(&self) -> FlatPart<'_>
+        ensures value { part_value result ≡ self.now }
+        ensures part { IsFlatPart result }
+    {
+        FlatPart {
+            bytes: self.bytes.as_slice(),
+            located: Located::of_whole(&self.ty, &self.plan, self.count, self.bytes.len()),
+        }
+    }
+
+    /// Puts the value in the place of the part that the view leads to, where it fits there, and says whether
+    /// it did. It takes no memory. The conditions: the value may be stored, and the view leads to a part.
+    pub(crate) fn put(&mut self, view: &MemView, value: &Instance) -> bool
+        requires storable { IsStorable (value_of value.now) }
+        requires there { IsOk (viewed (steps_of view.now) self.old) }
+        ensures fit { IsTrue result ↔ IsOkAnd (viewed (steps_of view.now) self.old) (λ v. IsTrue (fits (value_of value.now) v)) }
+        ensures put { OnTrue result (self.new ≡ put_viewed (steps_of view.now) (value_of value.now) self.old) }
+        ensures same { OnFalse result (self.new ≡ self.old) }
+    {
+        let whole = Located::of_whole(&self.ty, &self.plan, self.count, self.bytes.len());
+        let Some(part) = whole.viewed(view) else {
+            unreachable!()
+        };
+        if !part.fits(value) {
+            return false;
+        }
+        part.write(self.bytes.as_mut_slice(), value);
+        true
+    }
+}
+
+impl<'a> FlatPart<'a> {
+    ghost use Rattle.std.specs.Prelude.{
+      ◌≡◌,
+      ◌↔◌,
+      Err,
+      IfOk,
+      IfSome,
+      IsSomeAnd,
+      IsTrue,
+      None,
+      option_map,
+    };
+    ghost use Rattle.std.specs.Result.{result_ok};
+    ghost use Rattle.wgsl_rules.specs.Paths.{fits, member_named, part_at, viewed};
+    ghost use Rattle.wgsl_rules.specs.Values.{IsStorable, type_of};
+    ghost use Rattle.wgsl_rules.specs.View.{type_view};
+    ghost use Rattle.wgsl_scalar.specs.Answers.{refusal_of};
+    ghost use Rattle.wgsl_store.specs.FlatCells.{IsFlatPart, part_value};
+    ghost use Rattle.wgsl_values.specs.View.{value_of, steps_of};
+
+    /// The first member of the name: structures alone have members.
+    pub(crate) fn member(self, name: &str) -> Option<FlatPart<'a>>
+        requires { IsFlatPart self }
+        ensures value { option_map part_value result ≡ option_map (λ p. p.1) (member_named name.now (part_value self.entry)) }
+        ensures part { IfSome result IsFlatPart }
+    {
+        let located = self.located.member(name)?;
+        Some(FlatPart {
+            bytes: self.bytes,
+            located,
+        })
+    }
+
+    /// The part of the index: arrays, vectors and matrices have indexed parts.
+    pub(crate) fn index(self, i: usize) -> Option<FlatPart<'a>>
+        requires { IsFlatPart self }
+        ensures value { option_map part_value result ≡ option_map (λ p. p.1) (result_ok (part_at i (part_value self.entry))) }
+        ensures part { IfSome result IsFlatPart }
+    {
+        let located = self.located.index(i)?;
+        Some(FlatPart {
+            bytes: self.bytes,
+            located,
+        })
+    }
+
+    /// The part that the view leads to; `None` where it leads nowhere.
+    pub(crate) fn viewed(self, view: &MemView) -> Option<FlatPart<'a>>
+        requires { IsFlatPart self }
+        ensures value { option_map part_value result ≡ result_ok (viewed (steps_of view.now) (part_value self.entry)) }
+        ensures part { IfSome result IsFlatPart }
+    {
+        let located = self.located.viewed(view)?;
+        Some(FlatPart {
+            bytes: self.bytes,
+            located,
+        })
+    }
+
+    /// The type of the part.
+    pub(crate) fn ty(self, alloc: Global) -> Result<Type, AllocError>
+        requires { IsFlatPart self }
+        ensures { IfOk result (λ t. type_view t ≡ type_of (part_value self.entry)) }
+    {
+        self.located.ty(alloc)
+    }
+
+    /// Whether the part is of this type.
+    pub(crate) fn has_ty(self, ty: &Type) -> bool
+        requires { IsFlatPart self }
+        ensures { IsTrue result ↔ (type_view ty.now ≡ type_of (part_value self.entry)) }
+    {
+        self.located.has_ty(ty)
+    }
+
+    /// A copy of the value of the part.
+    pub(crate) fn value(self, alloc: Global) -> Result<Instance, AllocError>
+        requires { IsFlatPart self }
+        ensures { IfOk result (λ v. value_of v ≡ part_value self.entry) }
+    {
+        let at = self.located;
+        match at.shape {
+            Shape::Whole(ty, plan) => {
+                read_value(alloc, self.bytes, at.start, at.count, ty, plan)
+            }
+            Shape::Column(n, component, plan) => {
+                let column = read_vector(alloc, self.bytes, at.start, n, component, plan)?;
+                Ok(Instance::from(column))
+            }
+            Shape::Component(ty) => {
+                read_value(alloc, self.bytes, at.start, at.count, ty, &Plan::Scalar)
+            }
+        }
+    }
+
+    /// Whether the value fits the place of the part: it is of the part's type, and has the same paths. The
+    /// condition: the value may be stored.
+    pub(crate) fn fits(self, value: &Instance) -> bool
+        requires part { IsFlatPart self }
+        requires storable { IsStorable (value_of value.now) }
+        ensures { result ≡ fits (value_of value.now) (part_value self.entry) }
+    {
+        self.located.fits(value)
+    }
+
+    /// Why there is no part of the index: `NotIndexable`, or `OutOfBounds` past the end. The condition:
+    /// there is none.
+    pub(crate) fn no_part(self, alloc: Global, i: usize) -> Result<Error, AllocError>
+        requires part { IsFlatPart self }
+        requires none { result_ok (part_at i (part_value self)) ≡ None }
+        ensures { IfOk result (λ e. IsSomeAnd (refusal_of e) (λ f. part_at i (part_value self.entry) ≡ Err f)) }
+    {
+        let ty = self.ty(alloc)?;
+        if self.located.is_indexable() {
+            Ok(Error::OutOfBounds(i, ty, self.located.part_count()))
+        } else {
+            Ok(Error::NotIndexable(ty))
+        }
+    }
+}
+
+impl<'a> Located<'a> {
+    ghost use Rattle.std.specs.Prelude.{◌≡◌, ◌↔◌, IfSome, IsTrue, length, option_map};
+    ghost use Rattle.wgsl_rules.specs.Layout.{layout_of};
+    ghost use Rattle.wgsl_rules.specs.Values.{IsStorable, type_of};
+    ghost use Rattle.wgsl_store.specs.Located.{
+      IsInside,
+      IsLocated,
+      part_range,
+      shape_plan,
+      shape_ty,
+    };
+    ghost use Rattle.wgsl_store.specs.Ranges.{further, view_range};
+    ghost use Rattle.wgsl_store.specs.Walk.{put};
+    ghost use Rattle.wgsl_values.specs.View.{value_of, steps_of};
+
+    // The whole of a value of the type, which takes `len` bytes, by the plan of the type; with `count`
+    // elements in the runtime-sized array that the type is or ends in.
+    fn of_whole(ty: &'a Type, plan: &'a Plan, count: usize, len: usize) -> Located<'a>
+        ensures { result ≡ record { start = 0; len = len; count = count; shape = Shape.Whole ty.entry plan.entry } }
+    {
+        Located {
+            start: 0,
+            len,
+            count,
+            shape: Shape::Whole(ty, plan),
+        }
+    }
+
+    // The part that the view leads to; `None` where it leads nowhere.
+    fn viewed(self, view: &MemView) -> Option<Located<'a>>
+        requires { IsLocated self }
+        ensures range { option_map part_range result ≡ option_map (further self.entry.start) (view_range (steps_of view.now) (part_range self.entry).layout) }
+        ensures there { IfSome result (IsInside self.entry) }
+    {
+        match view {
+            MemView::Whole => Some(self),
+            MemView::Member(name, rest) => self.member(name.as_str())?.viewed(rest),
+            MemView::Index(i, rest) => self.index(*i)?.viewed(rest),
+        }
+    }
+
+    // Whether the value has the layout of the part: it is of the part's type, and has as many elements in
+    // the runtime-sized array that the type is or ends in. The condition: the value may be stored.
+    fn fits(self, value: &Instance) -> bool
+        requires located { IsLocated self }
+        requires storable { IsStorable (value_of value.now) }
+        ensures { IsTrue result ↔ (layout_of (value_of value.now) ≡ (part_range self.entry).layout) }
+    {
+        let n = runtime_count(value);
+        self.is_type_of(value) && (n == 0 || n == self.count)
+    }
+
+    // Whether the value is of the part's type. The condition: the value may be stored.
+    fn is_type_of(self, value: &Instance) -> bool
+        requires { IsStorable (value_of value.now) }
+        ensures { IsTrue result ↔ (type_of (value_of value.now) ≡ shape_ty self.entry.shape) }
+    {
+        match self.shape {
+            Shape::Whole(ty, _) | Shape::Component(ty) => value.has_ty(ty),
+            Shape::Column(n, component, _) => match value {
+                Instance::Vec(v) => is_vector_of(v, n, component),
+                Instance::Literal(_) | Instance::Struct(_) | Instance::Array(_) => false,
+                Instance::Mat(_) | Instance::Ptr(_) | Instance::Ref(_) => false,
+                Instance::Atomic(_) | Instance::Deferred(_) => false,
+            },
+        }
+    }
+
+    // Writes the value in the place of the part, of which it has the layout.
+    fn write(self, bytes: &mut [u8], value: &Instance)
+        requires located { IsLocated self }
+        requires whole { self.len ≡ length bytes.old }
+        requires storable { IsStorable (value_of value.now) }
+        requires alike { layout_of (value_of value.now) ≡ (part_range self).layout }
+        ensures { bytes.new ≡ put (value_of value.now) (shape_plan self.entry.shape) self.entry.start bytes.old }
+    {
+        match self.shape {
+            Shape::Whole(_, plan) => write_value(bytes, self.start, value, plan),
+            Shape::Column(_, _, plan) => write_value(bytes, self.start, value, plan),
+            Shape::Component(_) => write_value(bytes, self.start, value, &Plan::Scalar),
+        }
+    }
+}
+
+// Whether the vector has n components of the type. The condition: the vector may be stored.
+fn is_vector_of(value: &VecInstance, n: u8, component: &Type) -> bool
+    requires { IsStorable (vec_view value.now) }
+    ensures { IsTrue result ↔ (type_of (vec_view value.now) ≡ vec n (type_view component.now)) }
+{
+    value.n() == usize::from(n) && value[0].has_ty(component)
+}
