@@ -2,23 +2,9 @@
 # Times buffers of values: copies the repository to a scratch folder, adds a small program there, and prints
 # nanoseconds and growths of memory a call, as LLVM builds it.
 set -euo pipefail
+. "$(dirname "$0")/calls.sh"
 
-root=$(cd "$(dirname "$0")/.." && pwd)
-scratch=$(mktemp -d)
-trap 'rm -rf "$scratch"' EXIT
-crate=$scratch/crates/wgsl_bench
-mkdir -p "$crate/src" "$crate/specs" "$crate/proofs"
-cp -a "$root/crates/wgsl_rules" "$root/crates/wgsl_scalar" "$root/crates/wgsl_values" \
-    "$root/crates/wgsl_store" "$scratch/crates/"
-cat > "$scratch/crates.txt" <<'TEXT'
-wgsl_rules:
-wgsl_scalar: wgsl_rules
-wgsl_values: wgsl_rules wgsl_scalar
-wgsl_store: wgsl_rules wgsl_scalar wgsl_values
-wgsl_bench: wgsl_rules wgsl_scalar wgsl_values wgsl_store
-TEXT
-touch "$crate/specs/Lib.antt" "$crate/proofs/Lib.antt"
-
+start wgsl_rules wgsl_scalar wgsl_values wgsl_store
 cat > "$crate/src/main.rt" <<'RUST'
 //! Takes values to bytes and back again and again: the type, the way and how often are the arguments.
 #![tactic(auto)]
@@ -157,29 +143,10 @@ fn main(rt: HostRuntime) -> io::Result<()> {
 }
 RUST
 
-(cd "$crate" && rt run --backend llvm > "$scratch/log" 2>&1) || { cat "$scratch/log"; exit 1; }
-program=$crate/out/wgsl_bench
-cc -shared -fPIC -O2 -o "$scratch/refuse.so" "$root/tools/refuse/refuse.c" -ldl
-
-# How many growths the program asks for in all, of so many calls.
-growths() {
-    REFUSE_REPORT=$scratch/asked LD_PRELOAD=$scratch/refuse.so "$program" "$1" "$2" "$3" > "$scratch/answer"
-    cat "$scratch/asked"
-}
-
-# The least time of twenty short runs, in nanoseconds a call, less that of making the value.
-nanoseconds() {
-    local none some
-    none=$(for _ in {1..20}; do "$program" "$1" "$2" 0; done | sort -n | awk 'NR == 1 { print $1 }')
-    some=$(for _ in {1..20}; do "$program" "$1" "$2" "$3"; done | sort -n | awk 'NR == 1 { print $1 }')
-    awk -v none="$none" -v some="$some" -v count="$3" 'BEGIN { printf "%.0f", (some - none) / count }'
-}
-
+build
 while read -r name count; do
     for way in to from; do
-        none=$(growths "$name" "$way" 0)
-        some=$(growths "$name" "$way" 10)
-        echo "$name $way: $(nanoseconds "$name" "$way" "$count") ns, $(((some - none) / 10)) growths a call"
+        report "$count" "$name" "$way"
     done
 done <<'CASES'
 pair 50000
