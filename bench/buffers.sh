@@ -5,9 +5,12 @@ set -euo pipefail
 . "$(dirname "$0")/calls.sh"
 
 start wgsl_rules wgsl_scalar wgsl_values wgsl_store
+add_types
 cat > "$crate/src/main.rt" <<'RUST'
 //! Takes values to bytes and back again and again: the type, the way and how often are the arguments.
 #![tactic(auto)]
+
+mod types;
 
 ghost use Rattle.wgsl_rules.specs.Values.{IsWellFormed};
 ghost use Rattle.wgsl_values.specs.View.{value_of};
@@ -17,7 +20,8 @@ use std::env;
 use std::io;
 use std::process::Abort;
 use std::time::Instant;
-use wgsl_rules::{StructMemberType, StructType, Type};
+use types::{elements, members, nested, pair};
+use wgsl_rules::Type;
 use wgsl_scalar::Error;
 use wgsl_store::Buffers;
 use wgsl_values::Instance;
@@ -46,53 +50,6 @@ fn from_buffers(count: u32, alloc: Global, bytes: &[u8], ty: &Type) -> Result<u3
         }
     }
     Ok(sum)
-}
-
-fn vector(alloc: Global, n: u8) -> Result<Type, AllocError> {
-    Ok(Type::Vec(n, Box::new(alloc, Type::U32)?))
-}
-
-fn member(alloc: Global, name: &str, ty: Type) -> Result<StructMemberType, AllocError> {
-    let name = String::from_str(alloc, name)?;
-    Ok(StructMemberType { name, ty, size: None, align: None })
-}
-
-fn structure(alloc: Global, members: Vec<StructMemberType>) -> Result<Type, AllocError> {
-    let name = String::from_str(alloc, "S")?;
-    Ok(Type::Struct(Box::new(alloc, StructType { name, members })?))
-}
-
-/// struct S { a: u32, b: vec3<u32> }
-fn pair(alloc: Global) -> Result<Type, AllocError> {
-    let a = member(alloc, "a", Type::U32)?;
-    let b = member(alloc, "b", vector(alloc, 3)?)?;
-    structure(alloc, vec![in alloc; a, b]?)
-}
-
-/// array<vec4<u32>, 4096>
-fn elements(alloc: Global) -> Result<Type, AllocError> {
-    Ok(Type::Array(Box::new(alloc, vector(alloc, 4)?)?, Some(4096)))
-}
-
-/// 64 structures, each inside the next.
-fn nested(alloc: Global) -> Result<Type, AllocError> {
-    let mut ty = Type::U32;
-    for _ in 0..64 {
-        let inner = member(alloc, "a", ty)?;
-        ty = structure(alloc, vec![in alloc; inner]?)?;
-    }
-    Ok(ty)
-}
-
-/// A structure of 64 structures of one u32.
-fn members(alloc: Global) -> Result<Type, AllocError> {
-    let mut members = Vec::new(alloc);
-    for _ in 0..64 {
-        let inner = member(alloc, "a", Type::U32)?;
-        let inner = structure(alloc, vec![in alloc; inner]?)?;
-        members.push(member(alloc, "s", inner)?)?;
-    }
-    structure(alloc, members)
 }
 
 fn type_named(alloc: Global, name: &str) -> Result<Type, AllocError> {

@@ -1,3 +1,4 @@
+# shellcheck shell=bash
 # Sourced by the scripts that time calls: makes a scratch copy of the crates with a small program over them, builds
 # it, and prints what a call of it takes. They write the program to "$crate/src/main.rt" between `start` and `build`.
 # Its arguments are the words that name a call, and how often it is made; the first word that it prints is the
@@ -20,6 +21,64 @@ start() {
         below+=" $name"
     done
     echo "wgsl_bench:$below" >> "$scratch/crates.txt"
+}
+
+# Adds the module `types` to the program: the types whose values are timed.
+add_types() {
+    cat > "$crate/src/types.rt" <<'RUST'
+//! The types whose values are timed.
+
+use std::alloc::{AllocError, Global};
+use wgsl_rules::{StructMemberType, StructType, Type};
+
+fn vector(alloc: Global, n: u8) -> Result<Type, AllocError> {
+    Ok(Type::Vec(n, Box::new(alloc, Type::U32)?))
+}
+
+fn member(alloc: Global, name: &str, ty: Type) -> Result<StructMemberType, AllocError> {
+    let name = String::from_str(alloc, name)?;
+    Ok(StructMemberType { name, ty, size: None, align: None })
+}
+
+fn structure(alloc: Global, members: Vec<StructMemberType>) -> Result<Type, AllocError> {
+    let name = String::from_str(alloc, "S")?;
+    Ok(Type::Struct(Box::new(alloc, StructType { name, members })?))
+}
+
+/// struct S { a: u32, b: vec3<u32> }
+pub(crate) fn pair(alloc: Global) -> Result<Type, AllocError> {
+    let a = member(alloc, "a", Type::U32)?;
+    let b = member(alloc, "b", vector(alloc, 3)?)?;
+    structure(alloc, vec![in alloc; a, b]?)
+}
+
+/// array<vec4<u32>, 4096>
+pub(crate) fn elements(alloc: Global) -> Result<Type, AllocError> {
+    Ok(Type::Array(Box::new(alloc, vector(alloc, 4)?)?, Some(4096)))
+}
+
+/// 64 structures, each inside the next.
+pub(crate) fn nested(alloc: Global) -> Result<Type, AllocError> {
+    let mut ty = Type::U32;
+    for _ in 0..64 {
+        let inner = member(alloc, "a", ty)?;
+        ty = structure(alloc, vec![in alloc; inner]?)?;
+    }
+    Ok(ty)
+}
+
+/// A structure of 64 structures of one u32, of which the last has the name "last".
+pub(crate) fn members(alloc: Global) -> Result<Type, AllocError> {
+    let mut members = Vec::new(alloc);
+    for i in 0..64u32 {
+        let inner = member(alloc, "a", Type::U32)?;
+        let inner = structure(alloc, vec![in alloc; inner]?)?;
+        let name = if i == 63 { "last" } else { "s" };
+        members.push(member(alloc, name, inner)?)?;
+    }
+    structure(alloc, members)
+}
+RUST
 }
 
 # Builds the program by LLVM, and what counts its growths.

@@ -6,21 +6,25 @@ set -euo pipefail
 . "$(dirname "$0")/calls.sh"
 
 start wgsl_rules wgsl_scalar wgsl_values wgsl_store
+add_types
 cat > "$crate/src/main.rt" <<'RUST'
 //! Makes one call on a reference again and again: its name and how often are the arguments.
 #![tactic(auto)]
 
+mod types;
+
 ghost use Rattle.wgsl_store.specs.Memory.{IsKept};
 ghost use Rattle.wgsl_values.specs.View.{reference_of};
 
-use std::alloc::{AllocError, Global};
+use std::alloc::Global;
 use std::env;
 use std::io;
 use std::process::Abort;
 use std::time::Instant;
+use types::{elements, members, pair};
 use wgsl_rules::AccessMode::ReadWrite;
 use wgsl_rules::AddressSpace::Storage;
-use wgsl_rules::{StructMemberType, StructType, Type};
+use wgsl_rules::Type;
 use wgsl_scalar::Error;
 use wgsl_store::{Buffers, References, Store};
 use wgsl_values::{Instance, RefInstance};
@@ -76,7 +80,7 @@ fn reads_and_writes(
 }
 
 #[inline(never)]
-fn members(
+fn member_steps(
     count: u32,
     alloc: Global,
     store: &Store,
@@ -96,7 +100,7 @@ fn members(
 }
 
 #[inline(never)]
-fn elements(
+fn index_steps(
     count: u32,
     alloc: Global,
     store: &Store,
@@ -113,44 +117,6 @@ fn elements(
         }
     }
     Ok(sum)
-}
-
-fn vector(alloc: Global, n: u8) -> Result<Type, AllocError> {
-    Ok(Type::Vec(n, Box::new(alloc, Type::U32)?))
-}
-
-fn member(alloc: Global, name: &str, ty: Type) -> Result<StructMemberType, AllocError> {
-    let name = String::from_str(alloc, name)?;
-    Ok(StructMemberType { name, ty, size: None, align: None })
-}
-
-fn structure(alloc: Global, members: Vec<StructMemberType>) -> Result<Type, AllocError> {
-    let name = String::from_str(alloc, "S")?;
-    Ok(Type::Struct(Box::new(alloc, StructType { name, members })?))
-}
-
-/// struct S { a: u32, b: vec3<u32> }
-fn pair(alloc: Global) -> Result<Type, AllocError> {
-    let a = member(alloc, "a", Type::U32)?;
-    let b = member(alloc, "b", vector(alloc, 3)?)?;
-    structure(alloc, vec![in alloc; a, b]?)
-}
-
-/// array<vec4<u32>, 4096>
-fn vectors(alloc: Global) -> Result<Type, AllocError> {
-    Ok(Type::Array(Box::new(alloc, vector(alloc, 4)?)?, Some(4096)))
-}
-
-/// A structure of 64 structures of one u32, of which the last has the name "last".
-fn structures(alloc: Global) -> Result<Type, AllocError> {
-    let mut members = Vec::new(alloc);
-    for i in 0..64u32 {
-        let inner = member(alloc, "a", Type::U32)?;
-        let inner = structure(alloc, vec![in alloc; inner]?)?;
-        let name = if i == 63 { "last" } else { "s" };
-        members.push(member(alloc, name, inner)?)?;
-    }
-    structure(alloc, members)
 }
 
 /// A new cell of the type, in which each byte is 7.
@@ -204,8 +170,8 @@ fn part_calls(
         "write_number" => number_writes(count, alloc, store, part),
         "read" => reads(count, alloc, store, part),
         "read_and_write" => reads_and_writes(count, alloc, store, part),
-        "member" => members(count, alloc, store, part, "b"),
-        "index" => elements(count, alloc, store, part, 2),
+        "member" => member_steps(count, alloc, store, part, "b"),
+        "index" => index_steps(count, alloc, store, part, 2),
         _ => Ok(0),
     }
 }
@@ -229,11 +195,11 @@ fn part_named(
             element_of(rt, alloc, store, &vector, 2)
         }
         "element" => {
-            let whole = cell(rt, alloc, store, &vectors(alloc)?)?;
+            let whole = cell(rt, alloc, store, &elements(alloc)?)?;
             element_of(rt, alloc, store, &whole, 4000)
         }
         _ => {
-            let whole = cell(rt, alloc, store, &structures(alloc)?)?;
+            let whole = cell(rt, alloc, store, &members(alloc)?)?;
             member_of(rt, alloc, store, &whole, "last")
         }
     }
