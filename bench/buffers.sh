@@ -2,26 +2,15 @@
 # Times buffers of values: copies the repository to a scratch folder, adds a small program there, and prints
 # nanoseconds and growths of memory a call, as LLVM builds it.
 set -euo pipefail
+. "$(dirname "$0")/calls.sh"
 
-root=$(cd "$(dirname "$0")/.." && pwd)
-scratch=$(mktemp -d)
-trap 'rm -rf "$scratch"' EXIT
-crate=$scratch/crates/wgsl_bench
-mkdir -p "$crate/src" "$crate/specs" "$crate/proofs"
-cp -a "$root/crates/wgsl_rules" "$root/crates/wgsl_scalar" "$root/crates/wgsl_values" \
-    "$root/crates/wgsl_store" "$scratch/crates/"
-cat > "$scratch/crates.txt" <<'TEXT'
-wgsl_rules:
-wgsl_scalar: wgsl_rules
-wgsl_values: wgsl_rules wgsl_scalar
-wgsl_store: wgsl_rules wgsl_scalar wgsl_values
-wgsl_bench: wgsl_rules wgsl_scalar wgsl_values wgsl_store
-TEXT
-touch "$crate/specs/Lib.antt" "$crate/proofs/Lib.antt"
-
+start wgsl_rules wgsl_scalar wgsl_values wgsl_store
+add_types
 cat > "$crate/src/main.rt" <<'RUST'
 //! Takes values to bytes and back again and again: the type, the way and how often are the arguments.
 #![tactic(auto)]
+
+mod types;
 
 ghost use Rattle.wgsl_rules.specs.Values.{IsWellFormed};
 ghost use Rattle.wgsl_values.specs.View.{value_of};
@@ -31,7 +20,8 @@ use std::env;
 use std::io;
 use std::process::Abort;
 use std::time::Instant;
-use wgsl_rules::{StructMemberType, StructType, Type};
+use types::{elements, members, nested, pair};
+use wgsl_rules::Type;
 use wgsl_scalar::Error;
 use wgsl_store::Buffers;
 use wgsl_values::Instance;
@@ -60,53 +50,6 @@ fn from_buffers(count: u32, alloc: Global, bytes: &[u8], ty: &Type) -> Result<u3
         }
     }
     Ok(sum)
-}
-
-fn vector(alloc: Global, n: u8) -> Result<Type, AllocError> {
-    Ok(Type::Vec(n, Box::new(alloc, Type::U32)?))
-}
-
-fn member(alloc: Global, name: &str, ty: Type) -> Result<StructMemberType, AllocError> {
-    let name = String::from_str(alloc, name)?;
-    Ok(StructMemberType { name, ty, size: None, align: None })
-}
-
-fn structure(alloc: Global, members: Vec<StructMemberType>) -> Result<Type, AllocError> {
-    let name = String::from_str(alloc, "S")?;
-    Ok(Type::Struct(Box::new(alloc, StructType { name, members })?))
-}
-
-/// struct S { a: u32, b: vec3<u32> }
-fn pair(alloc: Global) -> Result<Type, AllocError> {
-    let a = member(alloc, "a", Type::U32)?;
-    let b = member(alloc, "b", vector(alloc, 3)?)?;
-    structure(alloc, vec![in alloc; a, b]?)
-}
-
-/// array<vec4<u32>, 4096>
-fn elements(alloc: Global) -> Result<Type, AllocError> {
-    Ok(Type::Array(Box::new(alloc, vector(alloc, 4)?)?, Some(4096)))
-}
-
-/// 64 structures, each inside the next.
-fn nested(alloc: Global) -> Result<Type, AllocError> {
-    let mut ty = Type::U32;
-    for _ in 0..64 {
-        let inner = member(alloc, "a", ty)?;
-        ty = structure(alloc, vec![in alloc; inner]?)?;
-    }
-    Ok(ty)
-}
-
-/// A structure of 64 structures of one u32.
-fn members(alloc: Global) -> Result<Type, AllocError> {
-    let mut members = Vec::new(alloc);
-    for _ in 0..64 {
-        let inner = member(alloc, "a", Type::U32)?;
-        let inner = structure(alloc, vec![in alloc; inner]?)?;
-        members.push(member(alloc, "s", inner)?)?;
-    }
-    structure(alloc, members)
 }
 
 fn type_named(alloc: Global, name: &str) -> Result<Type, AllocError> {
@@ -157,29 +100,10 @@ fn main(rt: HostRuntime) -> io::Result<()> {
 }
 RUST
 
-(cd "$crate" && rt run --backend llvm > "$scratch/log" 2>&1) || { cat "$scratch/log"; exit 1; }
-program=$crate/out/wgsl_bench
-cc -shared -fPIC -O2 -o "$scratch/refuse.so" "$root/tools/refuse/refuse.c" -ldl
-
-# How many growths the program asks for in all, of so many calls.
-growths() {
-    REFUSE_REPORT=$scratch/asked LD_PRELOAD=$scratch/refuse.so "$program" "$1" "$2" "$3" > "$scratch/answer"
-    cat "$scratch/asked"
-}
-
-# The least time of twenty short runs, in nanoseconds a call, less that of making the value.
-nanoseconds() {
-    local none some
-    none=$(for _ in {1..20}; do "$program" "$1" "$2" 0; done | sort -n | awk 'NR == 1 { print $1 }')
-    some=$(for _ in {1..20}; do "$program" "$1" "$2" "$3"; done | sort -n | awk 'NR == 1 { print $1 }')
-    awk -v none="$none" -v some="$some" -v count="$3" 'BEGIN { printf "%.0f", (some - none) / count }'
-}
-
+build
 while read -r name count; do
     for way in to from; do
-        none=$(growths "$name" "$way" 0)
-        some=$(growths "$name" "$way" 10)
-        echo "$name $way: $(nanoseconds "$name" "$way" "$count") ns, $(((some - none) / 10)) growths a call"
+        report "$count" "$name" "$way"
     done
 done <<'CASES'
 pair 50000

@@ -3,21 +3,9 @@
 # nanoseconds and growths of memory a call, as LLVM builds it. A call that writes through a view is timed with
 # the test of its condition, which is timed alone too.
 set -euo pipefail
+. "$(dirname "$0")/calls.sh"
 
-root=$(cd "$(dirname "$0")/.." && pwd)
-scratch=$(mktemp -d)
-trap 'rm -rf "$scratch"' EXIT
-crate=$scratch/crates/wgsl_bench
-mkdir -p "$crate/src" "$crate/specs" "$crate/proofs"
-cp -a "$root/crates/wgsl_rules" "$root/crates/wgsl_scalar" "$root/crates/wgsl_values" "$scratch/crates/"
-cat > "$scratch/crates.txt" <<'TEXT'
-wgsl_rules:
-wgsl_scalar: wgsl_rules
-wgsl_values: wgsl_rules wgsl_scalar
-wgsl_bench: wgsl_rules wgsl_scalar wgsl_values
-TEXT
-touch "$crate/specs/Lib.antt" "$crate/proofs/Lib.antt"
-
+start wgsl_rules wgsl_scalar wgsl_values
 cat > "$crate/src/main.rt" <<'RUST'
 //! Makes one call on values again and again: its name and how often are the arguments.
 #![tactic(auto)]
@@ -259,26 +247,8 @@ fn main(rt: HostRuntime) -> io::Result<()> {
 }
 RUST
 
-(cd "$crate" && rt run --backend llvm > "$scratch/log" 2>&1) || { cat "$scratch/log"; exit 1; }
-program=$crate/out/wgsl_bench
-cc -shared -fPIC -O2 -o "$scratch/refuse.so" "$root/tools/refuse/refuse.c" -ldl
-
-# How many growths the program asks for in all, of so many calls.
-growths() {
-    REFUSE_REPORT=$scratch/asked LD_PRELOAD=$scratch/refuse.so "$program" "$1" "$2" > "$scratch/answer"
-    cat "$scratch/asked"
-}
-
-# The least time of forty short runs, in nanoseconds a call: other programs disturb few of them.
-nanoseconds() {
-    for _ in {1..40}; do
-        "$program" "$1" "$2"
-    done | sort -n | awk -v count="$2" 'NR == 1 { printf "%.1f", $1 / count }'
-}
-
+build
 for name in member get matrix_get lend_vector view is_well_formed is_well_formed_and_view_mut put \
     clone_vector clone_struct text_of_struct; do
-    none=$(growths "$name" 0)
-    some=$(growths "$name" 1000)
-    echo "$name: $(nanoseconds "$name" 50000) ns, $(((some - none) / 1000)) growths a call"
+    report 50000 "$name"
 done

@@ -164,7 +164,7 @@ struct Places {
     element: RefInstance,
 }
 
-fn places(rt: &impl Abort, alloc: Global, store: &mut Store) -> Result<Places, Error> {
+fn make_places(rt: &impl Abort, alloc: Global, store: &mut Store) -> Result<Places, Error> {
     let pair = Instance::from(pair_value(rt, alloc)?);
     let whole = new(rt, alloc, store, pair, ReadWrite)?;
     let vector = view_member(rt, alloc, store, &whole, "b")?;
@@ -191,7 +191,7 @@ fn values(rt: &impl Abort, alloc: Global) -> Result<(Instance, Instance), AllocE
 fn an_accepted_write_takes_no_memory(rt: HostRuntime) -> Result<(), Fail> {
     let alloc = rt.alloc();
     let mut store = Store::new(alloc);
-    let Ok(places) = places(&rt, alloc, &mut store) else {
+    let Ok(places) = make_places(&rt, alloc, &mut store) else {
         return Ok(());
     };
     let Ok((pair, vector)) = values(&rt, alloc) else {
