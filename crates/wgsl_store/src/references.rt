@@ -9,6 +9,7 @@ ghost use Rattle.std.specs.Prelude.{
   IfErr,
   OnOk,
   OnErr,
+  IsOk,
   None,
   string_bytes,
 };
@@ -89,12 +90,17 @@ pub trait References: Sized {
 
     /// Puts the value in the place of the part. Refusals in order: `NotWrite` without write access,
     /// `WriteRefType`, the type of the value first, where the value does not fit: it is of another
-    /// type, or has other paths, as a runtime-sized array of another length has.
+    /// type, or has other paths, as a runtime-sized array of another length has. An accepted write
+    /// takes no memory, so it is never answered with `Memory`; `WriteRefType` takes memory, for its
+    /// types.
     fn write(&self, alloc: Global, store: &mut Store, value: Instance) -> Result<(), Error>
         requires kept { IsKept store.old (reference_of self.now) }
         requires storable { IsStorable (value_of value) }
         requires held { HoldsValue store.old (value_of value) }
         ensures outcome { Gives (λ _. store.new) result (written store.old (reference_of self.now) (value_of value)) }
+
+        // An accepted write takes no memory.
+        ensures accepted { IsOk (written store.old (reference_of self.now) (value_of value)) → IsOk result }
         ensures err { OnErr result (store.new ≡ store.old) }
         ensures sound { OnOk result (IsSound store.new) }
         ensures kept { (r : Reference) → IsKept store.old r → IsKept store.new r };

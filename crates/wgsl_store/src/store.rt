@@ -44,6 +44,7 @@ impl Store {
       length,
       IfOk,
       IfSome,
+      IsOk,
       IsOkAnd,
       IsTrue,
       OnOk,
@@ -171,8 +172,9 @@ impl Store {
         }
     }
 
-    /// The part that the reference names, where the value fits its place; else `WriteRefType`. The
-    /// conditions: the reference is kept, and the value may be stored.
+    /// The part that the reference names, where the value fits its place; else `WriteRefType`. Memory
+    /// is taken for that refusal alone. The conditions: the reference is kept, and the value may be
+    /// stored.
     pub(crate) fn replaceable(
         &self,
         alloc: Global,
@@ -181,7 +183,8 @@ impl Store {
     ) -> Result<&Instance, Error>
         requires kept { IsKept self.now (reference_of reference.now) }
         requires storable { IsStorable (value_of value.now) }
-        ensures { Gives (λ v. value_of v.now) result (fitting (held self.now) (reference_of reference.now) (value_of value.now)) }
+        ensures outcome { Gives (λ v. value_of v.now) result (fitting (held self.now) (reference_of reference.now) (value_of value.now)) }
+        ensures accepted { IsOk (fitting (held self.now) (reference_of reference.now) (value_of value.now)) → IsOk result }
     {
         let part = self.part(reference);
         let ty = reference.target_ty();

@@ -8,4 +8,4 @@ pub returns-clause-outcome : goal.returns-clause-outcome
 returns-clause-outcome c =
     let can : can_write (reference_of c.args.self.now).access ≡ true = ap can_write (sym c.access.ensures) ∙ sym c.is_write.ensures ∙ c.if-not-is_write.false in
     read_written-is c.args.store.now c.replace.new.self (reference_of c.args.self.now) (value_of c.args.value) (value_of c.in_ok-replaceable.field-0.now) (value_of c.replace.result)
-    can c.in_ok-replaceable.ensures c.replace.ensures.old c.replace.ensures.put
+    can c.in_ok-replaceable.ensures.outcome c.replace.ensures.old c.replace.ensures.put
