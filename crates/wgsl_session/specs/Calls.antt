@@ -125,6 +125,11 @@ IsReached reached before after (Some a) = reached ≡ record { state = after; an
 abbrev pub IsStep : State Val → Call → State Val → Option Answer → Type 0
 IsStep before call after answer = IsReached (step (of_values before.cells) before call) before after answer
 
+-- the call is a write whose step accepts it
+abbrev pub IsAcceptedWrite : State Val → Call → Type 0
+IsAcceptedWrite s (write h w) = (step (of_values s.cells) s (write h w)).answer ≡ done
+IsAcceptedWrite s call = ⊥
+
 -- one step for each call, in order, with one answer each
 abbrev pub IsRunOf : {S : Type 0} → (S → Call → S → Option Answer → Type 0) → S → List Call → S → List (Option Answer) → Type 0
 IsRunOf IsOne before [] after answers = (answers ≡ []) × (after ≡ before)

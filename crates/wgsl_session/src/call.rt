@@ -32,7 +32,7 @@ pub enum Call {
     Read(usize),
     /// Writes the value to what the handle names. Refusals in order: `NotWrite` without write access,
     /// `WriteRefType` where the value is of another type, or has other paths, as a runtime-sized array
-    /// of another length has.
+    /// of another length has. One that is accepted takes no memory.
     Write(usize, Instance),
     /// Writes the value to what the handle names, and answers the old value; write access alone is
     /// needed. Refusals in order: `NotReadWrite` without it, `WriteRefType` as in a write.

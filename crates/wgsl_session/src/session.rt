@@ -36,11 +36,12 @@ impl Model for Session {
 }
 
 impl Session {
-    ghost use Rattle.std.specs.Prelude.{◌≡◌, [], IfOk, IfSome, OnErr, map, option_map, slice_get, string_bytes};
+    ghost use Rattle.std.specs.Prelude.{◌≡◌, [], IfOk, IfSome, IsOk, OnErr, map, option_map, slice_get, string_bytes};
     ghost use Rattle.wgsl_rules.specs.Values.{Val};
     ghost use Rattle.wgsl_session.specs.Calls as model;
     ghost use Rattle.wgsl_session.specs.Calls.{
       AreSoundCalls,
+      IsAcceptedWrite,
       IsGood,
       IsReached,
       IsRun,
@@ -84,13 +85,16 @@ impl Session {
     /// Makes one call, and answers it. The condition: the call is sound, as [`Call::is_sound`] tests.
     /// Refusals in order: `NoHandle` where a handle that it names is not there; then those of [`Call`],
     /// each within [`Fault::Of`]. Want of memory is `Memory` there. After any of these no cell and no
-    /// handle has changed, and none is new.
+    /// handle has changed, and none is new. A [`Call::Write`] that is accepted takes no memory, so it
+    /// is never answered with `Memory`.
     pub fn call(&mut self, call: Call) -> Result<Reply, Fault>
         requires { IsSoundCall (call_of call) }
         ensures step { IsStep self.old (call_of call) self.new (answer_of result) }
         // The same in the memory of bytes that the cells stand for.
         ensures bytes { IsFlatStep (flat_of self.old) (call_of call) (flat_of self.new) (answer_of result) }
         ensures good { IsGood self.new }
+        // A write that is accepted is made, whatever memory there is.
+        ensures accepted { IsAcceptedWrite self.old (call_of call) → IsOk result }
         // What is read may be stored again, and is held.
         ensures content { IfOk result (IsContentReply self.new.cells) }
     {
@@ -130,6 +134,7 @@ impl Session {
     fn answer(&mut self, call: Call) -> Result<Reply, Fault>
         requires { IsSoundCall (call_of call) }
         ensures step { IsStep self.old (call_of call) self.new (answer_of result) }
+        ensures accepted { IsAcceptedWrite self.old (call_of call) → IsOk result }
         ensures content { IfOk result (IsContentReply self.new.cells) }
     {
         match call {
@@ -232,6 +237,7 @@ impl Session {
     fn write(&mut self, handle: usize, value: Instance) -> Result<Reply, Fault>
         requires { IsContent self.old.cells (value_of value) }
         ensures step { IsStep self.old (model.write handle (value_of value)) self.new (answer_of result) }
+        ensures accepted { IsAcceptedWrite self.old (model.write handle (value_of value)) → IsOk result }
         ensures content { IfOk result (IsContentReply self.new.cells) }
     {
         let Some(reference) = reference_at(&self.handles, handle) else {
