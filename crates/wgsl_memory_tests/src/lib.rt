@@ -1,5 +1,5 @@
-//! Tests of buffers, stores, references and sessions, which stand in a crate of their own: a crate is proved a second
-//! time with its tests, and tests of several crates are proved side by side.
+//! Tests of buffers, stores, references and sessions, which stand in a crate of their own: a crate is proved a second time with
+//! its tests, and tests of several crates are proved side by side.
 #![tactic(auto)]
 
 #[cfg(test)]

@@ -1,5 +1,5 @@
-//! Tests of types, literals and values, which stand in a crate of their own: a crate is proved a second time with its
-//! tests, and tests of several crates are proved side by side.
+//! Tests of values, their views and their texts, which stand in a crate of their own: a crate is proved a second time with
+//! its tests, and tests of several crates are proved side by side.
 #![tactic(auto)]
 
 #[cfg(test)]

@@ -1,14 +1,8 @@
-//! What public calls on types, literals and values answer.
+//! What public calls on values answer.
 
-mod conversions;
-mod errors;
 mod growth;
 mod instances;
-mod literals;
-mod operators;
 mod signatures;
-mod sizes;
-mod types;
 mod value_texts;
 mod value_types;
 mod views;
