@@ -1,4 +1,4 @@
-use Rattle.std.proofs.Common.{List, [], ◌∷◌, map}
+use Rattle.std.proofs.Common.{[], ◌∷◌, map}
 use Rattle.std.proofs.lemmas.List.Elements.{All-append}
 use Rattle.wgsl_values.specs.View.{value_of}
 use Rattle.wgsl_store.specs.Cells.{IsCell, cell_value}

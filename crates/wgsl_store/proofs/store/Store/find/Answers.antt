@@ -1,4 +1,4 @@
-use Rattle.std.proofs.Common.{◌≡◌, option_map, Some, slice_get, ap, ◌∙◌}
+use Rattle.std.proofs.Common.{◌≡◌, Some, slice_get, ap, ◌∙◌}
 use Rattle.wgsl_values.specs.View.{steps_of, reference_of}
 use Rattle.wgsl_store.specs.Cells.{part_value}
 use Rattle.wgsl_store.proofs.StoreCells.{found-content, found-held}

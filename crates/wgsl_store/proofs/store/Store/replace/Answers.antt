@@ -1,4 +1,4 @@
-use Rattle.std.proofs.Common.{◌≡◌, List, map, slice_set, Ok, subst, sym}
+use Rattle.std.proofs.Common.{◌≡◌, map, slice_set, Ok, subst, sym}
 use Rattle.std.proofs.lemmas.List.Elements.{All-set}
 use Rattle.std.specs.Prelude.{IfOk, IsTrue}
 use Rattle.wgsl_rules.specs.Paths.{fits, viewed}
