@@ -1,12 +1,7 @@
-//! What public calls on buffers, stores, references and sessions answer.
+//! What public calls on stores, references and sessions answer.
 
-mod buffers;
 mod cells;
 mod growth;
-mod parts;
 mod plain_memory;
-mod readme;
 mod references;
 mod sessions;
-mod texts;
-mod values;

@@ -14,7 +14,7 @@ ghost use Rattle.wgsl_values.specs.View.{
 use crate::types::{array, matrix, member, pair, pair_type, struct_type};
 use std::alloc::{AllocError, Global};
 use std::process::Abort;
-use wgsl_rules::{AccessMode, AddressSpace, StructType, Type};
+use wgsl_rules::{AccessMode, AddressSpace, StructMemberType, StructType, Type};
 use wgsl_values::{
     ArrayInstance, AtomicInstance, Instance, MatInstance, MemView, PtrInstance, RefInstance,
     StructInstance, VecInstance,
@@ -239,4 +239,27 @@ pub fn one_of_each_kind(rt: &impl Abort, alloc: Global) -> Result<Vec<Instance>,
     values.push(Instance::from(atomic_from(rt, alloc, Instance::from(5u32))?))?;
     values.push(Instance::from(Type::U32))?;
     Ok(values)
+}
+
+/// A structure of two members, each given by its type and its value.
+pub fn two(
+    rt: &impl Abort,
+    alloc: Global,
+    first: (StructMemberType, Instance),
+    second: (StructMemberType, Instance),
+) -> Result<Instance, AllocError>
+    ensures { IfOk result (λ v. IsWellFormed (value_of v)) }
+{
+    let ty = struct_type(alloc, "S", vec![in alloc; first.0, second.0]?)?;
+    let value = structure_from(rt, ty, vec![in alloc; first.1, second.1]?);
+    Ok(storable(rt, Instance::from(value)))
+}
+
+/// The bytes of the words, each little-endian.
+pub fn bytes_of(alloc: Global, words: &[u32]) -> Result<Vec<u8>, AllocError> {
+    let mut bytes = Vec::new(alloc);
+    for word in words {
+        bytes.extend_from_slice(&word.to_le_bytes())?;
+    }
+    Ok(bytes)
 }

@@ -2,6 +2,7 @@
 
 mod growth;
 mod instances;
+mod parts;
 mod signatures;
 mod value_texts;
 mod value_types;

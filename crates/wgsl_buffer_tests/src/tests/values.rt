@@ -1,20 +1,12 @@
 //! Values: what they are read from, their copies and their types.
 
-use std::alloc::{AllocError, Global};
+use std::alloc::Global;
 use std::test::Fail;
 use wgsl_rules::{Ty, Type};
 use wgsl_samples::types::vector;
+use wgsl_samples::values::bytes_of;
 use wgsl_store::Buffers;
 use wgsl_values::Instance;
-
-/// The bytes of the numbers, each little-endian.
-pub(super) fn bytes_of(alloc: Global, numbers: &[u32]) -> Result<Vec<u8>, AllocError> {
-    let mut bytes = Vec::new(alloc);
-    for n in numbers {
-        bytes.extend_from_slice(&n.to_le_bytes())?;
-    }
-    Ok(bytes)
-}
 
 /// The value of the type whose bytes are those of the numbers.
 pub(super) fn value_of(alloc: Global, numbers: &[u32], ty: &Type) -> Result<Instance, Fail> {

@@ -8,24 +8,15 @@ use std::alloc::{AllocError, Global};
 use std::process::Abort;
 use std::test::Fail;
 use wgsl_rules::{StructMemberType, Ty, Type};
-use wgsl_samples::types::{array, member, pair, struct_type, structure, vector};
+use wgsl_samples::types::{array, member, pair, structure, vector};
 use wgsl_samples::values::{
-    array_from, array_of, atomic_from, mat2x3, pair_value, reference_of, storable, structure_from,
+    array_from, array_of, atomic_from, bytes_of, mat2x3, pair_value, reference_of, storable, two,
     vector_from, vector_of,
 };
 use wgsl_scalar::LiteralInstance;
 use wgsl_scalar::LiteralInstance::{I32, I64, U32, U64};
 use wgsl_store::Buffers;
 use wgsl_values::Instance;
-
-/// The bytes of the words, each little-endian.
-pub(super) fn bytes_of(alloc: Global, words: &[u32]) -> Result<Vec<u8>, AllocError> {
-    let mut bytes = Vec::new(alloc);
-    for word in words {
-        bytes.extend_from_slice(&word.to_le_bytes())?;
-    }
-    Ok(bytes)
-}
 
 /// Asserts that the value goes to these bytes, and back.
 fn assert_bytes(rt: &impl Abort, alloc: Global, value: &Instance, bytes: &[u8]) -> Result<(), Fail>
@@ -89,20 +80,6 @@ fn aligned(
     let mut aligned = member(alloc, name, ty, None)?;
     aligned.align = Some(align);
     Ok(aligned)
-}
-
-/// A structure of two members, each given by its type and its value.
-pub(super) fn two(
-    rt: &impl Abort,
-    alloc: Global,
-    first: (StructMemberType, Instance),
-    second: (StructMemberType, Instance),
-) -> Result<Instance, AllocError>
-    ensures { IfOk result (λ v. IsWellFormed (value_of v)) }
-{
-    let ty = struct_type(alloc, "S", vec![in alloc; first.0, second.0]?)?;
-    let value = structure_from(rt, ty, vec![in alloc; first.1, second.1]?);
-    Ok(storable(rt, Instance::from(value)))
 }
 
 #[test]
