@@ -1,4 +1,4 @@
-//! Tests of stores, references and sessions, which stand in a crate of their own: a crate is proved a second time with
+//! Tests of buffers, stores, references and sessions, which stand in a crate of their own: a crate is proved a second time with
 //! its tests, and tests of several crates are proved side by side.
 #![tactic(auto)]
 

@@ -1,7 +1,12 @@
-//! What public calls on stores, references and sessions answer.
+//! What public calls on buffers, stores, references and sessions answer.
 
+mod buffers;
 mod cells;
 mod growth;
 mod plain_memory;
+mod readme;
 mod references;
+mod samples;
 mod sessions;
+mod texts;
+mod values;

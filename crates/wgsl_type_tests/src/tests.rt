@@ -1,6 +1,5 @@
-//! What public calls on types and literals answer, and conversions.
+//! What public calls on types and literals answer.
 
-mod conversions;
 mod errors;
 mod growth;
 mod literals;

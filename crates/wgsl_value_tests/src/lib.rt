@@ -1,4 +1,4 @@
-//! Tests of values, their views and their texts, which stand in a crate of their own: a crate is proved a second time with
+//! Tests of values, their views, texts and conversions, which stand in a crate of their own: a crate is proved a second time with
 //! its tests, and tests of several crates are proved side by side.
 #![tactic(auto)]
 

@@ -1,13 +1,14 @@
 //! Cells whose type has a layout, and cells whose type has none: the bytes of what is written through references.
 
 use crate::tests::references::{assert_reads, bytes_at, new, read, view_member, write};
+use crate::tests::samples::{storable, two, vector_of};
 use std::alloc::Global;
 use std::process::Abort;
 use std::test::Fail;
 use wgsl_rules::AccessMode::ReadWrite;
 use wgsl_rules::Type;
 use wgsl_samples::types::{member, vector};
-use wgsl_samples::values::{bytes_of, storable, two, vector_of};
+use wgsl_samples::values::bytes_of;
 use wgsl_store::{Buffers, Store};
 use wgsl_values::{Instance, RefInstance};
 

@@ -1,5 +1,6 @@
 //! Runs in which memory may be refused at any growth: they accept either answer, and check what must
 //! be so after each.
 
+mod buffers;
 mod references;
 mod sessions;

@@ -1,12 +1,12 @@
 //! Long lists of calls on a session, against a plain memory of words.
 
+use crate::tests::samples::{array_from, vector_of};
 use crate::tests::sessions::call;
 use std::alloc::{AllocError, Global};
 use std::process::Abort;
 use std::test::Fail;
 use wgsl_rules::AccessMode::ReadWrite;
 use wgsl_rules::AddressSpace::Storage;
-use wgsl_samples::values::{array_from, vector_of};
 use wgsl_session::{Call, Fault, Reply, Session};
 use wgsl_values::Instance;
 

@@ -1,5 +1,6 @@
 //! Stores, and calls on references to parts of their cells. Each call here tests its conditions first.
 
+use crate::tests::samples::{array_of, pair_value, structure_from, vector_of};
 use std::alloc::{AllocError, Global};
 use std::process::Abort;
 use std::test::Fail;
@@ -7,7 +8,6 @@ use wgsl_rules::AccessMode::{Read, ReadWrite, Write};
 use wgsl_rules::AddressSpace::Storage;
 use wgsl_rules::{AccessMode, AddressSpace, Type};
 use wgsl_samples::types::{member, struct_type};
-use wgsl_samples::values::{array_of, pair_value, structure_from, vector_of};
 use wgsl_scalar::Error;
 use wgsl_store::{Buffers, Loads, References, Show, Store};
 use wgsl_values::{Instance, MemView, PtrInstance, RefInstance};

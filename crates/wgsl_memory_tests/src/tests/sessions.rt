@@ -3,13 +3,14 @@
 ghost use Rattle.wgsl_session.specs.Calls.{IsSoundCall};
 ghost use Rattle.wgsl_session.specs.View.{call_of};
 
+use crate::tests::samples::{pair_value, vector_of};
 use std::alloc::{AllocError, Global};
 use std::process::Abort;
 use std::test::Fail;
 use wgsl_rules::AccessMode::{Read, ReadWrite};
 use wgsl_rules::AddressSpace::{Function, Storage};
 use wgsl_rules::Type;
-use wgsl_samples::values::{pair_value, reference_of, vector_of};
+use wgsl_samples::values::reference_of;
 use wgsl_scalar::{BuiltinReason, Error};
 use wgsl_session::{Call, Fault, Reply, Session};
 use wgsl_values::{Instance, PtrInstance};

@@ -1,14 +1,15 @@
 //! Values: when they can be made, what they are made from, when they are equal and may be stored.
 
+use crate::tests::samples::{
+    array_of, atomic_from, mat2x3, mat3x2, one_of_each_kind, pair_value, twins, vector_from,
+    vector_of,
+};
 use std::alloc::{AllocError, Global};
 use std::process::Abort;
 use std::test::Fail;
 use wgsl_rules::{AccessMode, AddressSpace, Type};
 use wgsl_samples::types::{pair_type, struct_type, vector};
-use wgsl_samples::values::{
-    array_of, atomic_from, integers, mat2x3, mat3x2, member_then_index, numbers, one_of_each_kind,
-    pair_value, reference_of, twins, vector_from, vector_of,
-};
+use wgsl_samples::values::{integers, member_then_index, numbers, reference_of};
 use wgsl_scalar::LiteralInstance::{AbstractInt, Bool, I32, I64, U32, U64};
 use wgsl_values::{
     ArrayInstance, AtomicInstance, Instance, MatInstance, MemView, PtrInstance, RefInstance,

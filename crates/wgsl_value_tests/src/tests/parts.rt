@@ -1,12 +1,10 @@
 //! The parts of values: each lent, each lent to be written, each in its turn.
 
+use crate::tests::samples::{array_of, atomic_from, mat2x3, mat3x2, pair_value, twins, vector_of};
 use std::test::Fail;
 use wgsl_rules::{AccessMode, AddressSpace, Type};
 use wgsl_samples::types::pair_type;
-use wgsl_samples::values::{
-    array_of, atomic_from, mat2x3, mat3x2, member_then_index, numbers, pair_value, reference_of,
-    twins, vector_of,
-};
+use wgsl_samples::values::{member_then_index, numbers, reference_of};
 use wgsl_values::{Instance, PtrInstance, RefInstance};
 
 #[test]

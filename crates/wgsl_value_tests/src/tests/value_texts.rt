@@ -1,13 +1,12 @@
 //! The texts of values of all kinds.
 
+use crate::tests::samples::{array_of, atomic_from, mat2x3, pair_value, vector_of};
 use std::alloc::{AllocError, Global};
 use std::process::Abort;
 use std::test::Fail;
 use wgsl_rules::Type;
 use wgsl_samples::types::vector;
-use wgsl_samples::values::{
-    array_of, atomic_from, integers, mat2x3, member_then_index, pair_value, reference_of, vector_of,
-};
+use wgsl_samples::values::{integers, member_then_index, reference_of};
 use wgsl_values::{ArrayInstance, Instance, MemView, PtrInstance};
 
 fn assert_text(

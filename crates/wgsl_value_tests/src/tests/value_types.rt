@@ -3,14 +3,13 @@
 ghost use Rattle.wgsl_rules.specs.Values.{IsWellFormed};
 ghost use Rattle.wgsl_values.specs.View.{value_of};
 
+use crate::tests::samples::{array_of, atomic_from, mat2x3, pair_value, storable, vector_of};
 use std::alloc::{AllocError, Global};
 use std::process::Abort;
 use std::test::Fail;
 use wgsl_rules::{AccessMode, AddressSpace, Ty, Type};
 use wgsl_samples::types::{array, matrix, pair, reference, vector};
-use wgsl_samples::values::{
-    array_of, atomic_from, mat2x3, pair_value, reference_of, storable, vector_of,
-};
+use wgsl_samples::values::reference_of;
 use wgsl_values::{Instance, PtrInstance};
 
 /// Asserts the type and the inner type of what has one.

@@ -3,14 +3,13 @@
 ghost use Rattle.wgsl_rules.specs.Values.{IsWellFormed};
 ghost use Rattle.wgsl_values.specs.View.{value_of};
 
+use crate::tests::samples::{array_of, light, pair_value, storable, vector_from, vector_of};
 use std::alloc::{AllocError, Global};
 use std::process::Abort;
 use std::test::Fail;
 use wgsl_rules::Type;
 use wgsl_samples::types::{array, matrix, pair, vector};
-use wgsl_samples::values::{
-    array_of, integers, light, member_then_index, pair_value, storable, vector_from, vector_of,
-};
+use wgsl_samples::values::{integers, member_then_index};
 use wgsl_scalar::Error;
 use wgsl_values::{
     Instance, MemView, Placed, a_part_replaced_is_storable, texts_tell_values_apart,

@@ -3,13 +3,13 @@
 use crate::tests::references::{
     convert_loaded, loaded, new, read, read_write, show, view_index, view_member, write,
 };
+use crate::tests::samples::{abstract_vector, array_of, pair_value, pair_with, vector_of};
 use std::alloc::{AllocError, Global};
 use std::process::Abort;
 use std::test::Fail;
 use wgsl_rules::AccessMode::ReadWrite;
 use wgsl_rules::Type;
 use wgsl_samples::types::vector;
-use wgsl_samples::values::{abstract_vector, array_of, pair_value, pair_with, vector_of};
 use wgsl_scalar::Error;
 use wgsl_store::Store;
 use wgsl_values::{Instance, RefInstance};

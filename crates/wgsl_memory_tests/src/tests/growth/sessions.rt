@@ -5,13 +5,13 @@ ghost use Rattle.std.specs.Prelude.{IfOk, map};
 ghost use Rattle.wgsl_session.specs.Calls.{AreSoundCalls};
 ghost use Rattle.wgsl_session.specs.View.{call_of};
 
+use crate::tests::samples::{pair_value, pair_with};
 use crate::tests::sessions::sound;
 use std::alloc::{AllocError, Global};
 use std::process::Abort;
 use std::test::Fail;
 use wgsl_rules::AccessMode::ReadWrite;
 use wgsl_rules::AddressSpace::Storage;
-use wgsl_samples::values::{pair_value, pair_with};
 use wgsl_scalar::Error;
 use wgsl_session::{Call, Fault, Reply, Session};
 use wgsl_values::Instance;

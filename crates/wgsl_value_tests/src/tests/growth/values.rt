@@ -1,14 +1,14 @@
 //! Making, copies, types and texts of values.
 
+use crate::tests::samples::{
+    array_of, atomic_from, mat2x3, mat3x2, one_of_each_kind, pair_value, storable, vector_of,
+};
 use std::alloc::{AllocError, Global};
 use std::process::Abort;
 use std::test::Fail;
 use wgsl_rules::{Ty, Type};
 use wgsl_samples::types::{array, pair, vector};
-use wgsl_samples::values::{
-    array_of, atomic_from, mat2x3, mat3x2, numbers, one_of_each_kind, pair_value, reference_of,
-    storable, vector_of,
-};
+use wgsl_samples::values::{numbers, reference_of};
 use wgsl_scalar::Error;
 use wgsl_scalar::LiteralInstance::{I32, U32};
 use wgsl_values::{AtomicInstance, Instance, PtrInstance, VecInstance};

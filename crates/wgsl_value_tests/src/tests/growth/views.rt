@@ -1,12 +1,12 @@
 //! Views: their copies, their steps, and what they are refused.
 
+use crate::tests::samples::{light, mat2x3, storable};
 use crate::tests::views::{refusal_to_write, to_component, to_member};
 use std::alloc::{AllocError, Global};
 use std::process::Abort;
 use std::test::Fail;
 use wgsl_rules::Type;
 use wgsl_samples::types::matrix;
-use wgsl_samples::values::{light, mat2x3, storable};
 use wgsl_scalar::Error;
 use wgsl_values::{Instance, MemView};
 

@@ -1,5 +1,8 @@
 //! Conversions of values and types: want of memory is told as such, and never as no conversion.
 
+use crate::tests::samples::{
+    abstract_array, abstract_vector, array_of, pair_value, storable, vector_of,
+};
 use std::alloc::{AllocError, Global};
 use std::process::Abort;
 use std::test::Fail;
@@ -7,9 +10,6 @@ use wgsl_rules::{
     Convert, Type, convert, convert_all, convert_all_inner_to, convert_all_to, convert_inner,
 };
 use wgsl_samples::types::{array, pair, vector};
-use wgsl_samples::values::{
-    abstract_array, abstract_vector, array_of, pair_value, storable, vector_of,
-};
 use wgsl_values::Instance;
 
 /// What the call answers; it is made again where it wants memory, since one growth alone is refused.

@@ -1,15 +1,16 @@
 //! Conversions of literals, types and values.
 
+use crate::tests::samples::{
+    abstract_array, abstract_mat2x3, abstract_vector, array_from, mat2x3, pair_value, storable,
+    vector_from, vector_of,
+};
 use std::test::Fail;
 use wgsl_rules::{
     AccessMode, Convert, Type, convert, convert_all, convert_all_inner_to, convert_all_to,
     convert_inner,
 };
 use wgsl_samples::types::{array, matrix, pair, reference, vector};
-use wgsl_samples::values::{
-    abstract_array, abstract_mat2x3, abstract_vector, array_from, integers, mat2x3, pair_value,
-    reference_of, storable, vector_from, vector_of,
-};
+use wgsl_samples::values::{integers, reference_of};
 use wgsl_scalar::LiteralInstance;
 use wgsl_scalar::LiteralInstance::{AbstractInt, I32, I64, U32};
 use wgsl_values::Instance;

@@ -4,15 +4,15 @@ ghost use Rattle.std.specs.Prelude.{IfOk};
 ghost use Rattle.wgsl_rules.specs.Values.{IsWellFormed};
 ghost use Rattle.wgsl_values.specs.View.{value_of};
 
+use crate::tests::samples::{
+    array_from, array_of, atomic_from, mat2x3, pair_value, storable, two, vector_from, vector_of,
+};
 use std::alloc::{AllocError, Global};
 use std::process::Abort;
 use std::test::Fail;
 use wgsl_rules::{StructMemberType, Ty, Type};
 use wgsl_samples::types::{array, member, pair, structure, vector};
-use wgsl_samples::values::{
-    array_from, array_of, atomic_from, bytes_of, mat2x3, pair_value, reference_of, storable, two,
-    vector_from, vector_of,
-};
+use wgsl_samples::values::{bytes_of, reference_of};
 use wgsl_scalar::LiteralInstance;
 use wgsl_scalar::LiteralInstance::{I32, I64, U32, U64};
 use wgsl_store::Buffers;

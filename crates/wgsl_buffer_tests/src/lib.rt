@@ -1,6 +1,0 @@
-//! Tests of buffers, and of texts of values that are read from them, which stand in a crate of their own: a crate is proved a second time with
-//! its tests, and tests of several crates are proved side by side.
-#![tactic(auto)]
-
-#[cfg(test)]
-mod tests;
