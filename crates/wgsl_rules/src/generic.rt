@@ -42,15 +42,15 @@ pub fn convert<T: Convert + Drop>(alloc: Global, a: &T, b: &T) -> Result<Option<
 
 /// Both values with their inner types taken to the common one, as [`convert_ty`] finds it, where
 /// both convert so.
-pub fn convert_inner<T1: Convert + Drop, T2: Convert + Drop>(
+pub fn convert_inner<A: Convert + Drop, B: Convert + Drop>(
     alloc: Global,
-    a: &T1,
-    b: &T2,
-) -> Result<Option<(T1, T2)>, AllocError>
-    requires first { IsWellFormed (T1.value_of a.now) }
-    requires second { IsWellFormed (T2.value_of b.now) }
-    ensures value { IfOk result (λ o. option_map (pair_view T1.value_of T2.value_of) o ≡ inner_in_common T1.converted_inner T2.converted_inner (T1.value_of a.now) (T2.value_of b.now)) }
-    ensures well_formed { IfOk result (λ o. IfSome o (λ p. IsWellFormed (T1.value_of p.0) × IsWellFormed (T2.value_of p.1))) }
+    a: &A,
+    b: &B,
+) -> Result<Option<(A, B)>, AllocError>
+    requires first { IsWellFormed (A.value_of a.now) }
+    requires second { IsWellFormed (B.value_of b.now) }
+    ensures value { IfOk result (λ o. option_map (pair_view A.value_of B.value_of) o ≡ inner_in_common A.converted_inner B.converted_inner (A.value_of a.now) (B.value_of b.now)) }
+    ensures well_formed { IfOk result (λ o. IfSome o (λ p. IsWellFormed (A.value_of p.0) × IsWellFormed (B.value_of p.1))) }
 {
     let left = a.inner_ty(alloc)?;
     let right = b.inner_ty(alloc)?;
