@@ -26,7 +26,7 @@ impl Ty for LiteralInstance {
 /// A literal converts as [`LiteralInstance::to_kind`] says, and is itself what is inside it.
 impl Convert for LiteralInstance {
     ghost use Rattle.wgsl_rules.specs.Converted.{converted, inner_converted};
-    ghost use Rattle.wgsl_rules.proofs.Converted.{
+    ghost use Rattle.wgsl_rules.proofs.lemmas.Converted.{
       converted-type,
       converted-well_formed,
       converted-own,

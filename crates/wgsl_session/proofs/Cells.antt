@@ -6,7 +6,7 @@ use Rattle.wgsl_rules.specs.Types.{Ty}
 use Rattle.wgsl_rules.specs.Values.{Step, Reference, Val, type_of, IsStorable}
 use Rattle.wgsl_rules.specs.Refusals.{not_read, Outcome, and_then}
 use Rattle.wgsl_rules.specs.Paths.{viewed, put_tree, put_viewed, fits, FitsPlace, or_refused}
-use Rattle.wgsl_rules.proofs.Paths.{fits-Decides}
+use Rattle.wgsl_rules.proofs.lemmas.Paths.{fits-Decides}
 use Rattle.wgsl_rules.specs.Layout.{has_layout, amount, layout, layout_of, runtime_count, layout_len, type_in}
 use Rattle.wgsl_store.specs.Buffers.{buffer, decode}
 use Rattle.wgsl_store.specs.Ranges.{Range, range_in, view_range, bytes_in, overwritten}

@@ -9,7 +9,7 @@ use Rattle.wgsl_rules.specs.Same.{same_number}
 use Rattle.wgsl_rules.specs.Types as types
 use Rattle.wgsl_rules.specs.Types.{Ty}
 use Rattle.wgsl_rules.specs.Values.{Reference, Val, number, array_of, vector, matrix, deferred, Vals, no_vals, val, count, IsStorable, IsWellFormed}
-use Rattle.wgsl_rules.proofs.Converted.{mapped, joins, keeps, converted-well_formed}
+use Rattle.wgsl_rules.proofs.lemmas.Converted.{mapped, joins, keeps, converted-well_formed}
 use Rattle.wgsl_store.proofs.Answered.{well-formed}
 use Rattle.wgsl_store.specs.Memory.{AllKept, HoldsValue, references, references_in}
 

@@ -16,7 +16,7 @@ use Rattle.wgsl_rules.specs.Paths.{index_named, placed, or_refused, part_at as p
 use Rattle.wgsl_rules.specs.Size.{offset_after, end_after, extent_in}
 use Rattle.wgsl_rules.specs.View.{type_view, struct_view as struct_type_view, member_view, members_view}
 use Rattle.wgsl_rules.specs.Layout.{amount, size, align, stride, scalar_kind, atomic_kind, has_fixed_layout, Layout, Parts, no_parts, part, length_in, repeated, leaf, layout, member_parts}
-use Rattle.wgsl_rules.proofs.Views.{struct_view-is}
+use Rattle.wgsl_rules.proofs.lemmas.Views.{struct_view-is}
 use Rattle.wgsl_rules.specs.declared.ty.StructMemberType.{StructMemberType}
 use Rattle.wgsl_rules.specs.declared.ty.StructType.{StructType, out-StructType}
 use Rattle.wgsl_store.specs.Located.{range_behind, number_of_parts, is_indexable}

@@ -12,8 +12,8 @@ use Rattle.wgsl_rules.specs.View.{Field, type_view, member_view, members_view}
 use Rattle.wgsl_rules.specs.declared.measures.Measures.{Measures}
 use Rattle.wgsl_rules.specs.declared.measures.MemberMeasures.{MemberMeasures}
 use Rattle.wgsl_rules.specs.declared.ty.StructMemberType.{StructMemberType}
-use Rattle.wgsl_rules.proofs.Members.{next, ends}
-use Rattle.wgsl_rules.proofs.Views.{member_view-is}
+use Rattle.wgsl_rules.proofs.lemmas.Members.{next, ends}
+use Rattle.wgsl_rules.proofs.lemmas.Views.{member_view-is}
 use Rattle.wgsl_values.specs.View.{value_of, vals_view}
 use Rattle.wgsl_values.specs.declared.inst.Instance.{Instance}
 use Rattle.wgsl_values.proofs.lemmas.Nodes.{nodes}

@@ -14,7 +14,7 @@ use Rattle.wgsl_rules.specs.Values.{Val, Vals, no_vals, val, array_of, vector, m
 use Rattle.wgsl_rules.specs.Size.{size_of, offset_after, end_after, extent_in}
 use Rattle.wgsl_rules.specs.View.{type_view, struct_view as struct_type_view, member_view, members_view}
 use Rattle.wgsl_rules.specs.Layout.{amount, size, align, stride, scalar_kind, leaf, is_from_2_to_4, has_fixed_layout, have_fixed_layouts, is_runtime_array, end_in_runtime_array, has_runtime_layout, has_layout, HasLayout, Tail, tail_of, at_least_one, count_with, count_in, layout_len, length_with, known_stride, Layout, layout, length_in, repeated, member_parts}
-use Rattle.wgsl_rules.proofs.Views.{struct_view-is}
+use Rattle.wgsl_rules.proofs.lemmas.Views.{struct_view-is}
 use Rattle.wgsl_rules.specs.declared.ty.StructMemberType.{StructMemberType}
 use Rattle.wgsl_rules.specs.declared.ty.StructType.{StructType, out-StructType}
 use Rattle.wgsl_values.specs.View.{value_of, vals_view}

@@ -8,7 +8,7 @@ use Rattle.wgsl_rules.specs.Layout.{has_layout}
 use Rattle.wgsl_rules.specs.Values.{Step, Reference, Val, type_of}
 use Rattle.wgsl_rules.specs.Refusals.{not_read, Outcome, and_then}
 use Rattle.wgsl_rules.specs.Paths.{or_refused, viewed, put_tree, put_viewed, fits}
-use Rattle.wgsl_rules.proofs.Paths.{fits-Decides}
+use Rattle.wgsl_rules.proofs.lemmas.Paths.{fits-Decides}
 use Rattle.wgsl_store.specs.Memory.{held, references, IsContent, IsSound, at_position, put_cells}
 use Rattle.wgsl_store.proofs.lemmas.Held.{has-cell, has-path, held-value}
 use Rattle.wgsl_store.proofs.lemmas.Places.{put-type}

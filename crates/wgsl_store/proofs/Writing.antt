@@ -6,7 +6,7 @@ use Rattle.wgsl_rules.specs.Values.{Val, vector, Vals, no_vals, val, count, item
 use Rattle.wgsl_values.specs.View.{value_of, vals_view}
 use Rattle.wgsl_values.specs.declared.inst.Instance.{Instance}
 use Rattle.wgsl_values.proofs.lemmas.Nodes.{nodes, all_nodes, part-smaller}
-use Rattle.wgsl_values.proofs.Views.{item_within}
+use Rattle.wgsl_values.proofs.lemmas.Views.{item_within}
 use Rattle.wgsl_store.specs.Plan.{Plan, Places, no_places, plan_view, places_view}
 use Rattle.wgsl_store.specs.Walk.{put, put_row, put_members, Stands, StandInRow, StandAsMembers}
 use Rattle.wgsl_store.specs.declared.plan.Place.{«Place» as CodePlace}

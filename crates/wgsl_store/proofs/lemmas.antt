@@ -12,6 +12,7 @@ pub mod Known
 pub mod Leaves
 pub mod LikeViews
 pub mod Loads
+pub mod Made
 pub mod Numbers
 pub mod Overwritten
 pub mod Padding

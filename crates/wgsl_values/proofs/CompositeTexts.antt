@@ -3,7 +3,7 @@ use Rattle.std.proofs.Common.{◌≡◌, ℕ, ◌+◌, ◌<◌, ◌==◌, List, 
 use Rattle.std.specs.List.{flat_map, join_by}
 use Rattle.std.specs.Prelude.{decimal}
 use Rattle.wgsl_rules.specs.declared.ty.StructType.{out-StructType}
-use Rattle.wgsl_rules.proofs.Views.{struct_view-is as struct_type_view-is}
+use Rattle.wgsl_rules.proofs.lemmas.Views.{struct_view-is as struct_type_view-is}
 use Rattle.wgsl_values.specs.declared.inst.Instance.{Instance}
 use Rattle.wgsl_values.specs.declared.inst.ArrayInstance.{ArrayInstance}
 use Rattle.wgsl_values.specs.declared.inst.MatInstance.{MatInstance}
@@ -14,7 +14,7 @@ use Rattle.wgsl_values.specs.Matrices.{row_count}
 use Rattle.wgsl_values.specs.Texts.{text_of_value, text_of_items, text_of_more_items, text_before_item}
 use Rattle.wgsl_values.specs.View.{value_of, array_view, mat_view, struct_view, vec_view, vals_view}
 use Rattle.wgsl_values.proofs.Joined.{joined_more}
-use Rattle.wgsl_values.proofs.Views.{array_view-is, mat_view-is, struct_view-is, vec_view-is, count-vals_view}
+use Rattle.wgsl_values.proofs.lemmas.Views.{array_view-is, mat_view-is, struct_view-is, vec_view-is, count-vals_view}
 
 pub text_of_struct : (s : StructInstance) → text_of_value (struct_view s) ≡ string_bytes (out-StructType s.ty).name ++ (codes "(" ++ (text_of_items (vals_view s.members.items) ++ codes ")"))
 text_of_struct s = rw (struct_view-is s, struct_type_view-is s.ty) refl

@@ -1,7 +1,7 @@
 -- Conversions of values, part by part.
 use Rattle.std.proofs.Common.{◌≡◌, ◌∙◌, ◌↔◌, ℕ, zero, suc, ◌+◌, ◌<◌, List, [], ◌∷◌, ◌++◌, get_or, take, length, Bool, true, false, ◌&&◌, IsTrue, Option, Some, None, is_some, refl, sym, ap, arith, add-one}
 use Rattle.std.proofs.lemmas.Bool.Decides.{same_from_decides}
-use Rattle.wgsl_rules.proofs.CommonTypes.{rank-array, rank-vec}
+use Rattle.wgsl_rules.proofs.lemmas.CommonTypes.{rank-array, rank-vec}
 use Rattle.wgsl_rules.specs.Access.{can_read}
 use Rattle.wgsl_rules.specs.Conversion.{rank, unequal_rank, zero_if, only_if}
 use Rattle.wgsl_rules.specs.Converted.{converted, all_converted, joined, kept}
@@ -14,7 +14,7 @@ use Rattle.wgsl_rules.specs.declared.syntax.AddressSpace.{AddressSpace}
 use Rattle.wgsl_rules.specs.declared.syntax.AccessMode.{AccessMode}
 use Rattle.wgsl_scalar.specs.Literals.{literal_of}
 use Rattle.wgsl_scalar.specs.declared.literal.LiteralInstance.{LiteralInstance}
-use Rattle.wgsl_values.proofs.Views.{struct_view-is, value_of-Literal, value_of-Vec}
+use Rattle.wgsl_values.proofs.lemmas.Views.{struct_view-is, value_of-Literal, value_of-Vec}
 use Rattle.wgsl_values.specs.View.{value_of, struct_view, vals_view, vec_view}
 use Rattle.wgsl_values.specs.declared.inst.Instance.{Instance, Literal, Vec}
 use Rattle.wgsl_values.specs.declared.inst.VecInstance.{VecInstance}

@@ -7,7 +7,7 @@ use Rattle.wgsl_values.specs.declared.inst.Instance.{Instance}
 use Rattle.wgsl_values.specs.declared.inst.ArrayInstance.{ArrayInstance}
 use Rattle.wgsl_values.specs.declared.inst.MatInstance.{MatInstance}
 use Rattle.wgsl_values.specs.declared.inst.VecInstance.{VecInstance}
-use Rattle.wgsl_values.proofs.Views.{array_view-is, mat_view-is, vec_view-is, count-vals_view, item_within}
+use Rattle.wgsl_values.proofs.lemmas.Views.{array_view-is, mat_view-is, vec_view-is, count-vals_view, item_within}
 
 pub elements_counted : (a : ArrayInstance) (n : ℕ) → n ≡ vec_len a.components → n ≡ count (parts (array_view a))
 elements_counted a n e = rw (array_view-is a) (e ∙ a.components.ok.0 ∙ sym (count-vals_view a.components.items))

@@ -15,7 +15,7 @@ use Rattle.wgsl_values.specs.View.{value_of, vals_view}
 use Rattle.wgsl_values.specs.declared.inst.Instance.{Instance}
 use Rattle.wgsl_values.specs.declared.inst.Instance.TheVariants as inst
 use Rattle.wgsl_values.proofs.Typed.{first_type-at}
-use Rattle.wgsl_values.proofs.Views.{value_of-Literal, count-vals_view}
+use Rattle.wgsl_values.proofs.lemmas.Views.{value_of-Literal, count-vals_view}
 
 pub vals_view-literals : (ls : List LiteralInstance) → vals_view (map (λ l. inst.Literal l) ls) ≡ literals_view ls
 vals_view-literals [] = refl

@@ -11,7 +11,7 @@ use Rattle.wgsl_rules.specs.declared.syntax.AccessMode.{AccessMode}
 use Rattle.wgsl_values.specs.View.{value_of, vals_view, array_view}
 use Rattle.wgsl_values.specs.declared.inst.Instance.{Instance}
 use Rattle.wgsl_values.specs.declared.inst.ArrayInstance.{ArrayInstance}
-use Rattle.wgsl_values.proofs.Views.{array_view-is, count-vals_view}
+use Rattle.wgsl_values.proofs.lemmas.Views.{array_view-is, count-vals_view}
 
 -- ---- tests one after the other
 

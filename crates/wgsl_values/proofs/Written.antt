@@ -18,7 +18,7 @@ use Rattle.wgsl_values.specs.declared.inst.ArrayInstance.{ArrayInstance}
 use Rattle.wgsl_values.specs.declared.inst.MatInstance.{MatInstance}
 use Rattle.wgsl_values.specs.declared.inst.StructInstance.{StructInstance}
 use Rattle.wgsl_values.specs.declared.inst.VecInstance.{VecInstance}
-use Rattle.wgsl_values.proofs.Views.{array_view-is, mat_view-is, struct_view-is, vec_view-is, value_of-Vec, vals_view-set}
+use Rattle.wgsl_values.proofs.lemmas.Views.{array_view-is, mat_view-is, struct_view-is, vec_view-is, value_of-Vec, vals_view-set}
 use Rattle.wgsl_values.proofs.lemmas.Steps.{part_at-array, part_at-vector, part_at-matrix, with_part-own, with_inner_part-is}
 
 -- what holds anyway holds where something was lent

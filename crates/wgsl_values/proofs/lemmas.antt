@@ -3,3 +3,4 @@ pub mod Nodes
 pub mod PutTwice
 pub mod Replaced
 pub mod Steps
+pub mod Views

@@ -156,7 +156,7 @@ impl RefInstance {
 /// nothing inside that converts, nor has a structure. A reference is not loaded.
 impl Convert for Instance {
     ghost use Rattle.wgsl_rules.specs.Converted.{converted, inner_converted};
-    ghost use Rattle.wgsl_rules.proofs.Converted.{
+    ghost use Rattle.wgsl_rules.proofs.lemmas.Converted.{
       converted-type,
       converted-well_formed,
       converted-own,
@@ -204,7 +204,7 @@ impl Convert for Instance {
 /// A structure converts to its own type alone.
 impl Convert for StructInstance {
     ghost use Rattle.wgsl_rules.specs.Converted.{converted};
-    ghost use Rattle.wgsl_rules.proofs.Converted.{
+    ghost use Rattle.wgsl_rules.proofs.lemmas.Converted.{
       converted-type,
       converted-well_formed,
       converted-own,
@@ -282,7 +282,7 @@ impl ArrayInstance {
 /// by element.
 impl Convert for ArrayInstance {
     ghost use Rattle.wgsl_rules.specs.Converted.{converted, inner_converted};
-    ghost use Rattle.wgsl_rules.proofs.Converted.{
+    ghost use Rattle.wgsl_rules.proofs.lemmas.Converted.{
       converted-type,
       converted-well_formed,
       converted-own,
@@ -361,7 +361,7 @@ impl VecInstance {
 /// A vector converts to a vector type of its size, component by component.
 impl Convert for VecInstance {
     ghost use Rattle.wgsl_rules.specs.Converted.{converted, inner_converted};
-    ghost use Rattle.wgsl_rules.proofs.Converted.{
+    ghost use Rattle.wgsl_rules.proofs.lemmas.Converted.{
       converted-type,
       converted-well_formed,
       converted-own,
@@ -457,7 +457,7 @@ impl MatInstance {
 /// A matrix converts to a matrix type of its shape, scalar by scalar.
 impl Convert for MatInstance {
     ghost use Rattle.wgsl_rules.specs.Converted.{converted, inner_converted};
-    ghost use Rattle.wgsl_rules.proofs.Converted.{
+    ghost use Rattle.wgsl_rules.proofs.lemmas.Converted.{
       converted-type,
       converted-well_formed,
       converted-own,

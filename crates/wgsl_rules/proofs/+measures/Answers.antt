@@ -7,8 +7,8 @@ use Rattle.wgsl_rules.specs.Measures.{AreMeasuresOf, AreMeasuresOfMember}
 use Rattle.wgsl_rules.specs.View.{Field, type_view, member_view, members_view}
 use Rattle.wgsl_rules.specs.declared.measures.Measures.{Measures}
 use Rattle.wgsl_rules.specs.declared.ty.StructMemberType.{StructMemberType}
-use Rattle.wgsl_rules.proofs.Members.{next, ends}
-use Rattle.wgsl_rules.proofs.Views.{member_view-is}
+use Rattle.wgsl_rules.proofs.lemmas.Members.{next, ends}
+use Rattle.wgsl_rules.proofs.lemmas.Views.{member_view-is}
 use Rattle.wgsl_rules.proofs.+measures.Goals as goal
 
 pub measures::measure_members-loop-member-preserved : goal.measures::measure_members-loop-member-preserved

@@ -3,7 +3,7 @@ use Rattle.std.specs.Prelude.{◌&&◌}
 use Rattle.wgsl_rules.specs.Size.{extents, greatest_align, end_of_members}
 use Rattle.wgsl_rules.specs.Layout.{have_fixed_layouts, end_in_runtime_array}
 use Rattle.wgsl_rules.specs.View.{members_view}
-use Rattle.wgsl_rules.proofs.Members.{ends}
+use Rattle.wgsl_rules.proofs.lemmas.Members.{ends}
 use Rattle.wgsl_rules.proofs.+measures.Given as goal
 
 abbrev pub invariant-measures::measure_members-loop-member : goal.invariant-measures::measure_members-loop-member

@@ -8,7 +8,7 @@ use Rattle.wgsl_rules.specs.Types.{Ty}
 use Rattle.wgsl_rules.specs.Values.{Step, Val, Vals, no_vals, val, item, type_of, IsStorable}
 use Rattle.wgsl_rules.specs.Refusals.{Outcome}
 use Rattle.wgsl_rules.specs.Paths.{parts, value_at, viewed, put_tree, put_viewed, fits, FitsPlace}
-use Rattle.wgsl_rules.proofs.Paths.{fits-Decides}
+use Rattle.wgsl_rules.proofs.lemmas.Paths.{fits-Decides}
 use Rattle.wgsl_values.proofs.lemmas.Replaced.{a_part_replaced}
 use Rattle.wgsl_rules.specs.Layout.{has_fixed_layout, has_runtime_layout, has_layout, layout, layout_of, runtime_count, count_in, length_in, type_in, Layout, Parts, no_parts, part, leaves}
 use Rattle.wgsl_store.specs.Buffers.{number_at, byte_at, buffer, decoded, decode}

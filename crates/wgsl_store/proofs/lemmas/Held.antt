@@ -4,7 +4,7 @@ use Rattle.std.specs.Prelude.{IsOkAnd, IsSomeAnd, MatchResult}
 use Rattle.wgsl_rules.specs.Values.{Step, Reference, Val, record_of, array_of, vector, matrix, Vals, no_vals, val, item, type_of}
 use Rattle.wgsl_rules.specs.Refusals.{not_read, Outcome, and_then}
 use Rattle.wgsl_rules.specs.Paths.{parts, value_at, path_of, viewed, or_refused}
-use Rattle.wgsl_rules.proofs.Paths.{view-leads}
+use Rattle.wgsl_rules.proofs.lemmas.Paths.{view-leads}
 use Rattle.wgsl_store.specs.Memory.{held, IsKept, AllKept, references, references_in, IsContent, AreContents, IsSound}
 use Rattle.wgsl_store.proofs.lemmas.Places.{part-storable}
 

@@ -9,7 +9,7 @@ use Rattle.wgsl_store.specs.Laws.{APutOverwritesItsRange}
 use Rattle.wgsl_store.proofs.lemmas.Tidy.{tidy}
 use Rattle.wgsl_store.proofs.lemmas.Ranges.{range-is, length-bytes}
 use Rattle.wgsl_store.proofs.lemmas.Puts.{put-overwrites}
-use Rattle.wgsl_rules.proofs.Paths.{put-held, put-apart}
+use Rattle.wgsl_rules.proofs.lemmas.Paths.{put-held, put-apart}
 use Rattle.wgsl_store.proofs.lemmas.Follows.{follows, path-leads}
 use Rattle.wgsl_store.proofs.lemmas.Places.{put-type, put-count, fits-count, part-storable}
 use Rattle.wgsl_store.proofs.lemmas.Compose.{numbers-below}

@@ -9,7 +9,7 @@ use Rattle.wgsl_rules.specs.declared.syntax.AddressSpace.{AddressSpace}
 use Rattle.wgsl_rules.specs.declared.syntax.AccessMode.{AccessMode}
 use Rattle.wgsl_rules.specs.Refusals.{Refusal, not_read, write_ref_type, Outcome, and_then}
 use Rattle.wgsl_rules.specs.Paths.{parts, stepped, viewed, replace_item, with_parts, put_tree, put_viewed, fits, FitsPlace}
-use Rattle.wgsl_rules.proofs.Paths.{fits-Decides}
+use Rattle.wgsl_rules.proofs.lemmas.Paths.{fits-Decides}
 use Rattle.wgsl_values.proofs.lemmas.Replaced.{a_part_replaced}
 use Rattle.wgsl_store.specs.Memory.{held, IsKept, AllKept, references, references_in, HoldsValue, IsContent, AreContents, IsSound, at_position, put_cells}
 use Rattle.wgsl_store.specs.ReferenceCalls.{going_on, read, deeper, old_value, read_on, load, loaded, whole_of_new}

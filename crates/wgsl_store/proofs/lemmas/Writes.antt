@@ -5,7 +5,7 @@ use Rattle.wgsl_rules.specs.Access.{can_read, can_write}
 use Rattle.wgsl_rules.specs.Values.{Reference, Val, record_of, array_of, vector, matrix, Vals, no_vals, val, item, type_of, IsStorable}
 use Rattle.wgsl_rules.specs.Refusals.{not_read, not_write, write_ref_type, Outcome, and_then}
 use Rattle.wgsl_rules.specs.Paths.{parts, value_at, path_of, viewed, replace_item, with_parts, put_tree, put_viewed, fits, or_refused, FitsPlace}
-use Rattle.wgsl_rules.proofs.Paths.{fits-Decides, put-held}
+use Rattle.wgsl_rules.proofs.lemmas.Paths.{fits-Decides, put-held}
 use Rattle.wgsl_values.proofs.lemmas.PutTwice.{put-twice}
 use Rattle.wgsl_values.proofs.lemmas.Replaced.{a_part_replaced}
 use Rattle.wgsl_store.specs.Memory.{held, IsSound, at_position, put_cells}

@@ -7,7 +7,7 @@ use Rattle.wgsl_rules.specs.Values.{Step, Reference, Val, record_of, array_of, v
 use Rattle.wgsl_rules.specs.Refusals.{not_read, not_write, write_ref_type, Outcome, and_then}
 use Rattle.wgsl_rules.specs.Paths.{parts, value_at, path_of, viewed, replace_item, with_parts, put_tree, put_viewed, fits, FitsPlace, or_refused}
 use Rattle.wgsl_rules.specs.Laws.{Begins, Apart}
-use Rattle.wgsl_rules.proofs.Paths.{fits-Decides, put-apart}
+use Rattle.wgsl_rules.proofs.lemmas.Paths.{fits-Decides, put-apart}
 use Rattle.wgsl_values.proofs.lemmas.Replaced.{a_part_replaced}
 use Rattle.wgsl_store.specs.Memory.{held, IsKept, IsSound, at_position, put_cells}
 use Rattle.wgsl_store.specs.ReferenceCalls.{written}

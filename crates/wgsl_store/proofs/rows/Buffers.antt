@@ -6,7 +6,7 @@ use Rattle.wgsl_rules.specs.Values.{Val, number, record_of, array_of, vector, ma
 use Rattle.wgsl_rules.specs.Paths.{fits}
 use Rattle.wgsl_rules.specs.Layout.{count_in, layout}
 use Rattle.wgsl_store.specs.Buffers.{buffer_of, decode, without_padding}
-use Rattle.wgsl_store.proofs.rows.Made.{word, all, plain, words3, longs3, words, longs, zeros}
+use Rattle.wgsl_store.proofs.lemmas.Made.{word, all, plain, words3, longs3, words, longs, zeros}
 
 -- u32, vec3<u32>
 abbrev pair : Ty

@@ -4,7 +4,7 @@ use Rattle.wgsl_rules.specs.Values.{IsStorable, IsLiteral, IsVector, type_of}
 use Rattle.wgsl_values.specs.View.{value_of}
 use Rattle.wgsl_values.specs.declared.inst.Instance.{Instance}
 use Rattle.wgsl_values.proofs.Made.{decides-next, of_members-counts, of_members-here, of_members-rest, of_members-more, vector-made, matrix-made, storable-here, above_zero}
-use Rattle.wgsl_values.proofs.Views.{value_of-Literal, count-vals_view}
+use Rattle.wgsl_values.proofs.lemmas.Views.{value_of-Literal, count-vals_view}
 use Rattle.wgsl_values.proofs.+storable.Goals as goal
 use Rattle.wgsl_values.proofs.+storable.Goals.{make::have_one_type-then-i-gt0, make::have_one_type-else-i-gt0, make::have_types-then-not-is_storable-via-then-not-is_storable, make::have_types-then-not-is_storable-via-else-not-is_storable+then-not-has_ty}
 

@@ -4,7 +4,7 @@ use Rattle.wgsl_rules.specs.Types.{Ty, struct, array, vec, mat, Fields}
 use Rattle.wgsl_rules.specs.Conversion.{unequal_rank, zero_if}
 use Rattle.wgsl_rules.specs.View.{members_view}
 use Rattle.wgsl_rules.specs.declared.ty.StructType.{out-StructType}
-use Rattle.wgsl_rules.proofs.Views.{views, not-Struct, not-Array, not-Vec, not-Mat}
+use Rattle.wgsl_rules.proofs.lemmas.Views.{views, not-Struct, not-Array, not-Vec, not-Mat}
 use Rattle.wgsl_rules.proofs.conv.+conversion_rank.Goals as goal
 
 unequal : (b : Bool) (rank : Option ℕ) → b ≡ false → None ≡ rank → None ≡ zero_if b rank

@@ -8,7 +8,7 @@ use Rattle.wgsl_rules.specs.declared.syntax.AccessMode.{AccessMode}
 use Rattle.wgsl_rules.specs.declared.syntax.TextureType.{TextureType}
 use Rattle.wgsl_rules.specs.declared.syntax.SamplerType.{SamplerType}
 use Rattle.wgsl_rules.specs.declared.ty.StructMemberType.{StructMemberType}
-use Rattle.wgsl_rules.proofs.Views.{views, not-Struct, not-Array, not-Vec, not-Mat, not-Atomic, not-Ptr, not-Ref, not-Texture, not-Sampler}
+use Rattle.wgsl_rules.proofs.lemmas.Views.{views, not-Struct, not-Array, not-Vec, not-Mat, not-Atomic, not-Ptr, not-Ref, not-Texture, not-Sampler}
 use Rattle.wgsl_rules.proofs.eq.+same.Goals as goal
 
 and_false : (a b : Bool) → false ≡ b → false ≡ (a && b)

@@ -1,4 +1,4 @@
-use Rattle.wgsl_rules.proofs.CommonTypes.{in_common-swapped}
+use Rattle.wgsl_rules.proofs.lemmas.CommonTypes.{in_common-swapped}
 use Rattle.wgsl_rules.proofs.generic.convert_is_symmetric.Goals as goal
 
 pub returns : goal.returns

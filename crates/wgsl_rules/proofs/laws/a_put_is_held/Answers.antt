@@ -1,4 +1,4 @@
-use Rattle.wgsl_rules.proofs.Paths.{view-held}
+use Rattle.wgsl_rules.proofs.lemmas.Paths.{view-held}
 use Rattle.wgsl_rules.proofs.laws.a_put_is_held.Goals as goal
 
 pub returns : goal.returns

@@ -1,4 +1,4 @@
-use Rattle.wgsl_rules.proofs.Paths.{fits-Decides}
+use Rattle.wgsl_rules.proofs.lemmas.Paths.{fits-Decides}
 use Rattle.wgsl_rules.proofs.laws.fits_tests_the_place.Goals as goal
 
 pub returns : goal.returns

@@ -3,7 +3,7 @@ use Rattle.wgsl_rules.specs.Paths.{parts}
 use Rattle.wgsl_rules.specs.Values.{count}
 use Rattle.wgsl_rules.specs.View.{type_view}
 use Rattle.wgsl_values.specs.View.{value_of, vals_view, vec_view}
-use Rattle.wgsl_values.proofs.Views.{vec_view-is}
+use Rattle.wgsl_values.proofs.lemmas.Views.{vec_view-is}
 use Rattle.wgsl_store.proofs.Answered.{well-formed}
 use Rattle.wgsl_store.proofs.FlatParts.{vector-told}
 use Rattle.wgsl_store.proofs.lemmas.Places.{item-storable, parts-storable}

@@ -1,5 +1,5 @@
 use Rattle.std.proofs.Common.{◌∙◌}
-use Rattle.wgsl_rules.proofs.Views.{view-Struct, view-Array, view-Vec, view-Mat}
+use Rattle.wgsl_rules.proofs.lemmas.Views.{view-Struct, view-Array, view-Vec, view-Mat}
 use Rattle.wgsl_rules.specs.View.{type_view}
 use Rattle.wgsl_rules.specs.declared.ty.StructType.{out-StructType}
 use Rattle.wgsl_store.proofs.Locating.{struct-count, array-count, vector-count, matrix-count}

@@ -5,7 +5,7 @@ use Rattle.wgsl_values.specs.View.{value_of, struct_view}
 use Rattle.wgsl_values.specs.declared.inst.Instance.{Instance}
 use Rattle.wgsl_values.specs.declared.inst.StructInstance.{StructInstance}
 use Rattle.wgsl_values.specs.declared.inst.Instance.TheVariants as inst
-use Rattle.wgsl_values.proofs.Views.{value_of-Struct, struct_view-is}
+use Rattle.wgsl_values.proofs.lemmas.Views.{value_of-Struct, struct_view-is}
 use Rattle.wgsl_store.proofs.Totals.{last-elements, no-last}
 use Rattle.wgsl_store.proofs.writer.runtime_count.Goals as goal
 

@@ -5,7 +5,7 @@ use Rattle.wgsl_rules.specs.View.{type_view}
 use Rattle.wgsl_values.specs.View.{value_of}
 use Rattle.wgsl_values.proofs.Conversions.{array-converts, array-apart}
 use Rattle.wgsl_values.proofs.Typed.{array-first}
-use Rattle.wgsl_values.proofs.Views.{array_view-is}
+use Rattle.wgsl_values.proofs.lemmas.Views.{array_view-is}
 use Rattle.wgsl_values.proofs.inst.+is_convertible.Goals as goal
 
 pub ArrayInstance::is_convertible_to-returns-then-eq : goal.ArrayInstance::is_convertible_to-returns-then-eq

@@ -3,7 +3,7 @@ use Rattle.wgsl_rules.specs.Same.{same}
 use Rattle.wgsl_rules.specs.Values.{type_of}
 use Rattle.wgsl_values.specs.View.{value_of}
 use Rattle.wgsl_values.proofs.Typed.{type-same, atomic-same}
-use Rattle.wgsl_values.proofs.Views.{value_of-Struct, value_of-Atomic, struct_view-is, atomic_view-is}
+use Rattle.wgsl_values.proofs.lemmas.Views.{value_of-Struct, value_of-Atomic, struct_view-is, atomic_view-is}
 use Rattle.wgsl_values.proofs.inst.+same_type.Goals as goal
 
 pub Instance::same_type-returns-in-Struct-other : goal.Instance::same_type-returns-in-Struct-other

@@ -1,4 +1,4 @@
-use Rattle.wgsl_rules.proofs.CommonTypes.{concretized-converts}
+use Rattle.wgsl_rules.proofs.lemmas.CommonTypes.{concretized-converts}
 use Rattle.wgsl_rules.proofs.traits.TypeConvert.concretize.Goals as goal
 
 pub returns : goal.returns

@@ -1,7 +1,7 @@
 use Rattle.std.proofs.Common.{sym, ap₂, ◌∙◌}
 use Rattle.wgsl_rules.specs.Conversion.{struct_rank}
-use Rattle.wgsl_rules.proofs.CommonTypes.{struct-converts}
-use Rattle.wgsl_rules.proofs.Views.{struct_view-is}
+use Rattle.wgsl_rules.proofs.lemmas.CommonTypes.{struct-converts}
+use Rattle.wgsl_rules.proofs.lemmas.Views.{struct_view-is}
 use Rattle.wgsl_rules.proofs.ty.StructType.is_convertible_to.Goals as goal
 
 pub returns-else-eq : goal.returns-else-eq

@@ -1,5 +1,5 @@
 use Rattle.wgsl_rules.proofs.TypeParts.{loaded_type-same}
-use Rattle.wgsl_rules.proofs.Views.{not-Ref}
+use Rattle.wgsl_rules.proofs.lemmas.Views.{not-Ref}
 use Rattle.wgsl_rules.proofs.ty.Type.+loaded.Goals as goal
 
 pub returns-in_default : goal.returns-in_default

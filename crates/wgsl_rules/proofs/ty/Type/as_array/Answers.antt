@@ -1,5 +1,5 @@
 use Rattle.wgsl_rules.proofs.TypeParts.{array_part-none}
-use Rattle.wgsl_rules.proofs.Views.{not-Array}
+use Rattle.wgsl_rules.proofs.lemmas.Views.{not-Array}
 use Rattle.wgsl_rules.proofs.ty.Type.as_array.Goals as goal
 
 pub returns-in_default : goal.returns-in_default

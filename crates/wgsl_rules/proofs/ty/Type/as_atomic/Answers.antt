@@ -1,5 +1,5 @@
 use Rattle.wgsl_rules.proofs.TypeParts.{atomic_part-none}
-use Rattle.wgsl_rules.proofs.Views.{not-Atomic}
+use Rattle.wgsl_rules.proofs.lemmas.Views.{not-Atomic}
 use Rattle.wgsl_rules.proofs.ty.Type.as_atomic.Goals as goal
 
 pub returns-in_default : goal.returns-in_default

@@ -1,5 +1,5 @@
 use Rattle.wgsl_rules.proofs.TypeParts.{mat_part-none}
-use Rattle.wgsl_rules.proofs.Views.{not-Mat}
+use Rattle.wgsl_rules.proofs.lemmas.Views.{not-Mat}
 use Rattle.wgsl_rules.proofs.ty.Type.as_mat.Goals as goal
 
 pub returns-in_default : goal.returns-in_default

@@ -1,5 +1,5 @@
 use Rattle.wgsl_rules.proofs.TypeParts.{ptr_part-none}
-use Rattle.wgsl_rules.proofs.Views.{not-Ptr}
+use Rattle.wgsl_rules.proofs.lemmas.Views.{not-Ptr}
 use Rattle.wgsl_rules.proofs.ty.Type.as_ptr.Goals as goal
 
 pub returns-in_default : goal.returns-in_default

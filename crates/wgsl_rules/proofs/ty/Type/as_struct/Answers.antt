@@ -1,5 +1,5 @@
 use Rattle.wgsl_rules.proofs.TypeParts.{struct_part-none}
-use Rattle.wgsl_rules.proofs.Views.{not-Struct}
+use Rattle.wgsl_rules.proofs.lemmas.Views.{not-Struct}
 use Rattle.wgsl_rules.proofs.ty.Type.as_struct.Goals as goal
 
 pub returns-in_default : goal.returns-in_default

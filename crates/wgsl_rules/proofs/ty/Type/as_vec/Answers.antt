@@ -1,5 +1,5 @@
 use Rattle.wgsl_rules.proofs.TypeParts.{vec_part-none}
-use Rattle.wgsl_rules.proofs.Views.{not-Vec}
+use Rattle.wgsl_rules.proofs.lemmas.Views.{not-Vec}
 use Rattle.wgsl_rules.proofs.ty.Type.as_vec.Goals as goal
 
 pub returns-in_default : goal.returns-in_default

@@ -3,7 +3,7 @@ use Rattle.std.specs.Prelude.{◌||◌}
 use Rattle.wgsl_rules.specs.Types.{Ty, struct, Fields}
 use Rattle.wgsl_rules.specs.Layout.{has_fixed_layout, is_runtime_array, has_layout}
 use Rattle.wgsl_rules.specs.View.{type_view}
-use Rattle.wgsl_rules.proofs.Views.{not-Struct}
+use Rattle.wgsl_rules.proofs.lemmas.Views.{not-Struct}
 use Rattle.wgsl_rules.proofs.ty.Type.has_layout.Goals as goal
 
 other : (u : Ty) → ((n : List ℕ) (fs : Fields) → u ≡ struct n fs → ⊥) → (has_fixed_layout u || is_runtime_array u) ≡ has_layout u

@@ -1,7 +1,7 @@
 use Rattle.std.proofs.Common.{◌≡◌, ◌∷◌, ◌∙◌, refl}
 use Rattle.wgsl_rules.specs.Values.{index as index_step, member as member_step}
 use Rattle.wgsl_values.specs.View.{steps_of}
-use Rattle.wgsl_values.proofs.Views.{steps_of-Member, steps_of-Index}
+use Rattle.wgsl_values.proofs.lemmas.Views.{steps_of-Member, steps_of-Index}
 use Rattle.wgsl_store.proofs.FlatParts.{located-on}
 use Rattle.wgsl_store.proofs.located.Located.+viewed.Goals as goal
 

@@ -8,7 +8,7 @@ use Rattle.wgsl_values.specs.View.{value_of, array_view, vals_view}
 use Rattle.wgsl_values.specs.Parts.{is_runtime_sized}
 use Rattle.wgsl_values.specs.declared.inst.ArrayInstance.{ArrayInstance}
 use Rattle.wgsl_values.specs.declared.inst.Instance.{Instance}
-use Rattle.wgsl_values.proofs.Views.{value_of-Array, array_view-is}
+use Rattle.wgsl_values.proofs.lemmas.Views.{value_of-Array, array_view-is}
 use Rattle.wgsl_values.proofs.lemmas.Nodes.{nodes}
 use Rattle.wgsl_store.proofs.Making.{first-element}
 use Rattle.wgsl_store.proofs.make.TypePlan.+of_value.Goals as goal

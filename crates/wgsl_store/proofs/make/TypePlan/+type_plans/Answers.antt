@@ -3,7 +3,7 @@ use Rattle.wgsl_rules.specs.Types.{Ty}
 use Rattle.wgsl_rules.specs.Layout.{tail_at}
 use Rattle.wgsl_rules.specs.View.{member_view}
 use Rattle.wgsl_rules.specs.declared.ty.StructType.{out-StructType}
-use Rattle.wgsl_rules.proofs.Views.{struct_view-is}
+use Rattle.wgsl_rules.proofs.lemmas.Views.{struct_view-is}
 use Rattle.std.specs.Prelude.{option_map}
 use Rattle.wgsl_store.specs.Plan.{plan_of}
 use Rattle.wgsl_store.specs.TypePlan.{kept}

@@ -4,7 +4,7 @@ use Rattle.wgsl_values.specs.Same.{same_steps}
 use Rattle.wgsl_values.specs.View.{steps_of}
 use Rattle.wgsl_values.specs.declared.view.MemView.{MemView, Member, Index, Member', Index', the_lemmas}
 use Rattle.wgsl_values.specs.declared.view.MemView.TheVariants as views
-use Rattle.wgsl_values.proofs.Views.{steps_of-Member, steps_of-Index}
+use Rattle.wgsl_values.proofs.lemmas.Views.{steps_of-Member, steps_of-Index}
 use Rattle.wgsl_values.proofs.eq.MemViewPartialEq.+eq.Goals as goal
 
 same_steps-not_member : (n : List ℕ) (ss : List Step) (v : MemView) → ((m : String Global) (rest : Box MemView Global) → v ≡ Member m rest → ⊥) → false ≡ same_steps (member n ∷ ss) (steps_of v)

@@ -2,7 +2,7 @@ use Rattle.std.proofs.Common.{Some, ap, sym, ◌∙◌}
 use Rattle.wgsl_rules.specs.Types.{array}
 use Rattle.wgsl_rules.specs.Values.{first_type}
 use Rattle.wgsl_values.specs.View.{vals_view}
-use Rattle.wgsl_values.proofs.Views.{array_view-is, count-vals_view}
+use Rattle.wgsl_values.proofs.lemmas.Views.{array_view-is, count-vals_view}
 use Rattle.wgsl_values.proofs.inst.ArrayInstance.count.Goals as goal
 
 pub returns-else-self : goal.returns-else-self

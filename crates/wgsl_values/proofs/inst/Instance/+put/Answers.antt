@@ -1,6 +1,6 @@
 use Rattle.std.proofs.Common.{◌∙◌}
 use Rattle.wgsl_values.specs.View.{value_of, array_view, mat_view, struct_view, vec_view, steps_of}
-use Rattle.wgsl_values.proofs.Views.{steps_of-Member, steps_of-Index, value_of-Array, value_of-Mat, value_of-Struct, value_of-Vec}
+use Rattle.wgsl_values.proofs.lemmas.Views.{steps_of-Member, steps_of-Index, value_of-Array, value_of-Mat, value_of-Struct, value_of-Vec}
 use Rattle.wgsl_values.proofs.Written.{as_array-is, as_matrix-is, as_record-is, as_vector-is, array_part_at, matrix_part_at, vector_part_at}
 use Rattle.wgsl_values.proofs.lemmas.Steps.{put-member, put-part}
 use Rattle.wgsl_values.proofs.inst.Instance.+put.Goals as goal

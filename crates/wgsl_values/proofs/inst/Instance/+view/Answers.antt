@@ -2,7 +2,7 @@ use Rattle.std.proofs.Common.{rules, sym}
 use Rattle.wgsl_values.specs.View.{value_of, vals_view, steps_of}
 use Rattle.wgsl_values.specs.declared.view.MemView.{the_lemmas}
 use Rattle.wgsl_values.proofs.Viewed.{member-well_formed, indexed-well_formed, viewed-past, viewed-no_parts}
-use Rattle.wgsl_values.proofs.Views.{steps_of-Index, count-vals_view}
+use Rattle.wgsl_values.proofs.lemmas.Views.{steps_of-Index, count-vals_view}
 use Rattle.wgsl_values.proofs.inst.Instance.+view.Goals as goal
 
 pub view-requires : goal.view-requires

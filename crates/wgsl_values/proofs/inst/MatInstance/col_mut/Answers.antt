@@ -1,6 +1,6 @@
 use Rattle.std.proofs.Common.{rules, refl}
 use Rattle.wgsl_values.specs.declared.inst.Instance.{the_lemmas}
-use Rattle.wgsl_values.proofs.Views.{mat_view-is}
+use Rattle.wgsl_values.proofs.lemmas.Views.{mat_view-is}
 use Rattle.wgsl_values.proofs.Written.{on_some, mat_view-with}
 use Rattle.wgsl_values.proofs.inst.MatInstance.col_mut.Goals as goal
 

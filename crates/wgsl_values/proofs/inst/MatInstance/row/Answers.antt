@@ -2,7 +2,7 @@ use Rattle.std.proofs.Common.{arith, subst, sym, ap, ◌∙◌}
 use Rattle.wgsl_rules.specs.Values.{IsStorable, vector}
 use Rattle.wgsl_values.specs.View.{vals_view}
 use Rattle.wgsl_values.proofs.Rows.{column-storable, column-vector, row_from-past, row-grown, row-kept}
-use Rattle.wgsl_values.proofs.Views.{vec_view-is}
+use Rattle.wgsl_values.proofs.lemmas.Views.{vec_view-is}
 use Rattle.wgsl_values.proofs.inst.MatInstance.row.Goals as goal
 use Rattle.wgsl_values.proofs.inst.MatInstance.row.Goals.{in-Some+in_ok-push, in_default}
 

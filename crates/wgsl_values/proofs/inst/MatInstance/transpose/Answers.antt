@@ -5,7 +5,7 @@ use Rattle.wgsl_values.specs.Matrices.{row}
 use Rattle.wgsl_values.specs.View.{mat_view}
 use Rattle.wgsl_values.specs.declared.inst.Instance.{Vec}
 use Rattle.wgsl_values.proofs.Rows.{tabulated-push}
-use Rattle.wgsl_values.proofs.Views.{value_of-Vec}
+use Rattle.wgsl_values.proofs.lemmas.Views.{value_of-Vec}
 use Rattle.wgsl_values.proofs.inst.MatInstance.transpose.Goals as goal
 
 pub loop-i-preserved : goal.loop-i-preserved

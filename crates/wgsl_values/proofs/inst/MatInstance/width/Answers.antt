@@ -1,5 +1,5 @@
 use Rattle.std.proofs.Common.{arith}
-use Rattle.wgsl_values.proofs.Views.{mat_view-is, count-vals_view}
+use Rattle.wgsl_values.proofs.lemmas.Views.{mat_view-is, count-vals_view}
 use Rattle.wgsl_values.proofs.inst.MatInstance.width.Goals as goal
 
 pub overflow_cast-result : goal.overflow_cast-result

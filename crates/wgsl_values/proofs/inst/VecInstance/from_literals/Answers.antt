@@ -2,7 +2,7 @@ use Rattle.std.proofs.Common.{ap, ◌∙◌}
 use Rattle.wgsl_rules.specs.Values.{vector}
 use Rattle.wgsl_values.specs.View.{vals_view}
 use Rattle.wgsl_values.proofs.Made.{vals_view-literals}
-use Rattle.wgsl_values.proofs.Views.{vec_view-is}
+use Rattle.wgsl_values.proofs.lemmas.Views.{vec_view-is}
 use Rattle.wgsl_values.proofs.inst.VecInstance.from_literals.Goals as goal
 
 pub returns : goal.returns

@@ -1,6 +1,6 @@
 use Rattle.std.proofs.Common.{rules, refl}
 use Rattle.wgsl_values.specs.declared.inst.Instance.{the_lemmas}
-use Rattle.wgsl_values.proofs.Views.{vec_view-is}
+use Rattle.wgsl_values.proofs.lemmas.Views.{vec_view-is}
 use Rattle.wgsl_values.proofs.Written.{on_some, vec_view-with}
 use Rattle.wgsl_values.proofs.inst.VecInstance.get_mut.Goals as goal
 

@@ -2,7 +2,7 @@ use Rattle.std.proofs.Common.{◌≡◌, arith, ap}
 use Rattle.wgsl_rules.specs.Types.{vec}
 use Rattle.wgsl_rules.specs.Values.{count, first_type}
 use Rattle.wgsl_values.specs.View.{vals_view}
-use Rattle.wgsl_values.proofs.Views.{vec_view-is, count-vals_view}
+use Rattle.wgsl_values.proofs.lemmas.Views.{vec_view-is, count-vals_view}
 use Rattle.wgsl_values.proofs.inst.VecInstance.size.Goals as goal
 
 pub overflow_cast-result : goal.overflow_cast-result

@@ -1,6 +1,6 @@
 use Rattle.std.proofs.Common.{◌∷◌, ap, string_bytes}
 use Rattle.wgsl_rules.specs.Values.{member, index}
-use Rattle.wgsl_values.proofs.Views.{steps_of-Member, steps_of-Index}
+use Rattle.wgsl_values.proofs.lemmas.Views.{steps_of-Member, steps_of-Index}
 use Rattle.wgsl_values.proofs.view.MemView.+append.Goals as goal
 
 pub returns-in-Member : goal.returns-in-Member
