@@ -42,7 +42,7 @@ use crate::view::MemView;
 use std::mem;
 
 // The part at the index, to be written.
-#[tactic(auto, using(crate::proofs::Views::item_within, crate::proofs::Views::item_past))]
+#[tactic(auto, using(crate::proofs::lemmas::Views::item_within, crate::proofs::lemmas::Views::item_past))]
 fn nth_mut(values: &mut Vec<Instance>, i: usize) -> Option<&mut Instance>
     ensures* writes_back { sem 𝓛 (LendsIf list_row the_row values.entry result (with_item values.old i) values.old) }
     ensures value { option_map (λ v. value_of v.now) result ≡ item i (vals_view values.old.items) }

@@ -43,7 +43,7 @@ use std::ops::Index;
 use wgsl_rules::{AccessMode, AddressSpace, StructType, Type};
 use wgsl_scalar::LiteralInstance;
 
-#[tactic(auto, using(crate::proofs::Views::item_within, crate::proofs::Views::item_past))]
+#[tactic(auto, using(crate::proofs::lemmas::Views::item_within, crate::proofs::lemmas::Views::item_past))]
 pub(crate) fn nth(values: &[Instance], i: usize) -> Option<&Instance>
     ensures { option_map (λ v. value_of v.now) result ≡ item i (vals_view values.now) }
 {
