@@ -1,6 +1,8 @@
 //! What public calls on values answer.
 
+mod asserts;
 mod conversions;
+mod fixtures;
 mod growth;
 mod instances;
 mod parts;

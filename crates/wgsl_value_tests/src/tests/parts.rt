@@ -1,182 +1,196 @@
 //! The parts of values: each lent, each lent to be written, each in its turn.
 
-use crate::tests::samples::{array_of, atomic_from, mat2x3, mat3x2, pair_value, twins, vector_of};
-use std::test::Fail;
+use crate::tests::asserts::{assert_gives, assert_same};
+use crate::tests::fixtures::{
+    array_of, atomic_from, mat2x3, mat3x2, member_then_index, numbers, pair_value, reference_of,
+    twins, vector_of,
+};
 use wgsl_rules::{AccessMode, AddressSpace, Type};
 use wgsl_samples::types::pair_type;
-use wgsl_samples::values::{member_then_index, numbers, reference_of};
 use wgsl_values::{Instance, PtrInstance, RefInstance};
 
 #[test]
-fn members_of_a_structure(rt: HostRuntime) -> Result<(), Fail> {
+fn members_of_a_structure(rt: HostRuntime) {
     let alloc = rt.alloc();
-    let pair = pair_value(&rt, alloc)?;
-    assert_eq!(rt; pair.struct_ty(), &pair_type(alloc)?);
+    let pair = pair_value(&rt, alloc);
+    assert_eq!(rt; pair.struct_ty(), &pair_type(alloc).expect(&rt, "memory"));
     assert_eq!(rt; pair.members().len(), 2);
-    assert_eq!(rt; pair.members().first(), Some(&Instance::from(1u32)));
-    assert_eq!(rt; pair.member("a"), Some(&Instance::from(1u32)));
-    let b = Instance::from(vector_of(&rt, alloc, &[2, 3, 4])?);
-    assert_eq!(rt; pair.members().get(1), Some(&b));
-    assert_eq!(rt; pair.member("b"), Some(&b));
+    assert_same(&rt, pair.members().first(), Some(&Instance::from(1u32)));
+    assert_same(&rt, pair.member("a"), Some(&Instance::from(1u32)));
+    let b = Instance::from(vector_of(&rt, alloc, &[2, 3, 4]));
+    assert_same(&rt, pair.members().get(1), Some(&b));
+    assert_same(&rt, pair.member("b"), Some(&b));
     assert_eq!(rt; pair.member("c"), None);
-    Ok(())
+    drop((pair, b));
 }
 
 #[test]
-fn of_two_members_of_a_name_the_first_is_found(rt: HostRuntime) -> Result<(), Fail> {
-    let mut twins = twins(&rt, rt.alloc())?;
-    assert_eq!(rt; twins.member("a"), Some(&Instance::from(1u32)));
+fn of_two_members_of_a_name_the_first_is_found(rt: HostRuntime) {
+    let mut twins = twins(&rt, rt.alloc());
+    assert_same(&rt, twins.member("a"), Some(&Instance::from(1u32)));
     if let Some(first) = twins.member_mut("a") {
         *first = Instance::from(9u32);
     }
-    assert_eq!(rt; twins.members().first(), Some(&Instance::from(9u32)));
-    assert_eq!(rt; twins.members().get(1), Some(&Instance::from(2u32)));
+    assert_same(&rt, twins.members().first(), Some(&Instance::from(9u32)));
+    assert_same(&rt, twins.members().get(1), Some(&Instance::from(2u32)));
     assert!(rt; twins.member_mut("b").is_none());
-    Ok(())
+    drop(twins);
 }
 
 #[test]
-fn elements_of_an_array(rt: HostRuntime) -> Result<(), Fail> {
+fn elements_of_an_array(rt: HostRuntime) {
     let alloc = rt.alloc();
-    let mut array = array_of(&rt, alloc, &[1, 2, 3], false)?;
+    let mut array = array_of(&rt, alloc, &[1, 2, 3], false);
     assert!(rt; !array.runtime_sized());
-    assert!(rt; array_of(&rt, alloc, &[1], true)?.runtime_sized());
+    assert!(rt; array_of(&rt, alloc, &[1], true).runtime_sized());
     assert_eq!(rt; array.n(), 3);
-    assert_eq!(rt; array.as_slice(), numbers(alloc, &[1, 2, 3])?.as_slice());
-    assert_eq!(rt; array.get(2), Some(&Instance::from(3u32)));
+    assert_eq!(rt;
+        array.as_slice(),
+        numbers(&rt, alloc, &[1, 2, 3]).as_slice()
+    );
+    assert_same(&rt, array.get(2), Some(&Instance::from(3u32)));
     assert_eq!(rt; array.get(3), None);
     assert!(rt; array.get_mut(3).is_none());
     if let Some(second) = array.get_mut(1) {
         *second = Instance::from(9u32);
     }
-    assert_eq!(rt; array, array_of(&rt, alloc, &[1, 9, 3], false)?);
+    assert_eq!(rt; array, array_of(&rt, alloc, &[1, 9, 3], false));
     let mut items = array.iter();
-    assert_eq!(rt; items.next(), Some(&Instance::from(1u32)));
-    assert_eq!(rt; items.next(), Some(&Instance::from(9u32)));
-    assert_eq!(rt; items.next(), Some(&Instance::from(3u32)));
+    assert_same(&rt, items.next(), Some(&Instance::from(1u32)));
+    assert_same(&rt, items.next(), Some(&Instance::from(9u32)));
+    assert_same(&rt, items.next(), Some(&Instance::from(3u32)));
     assert_eq!(rt; items.next(), None);
     let mut items = array.into_iter();
-    assert_eq!(rt; items.next(), Some(Instance::from(1u32)));
-    assert_eq!(rt; items.next(), Some(Instance::from(9u32)));
-    assert_eq!(rt; items.next(), Some(Instance::from(3u32)));
+    assert_same(&rt, items.next(), Some(Instance::from(1u32)));
+    assert_same(&rt, items.next(), Some(Instance::from(9u32)));
+    assert_same(&rt, items.next(), Some(Instance::from(3u32)));
     assert_eq!(rt; items.next(), None);
-    Ok(())
+    drop(items);
 }
 
 #[test]
-fn components_of_a_vector(rt: HostRuntime) -> Result<(), Fail> {
+fn components_of_a_vector(rt: HostRuntime) {
     let alloc = rt.alloc();
-    let mut components = vector_of(&rt, alloc, &[1, 2])?;
+    let mut components = vector_of(&rt, alloc, &[1, 2]);
     assert_eq!(rt; components.n(), 2);
     assert_eq!(rt; components[0], Instance::from(1u32));
-    assert_eq!(rt; components.as_slice(), numbers(alloc, &[1, 2])?.as_slice());
-    assert_eq!(rt; components.get(1), Some(&Instance::from(2u32)));
+    assert_eq!(rt;
+        components.as_slice(),
+        numbers(&rt, alloc, &[1, 2]).as_slice()
+    );
+    assert_same(&rt, components.get(1), Some(&Instance::from(2u32)));
     assert_eq!(rt; components.get(2), None);
     assert!(rt; components.get_mut(2).is_none());
     if let Some(second) = components.get_mut(1) {
         *second = Instance::from(9u32);
     }
-    assert_eq!(rt; components, vector_of(&rt, alloc, &[1, 9])?);
+    assert_eq!(rt; components, vector_of(&rt, alloc, &[1, 9]));
     let mut items = components.iter();
-    assert_eq!(rt; items.next(), Some(&Instance::from(1u32)));
-    assert_eq!(rt; items.next(), Some(&Instance::from(9u32)));
+    assert_same(&rt, items.next(), Some(&Instance::from(1u32)));
+    assert_same(&rt, items.next(), Some(&Instance::from(9u32)));
     assert_eq!(rt; items.next(), None);
     let mut items = components.into_iter();
-    assert_eq!(rt; items.next(), Some(Instance::from(1u32)));
-    assert_eq!(rt; items.next(), Some(Instance::from(9u32)));
+    assert_same(&rt, items.next(), Some(Instance::from(1u32)));
+    assert_same(&rt, items.next(), Some(Instance::from(9u32)));
     assert_eq!(rt; items.next(), None);
-    Ok(())
 }
 
 #[test]
-fn columns_of_a_matrix(rt: HostRuntime) -> Result<(), Fail> {
+fn columns_of_a_matrix(rt: HostRuntime) {
     let alloc = rt.alloc();
-    let matrix = mat2x3(&rt, alloc)?;
+    let matrix = mat2x3(&rt, alloc);
     assert_eq!(rt; matrix.c(), 2);
     assert_eq!(rt; matrix.r(), 3);
-    let first = Instance::from(vector_of(&rt, alloc, &[1, 2, 3])?);
-    let second = Instance::from(vector_of(&rt, alloc, &[4, 5, 6])?);
-    assert_eq!(rt; matrix.col(0), Some(&first));
-    assert_eq!(rt; matrix.col(1), Some(&second));
+    let first = Instance::from(vector_of(&rt, alloc, &[1, 2, 3]));
+    let second = Instance::from(vector_of(&rt, alloc, &[4, 5, 6]));
+    assert_same(&rt, matrix.col(0), Some(&first));
+    assert_same(&rt, matrix.col(1), Some(&second));
     assert_eq!(rt; matrix.col(2), None);
-    assert_eq!(rt; matrix.get(1, 0), Some(&Instance::from(4u32)));
-    assert_eq!(rt; matrix.get(0, 2), Some(&Instance::from(3u32)));
+    assert_same(&rt, matrix.get(1, 0), Some(&Instance::from(4u32)));
+    assert_same(&rt, matrix.get(0, 2), Some(&Instance::from(3u32)));
     assert_eq!(rt; matrix.get(2, 0), None);
     assert_eq!(rt; matrix.get(0, 3), None);
     let mut columns = matrix.iter_cols();
-    assert_eq!(rt; columns.next(), Some(&first));
-    assert_eq!(rt; columns.next(), Some(&second));
+    assert_same(&rt, columns.next(), Some(&first));
+    assert_same(&rt, columns.next(), Some(&second));
     assert_eq!(rt; columns.next(), None);
     let mut columns = matrix.into_iter();
-    assert_eq!(rt; columns.next(), Some(first));
-    assert_eq!(rt; columns.next(), Some(second));
+    assert_same(&rt, columns.next(), Some(first));
+    assert_same(&rt, columns.next(), Some(second));
     assert_eq!(rt; columns.next(), None);
-    Ok(())
+    drop(columns);
 }
 
 #[test]
-fn components_of_a_matrix_come_column_by_column(rt: HostRuntime) -> Result<(), Fail> {
-    let matrix = mat2x3(&rt, rt.alloc())?;
+fn components_of_a_matrix_come_column_by_column(rt: HostRuntime) {
+    let matrix = mat2x3(&rt, rt.alloc());
     let mut components = matrix.iter();
     for n in [1u32, 2, 3, 4, 5, 6] {
-        assert_eq!(rt; components.next(), Some(&Instance::from(n)));
+        assert_same(&rt, components.next(), Some(&Instance::from(n)));
     }
     assert_eq!(rt; components.next(), None);
-    Ok(())
+    drop(components);
 }
 
 #[test]
-fn writes_to_parts_of_a_matrix(rt: HostRuntime) -> Result<(), Fail> {
+fn writes_to_parts_of_a_matrix(rt: HostRuntime) {
     let alloc = rt.alloc();
-    let mut matrix = mat3x2(&rt, alloc)?;
+    let mut matrix = mat3x2(&rt, alloc);
     if let Some(component) = matrix.get_mut(0, 1) {
         *component = Instance::from(7u32);
     }
-    assert_eq!(rt; matrix.get(0, 1), Some(&Instance::from(7u32)));
-    assert_eq!(rt; matrix.get(1, 0), Some(&Instance::from(2u32)));
+    assert_same(&rt, matrix.get(0, 1), Some(&Instance::from(7u32)));
+    assert_same(&rt, matrix.get(1, 0), Some(&Instance::from(2u32)));
     if let Some(column) = matrix.col_mut(2) {
-        *column = Instance::from(vector_of(&rt, alloc, &[8, 9])?);
+        *column = Instance::from(vector_of(&rt, alloc, &[8, 9]));
     }
     let text = "mat3x2(vec2(1u, 7u), vec2(2u, 5u), vec2(8u, 9u))";
-    assert_eq!(rt; matrix.to_string(alloc)?.as_str(), text);
+    assert_eq!(rt;
+        matrix.to_string(alloc).expect(&rt, "memory").as_str(),
+        text
+    );
     assert!(rt; matrix.get_mut(3, 0).is_none());
     assert!(rt; matrix.get_mut(0, 2).is_none());
     assert!(rt; matrix.col_mut(3).is_none());
-    assert_eq!(rt; matrix.to_string(alloc)?.as_str(), text);
-    Ok(())
+    assert_eq!(rt;
+        matrix.to_string(alloc).expect(&rt, "memory").as_str(),
+        text
+    );
+    drop(matrix);
 }
 
 #[test]
-fn a_transposed_matrix_has_the_rows_for_columns(rt: HostRuntime) -> Result<(), Fail> {
+fn a_transposed_matrix_has_the_rows_for_columns(rt: HostRuntime) {
     let alloc = rt.alloc();
-    let transposed = mat2x3(&rt, alloc)?.transpose(alloc)?;
+    let transposed = mat2x3(&rt, alloc).transpose(alloc).expect(&rt, "memory");
     let text = "mat3x2(vec2(1u, 4u), vec2(2u, 5u), vec2(3u, 6u))";
-    assert_eq!(rt; transposed.to_string(alloc)?.as_str(), text);
-    assert_eq!(rt; transposed, mat3x2(&rt, alloc)?);
-    assert_eq!(rt; mat3x2(&rt, alloc)?.transpose(alloc)?, mat2x3(&rt, alloc)?);
-    Ok(())
+    assert_eq!(rt;
+        transposed.to_string(alloc).expect(&rt, "memory").as_str(),
+        text
+    );
+    assert_same(&rt, transposed, mat3x2(&rt, alloc));
+    assert_gives(&rt, mat3x2(&rt, alloc).transpose(alloc), mat2x3(&rt, alloc));
 }
 
 #[test]
-fn what_an_atomic_holds(rt: HostRuntime) -> Result<(), Fail> {
-    let mut atomic = atomic_from(&rt, rt.alloc(), Instance::from(5i32))?;
+fn what_an_atomic_holds(rt: HostRuntime) {
+    let mut atomic = atomic_from(&rt, rt.alloc(), Instance::from(5i32));
     assert_eq!(rt; atomic.inner(), &Instance::from(5i32));
     *atomic.inner_mut() = Instance::from(-6i32);
     assert_eq!(rt; atomic.inner(), &Instance::from(-6i32));
-    Ok(())
+    drop(atomic);
 }
 
 #[test]
-fn what_references_and_pointers_name(rt: HostRuntime) -> Result<(), Fail> {
+fn what_references_and_pointers_name(rt: HostRuntime) {
     let alloc = rt.alloc();
-    let reference = reference_of(alloc)?;
+    let reference = reference_of(&rt, alloc);
     assert_eq!(rt; reference.cell(), 7);
-    assert_eq!(rt; reference.view(), &member_then_index(alloc)?);
+    assert_eq!(rt; reference.view(), &member_then_index(&rt, alloc));
     assert_eq!(rt; reference.target_ty(), &Type::U32);
     assert_eq!(rt; reference.space(), AddressSpace::Storage);
     assert_eq!(rt; reference.access(), AccessMode::ReadWrite);
-    let pointer = PtrInstance::from(reference_of(alloc)?);
+    let pointer = PtrInstance::from(reference_of(&rt, alloc));
     assert_eq!(rt; pointer.ptr(), &reference);
-    assert_eq!(rt; RefInstance::from(pointer), reference);
-    Ok(())
+    assert_same(&rt, RefInstance::from(pointer), reference);
 }

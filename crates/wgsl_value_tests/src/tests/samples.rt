@@ -10,7 +10,8 @@ use wgsl_rules::{StructType, Type};
 use wgsl_samples::types::{array, matrix, member, pair, pair_type, struct_type};
 use wgsl_samples::values::{abstract_numbers, numbers, reference_of};
 use wgsl_values::{
-    ArrayInstance, AtomicInstance, Instance, MatInstance, PtrInstance, StructInstance, VecInstance,
+    ArrayInstance, AtomicInstance, Instance, MatInstance, MemView, PtrInstance, StructInstance,
+    VecInstance,
 };
 
 /// The value, which can be stored.
@@ -207,4 +208,26 @@ pub(super) fn one_of_each_kind(
     values.push(Instance::from(atomic_from(rt, alloc, Instance::from(5u32))?))?;
     values.push(Instance::from(Type::U32))?;
     Ok(values)
+}
+
+/// The view of a member alone.
+pub(super) fn named(alloc: Global, name: &str) -> Result<MemView, AllocError> {
+    let name = format!(in alloc; "{name}")?;
+    Ok(MemView::Member(name, Box::new(alloc, MemView::Whole)?))
+}
+
+/// The view `:m:1:2`.
+pub(super) fn to_component(alloc: Global) -> Result<MemView, AllocError> {
+    let mut view = named(alloc, "m")?;
+    view.append_index(alloc, 1)?;
+    view.append_index(alloc, 2)?;
+    Ok(view)
+}
+
+/// The view `:pairs:0:b`.
+pub(super) fn to_member(alloc: Global) -> Result<MemView, AllocError> {
+    let mut view = named(alloc, "pairs")?;
+    view.append_index(alloc, 0)?;
+    view.append_member(alloc, format!(in alloc; "b")?)?;
+    Ok(view)
 }

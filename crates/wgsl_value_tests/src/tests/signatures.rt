@@ -1,7 +1,6 @@
 //! Call signatures and the arguments of templates.
 
 use std::alloc::{AllocError, Global};
-use std::test::Fail;
 use wgsl_rules::{AccessMode, Enumerant, Type};
 use wgsl_samples::types::vector;
 use wgsl_values::{CallSignature, Instance, TpltParam};
@@ -33,61 +32,71 @@ pub(super) fn templated(alloc: Global) -> Result<CallSignature, AllocError> {
 }
 
 #[test]
-fn texts_of_template_arguments(rt: HostRuntime) -> Result<(), Fail> {
+fn texts_of_template_arguments(rt: HostRuntime) {
     let alloc = rt.alloc();
     let texts = ["f32", "4", "read_write"];
-    for (param, text) in template(alloc)?.iter().zip(texts) {
-        assert_eq!(rt; param.to_string(alloc)?.as_str(), text);
+    for (param, text) in template(alloc).expect(&rt, "memory").iter().zip(texts) {
+        assert_eq!(rt; param.to_string(alloc).expect(&rt, "memory").as_str(), text);
     }
-    Ok(())
 }
 
 #[test]
-fn texts_of_call_signatures(rt: HostRuntime) -> Result<(), Fail> {
+fn texts_of_call_signatures(rt: HostRuntime) {
     let alloc = rt.alloc();
-    let without = call(alloc, "f", None, Vec::new(alloc))?;
-    assert_eq!(rt; without.to_string(alloc)?.as_str(), "f()");
+    let without = call(alloc, "f", None, Vec::new(alloc)).expect(&rt, "memory");
+    assert_eq!(rt;
+        without.to_string(alloc).expect(&rt, "memory").as_str(),
+        "f()"
+    );
     let arguments = call(
         alloc,
         "min",
         None,
-        vec![in alloc; Type::U32, Type::AbstractInt]?,
-    )?;
+        vec![in alloc; Type::U32, Type::AbstractInt].expect(&rt, "memory"),
+    )
+    .expect(&rt, "memory");
     assert_eq!(rt;
-        arguments.to_string(alloc)?.as_str(),
+        arguments.to_string(alloc).expect(&rt, "memory").as_str(),
         "min(u32, AbstractInt)"
     );
     let text = "f<f32, 4, read_write>(u32, vec2<i32>)";
-    assert_eq!(rt; templated(alloc)?.to_string(alloc)?.as_str(), text);
-    Ok(())
+    assert_eq!(rt;
+        templated(alloc)
+            .expect(&rt, "memory")
+            .to_string(alloc)
+            .expect(&rt, "memory")
+            .as_str(),
+        text
+    );
+    drop((without, arguments));
 }
 
 #[test]
-fn copies_of_template_arguments_are_equal(rt: HostRuntime) -> Result<(), Fail> {
+fn copies_of_template_arguments_are_equal(rt: HostRuntime) {
     let alloc = rt.alloc();
-    let params = template(alloc)?;
+    let params = template(alloc).expect(&rt, "memory");
     for (i, param) in params.iter().enumerate() {
-        assert_eq!(rt; &param.clone(alloc)?, param);
+        assert_eq!(rt; &param.clone(alloc).expect(&rt, "memory"), param);
         for (j, other) in params.iter().enumerate() {
             assert_eq!(rt; param == other, i == j);
         }
     }
-    Ok(())
+    drop(params);
 }
 
 #[test]
-fn signatures_differ_in_name_template_and_arguments(rt: HostRuntime) -> Result<(), Fail> {
+fn signatures_differ_in_name_template_and_arguments(rt: HostRuntime) {
     let alloc = rt.alloc();
-    let signature = templated(alloc)?;
-    assert_eq!(rt; signature.clone(alloc)?, signature);
-    let mut other = signature.clone(alloc)?;
-    other.name = format!(in alloc; "g")?;
+    let signature = templated(alloc).expect(&rt, "memory");
+    assert_eq!(rt; signature.clone(alloc).expect(&rt, "memory"), signature);
+    let mut other = signature.clone(alloc).expect(&rt, "memory");
+    other.name = format!(in alloc; "g").expect(&rt, "memory");
     assert_ne!(rt; other, signature);
-    let mut other = signature.clone(alloc)?;
+    let mut other = signature.clone(alloc).expect(&rt, "memory");
     other.tplt = None;
     assert_ne!(rt; other, signature);
-    let mut other = signature.clone(alloc)?;
+    let mut other = signature.clone(alloc).expect(&rt, "memory");
     other.args = Vec::new(alloc);
     assert_ne!(rt; other, signature);
-    Ok(())
+    drop((signature, other));
 }

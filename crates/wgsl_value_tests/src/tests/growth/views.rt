@@ -1,42 +1,42 @@
 //! Views: their copies, their steps, and what they are refused.
 
-use crate::tests::samples::{light, mat2x3, storable};
-use crate::tests::views::{refusal_to_write, to_component, to_member};
+use crate::tests::asserts::assert_same;
+use crate::tests::samples::{light, mat2x3, storable, to_component, to_member};
+use crate::tests::views::refusal_to_write;
 use std::alloc::{AllocError, Global};
 use std::process::Abort;
-use std::test::Fail;
 use wgsl_rules::Type;
 use wgsl_samples::types::matrix;
 use wgsl_scalar::Error;
 use wgsl_values::{Instance, MemView};
 
 #[test]
-fn a_copy_of_a_view_wants_memory_or_is_equal(rt: HostRuntime) -> Result<(), Fail> {
+fn a_copy_of_a_view_wants_memory_or_is_equal(rt: HostRuntime) {
     let alloc = rt.alloc();
     let Ok(view) = to_member(alloc) else {
-        return Ok(());
+        return;
     };
     let copy = match view.clone(alloc) {
         Ok(copy) => copy,
         // One growth alone is refused.
-        Err(_) => view.clone(alloc)?,
+        Err(_) => view.clone(alloc).expect(&rt, "memory"),
     };
     assert_eq!(rt; copy, view);
-    Ok(())
+    drop(copy);
 }
 
 #[test]
-fn the_text_of_a_view_wants_memory_or_is_whole(rt: HostRuntime) -> Result<(), Fail> {
+fn the_text_of_a_view_wants_memory_or_is_whole(rt: HostRuntime) {
     let alloc = rt.alloc();
     let Ok(view) = to_member(alloc) else {
-        return Ok(());
+        return;
     };
     let text = match view.to_string(alloc) {
         Ok(text) => text,
-        Err(_) => view.to_string(alloc)?,
+        Err(_) => view.to_string(alloc).expect(&rt, "memory"),
     };
     assert_eq!(rt; text.as_str(), ":pairs:0:b");
-    Ok(())
+    drop(text);
 }
 
 /// The views `:m:1`, twice, and `:m:1:2`.
@@ -49,17 +49,16 @@ fn index_views(alloc: Global) -> Result<(MemView, MemView, MemView), AllocError>
 }
 
 #[test]
-fn an_index_that_wants_memory_is_not_put_on(rt: HostRuntime) -> Result<(), Fail> {
+fn an_index_that_wants_memory_is_not_put_on(rt: HostRuntime) {
     let alloc = rt.alloc();
     let Ok((mut view, old, wanted)) = index_views(alloc) else {
-        return Ok(());
+        return;
     };
     if view.append_index(alloc, 2).is_err() {
         assert_eq!(rt; view, old);
-        view.append_index(alloc, 2)?;
+        view.append_index(alloc, 2).expect(&rt, "memory");
     }
     assert_eq!(rt; view, wanted);
-    Ok(())
 }
 
 /// The views `:pairs:0`, twice, and `:pairs:0:b`.
@@ -72,23 +71,22 @@ fn member_views(alloc: Global) -> Result<(MemView, MemView, MemView), AllocError
 }
 
 #[test]
-fn a_member_that_wants_memory_is_not_put_on(rt: HostRuntime) -> Result<(), Fail> {
+fn a_member_that_wants_memory_is_not_put_on(rt: HostRuntime) {
     let alloc = rt.alloc();
     let Ok((mut view, old, wanted)) = member_views(alloc) else {
-        return Ok(());
+        return;
     };
     let Ok(name) = format!(in alloc; "b") else {
-        return Ok(());
+        return;
     };
     let Ok(again) = name.clone() else {
-        return Ok(());
+        return;
     };
     if view.append_member(alloc, name).is_err() {
         assert_eq!(rt; view, old);
-        view.append_member(alloc, again)?;
+        view.append_member(alloc, again).expect(&rt, "memory");
     }
     assert_eq!(rt; view, wanted);
-    Ok(())
 }
 
 /// A matrix of two columns and three rows, twice, a view into its third column, and the refusal.
@@ -109,43 +107,43 @@ fn past_the_end(
 }
 
 #[test]
-fn a_refused_view_wants_memory_or_is_told(rt: HostRuntime) -> Result<(), Fail> {
+fn a_refused_view_wants_memory_or_is_told(rt: HostRuntime) {
     let alloc = rt.alloc();
     let Ok((value, _, view, error)) = past_the_end(&rt, alloc) else {
-        return Ok(());
+        return;
     };
     let value = storable(&rt, value);
     let refusal = match value.view(alloc, &view).err() {
         Some(Error::Memory) => value.view(alloc, &view).err(),
         refusal => refusal,
     };
-    assert_eq!(rt; refusal, Some(error));
-    Ok(())
+    assert_same(&rt, refusal, Some(error));
+    drop(value);
 }
 
 #[test]
-fn a_view_without_a_member_wants_memory_or_is_told(rt: HostRuntime) -> Result<(), Fail> {
+fn a_view_without_a_member_wants_memory_or_is_told(rt: HostRuntime) {
     let alloc = rt.alloc();
     let (Ok(value), Ok(view)) = (mat2x3(&rt, alloc), to_component(alloc)) else {
-        return Ok(());
+        return;
     };
     let (Ok(ty), Ok(name)) = (matrix(alloc, Type::U32), format!(in alloc; "m")) else {
-        return Ok(());
+        return;
     };
     let value = storable(&rt, Instance::from(value));
     let refusal = match value.view(alloc, &view).err() {
         Some(Error::Memory) => value.view(alloc, &view).err(),
         refusal => refusal,
     };
-    assert_eq!(rt; refusal, Some(Error::Component(ty, name)));
-    Ok(())
+    assert_same(&rt, refusal, Some(Error::Component(ty, name)));
+    drop(value);
 }
 
 #[test]
-fn a_view_to_write_that_is_refused_changes_nothing(rt: HostRuntime) -> Result<(), Fail> {
+fn a_view_to_write_that_is_refused_changes_nothing(rt: HostRuntime) {
     let alloc = rt.alloc();
     let Ok((value, copy, view, error)) = past_the_end(&rt, alloc) else {
-        return Ok(());
+        return;
     };
     let mut value = storable(&rt, value);
     let mut refusal = refusal_to_write(alloc, &mut value, &view);
@@ -154,25 +152,24 @@ fn a_view_to_write_that_is_refused_changes_nothing(rt: HostRuntime) -> Result<()
         let mut value = storable(&rt, value);
         refusal = refusal_to_write(alloc, &mut value, &view);
     }
-    assert_eq!(rt; refusal, Some(error));
-    Ok(())
+    assert_same(&rt, refusal, Some(error));
 }
 
 #[test]
-fn a_view_that_leads_to_a_part_takes_no_memory(rt: HostRuntime) -> Result<(), Fail> {
+fn a_view_that_leads_to_a_part_takes_no_memory(rt: HostRuntime) {
     let alloc = rt.alloc();
     let (Ok(value), Ok(view)) = (light(&rt, alloc), to_component(alloc)) else {
-        return Ok(());
+        return;
     };
     let mut value = storable(&rt, value);
-    assert_eq!(rt; value.view(alloc, &view), Ok(&Instance::from(6u32)));
+    assert_same(&rt, value.view(alloc, &view), Ok(&Instance::from(6u32)));
     let Ok(mut component) = value.view_mut(alloc, &view) else {
         assert!(rt; false, "refused");
-        return Ok(());
+        return;
     };
     *component = Instance::from(9u32);
     drop(component);
     let old = value.put(&view, Instance::from(7u32));
-    assert_eq!(rt; old, Some(Instance::from(9u32)));
-    Ok(())
+    assert_same(&rt, old, Some(Instance::from(9u32)));
+    drop(value);
 }
