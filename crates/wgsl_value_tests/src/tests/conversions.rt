@@ -1,6 +1,9 @@
 //! Conversions of literals, types and values.
 
-use crate::tests::asserts::{assert_gives, assert_none, assert_same, assert_some};
+ghost use Rattle.wgsl_rules.specs.Values.{IsWellFormed};
+ghost use Rattle.wgsl_values.specs.View.{value_of};
+
+use crate::tests::asserts::{assert_gives, assert_is, assert_none, assert_same, assert_some};
 use crate::tests::fixtures::{
     abstract_array, abstract_mat2x3, abstract_vector, array, integers, mat2x3, matrix, pair,
     pair_value, reference, reference_of, vector, vector_of,
@@ -107,8 +110,8 @@ fn a_type_is_made_concrete(rt: HostRuntime) {
     let alloc = rt.alloc();
     let ty = array(&rt, alloc, vector(&rt, alloc, 2, Type::AbstractInt), None);
     let wanted = array(&rt, alloc, vector(&rt, alloc, 2, Type::I32), None);
-    assert_eq!(rt; ty.concretize(alloc).expect(&rt, "memory"), wanted);
-    assert!(rt; Convert::concretize(&ty, alloc).expect(&rt, "memory") == Some(wanted));
+    assert_is(&rt, &wanted, ty.concretize(alloc).expect(&rt, "memory"));
+    assert_some(&rt, Convert::concretize(&ty, alloc), &wanted);
     assert_gives(&rt, Type::AbstractFloat.concretize(alloc), Type::F32);
     assert_gives(&rt, Type::I64.concretize(alloc), Type::I64);
     let matrix_of_floats = matrix(&rt, alloc, Type::F32);
@@ -146,14 +149,8 @@ fn a_type_converts_to_a_type(rt: HostRuntime) {
     let of_u32 = vector(&rt, alloc, 2, Type::U32);
     assert_none(&rt, of_any.convert_inner_to(alloc, &Type::I64));
     assert_none(&rt, of_u32.convert_to(alloc, &of_any));
-    assert!(rt;
-        of_any
-            .convert_inner_to(alloc, &Type::U32)
-            .expect(&rt, "memory")
-            .as_ref()
-            == Some(&of_u32)
-    );
-    assert!(rt; of_any.convert_to(alloc, &of_u32).expect(&rt, "memory") == Some(of_u32));
+    assert_some(&rt, of_any.convert_inner_to(alloc, &Type::U32), &of_u32);
+    assert_some(&rt, of_any.convert_to(alloc, &of_u32), &of_u32);
     drop(of_any);
 }
 
@@ -395,18 +392,25 @@ fn lists_of_values_convert(rt: HostRuntime) {
     drop(all);
 }
 
+/// Whether the value tells that its type converts to the type.
+fn converts(value: &Instance, ty: Type) -> bool
+    requires { IsWellFormed (value_of value.now) }
+{
+    value.is_convertible_to(&ty)
+}
+
 #[test]
 fn a_value_tells_to_which_types_its_own_converts(rt: HostRuntime) {
     let alloc = rt.alloc();
     let large = storable(&rt, Instance::from(4294967295i64));
-    assert!(rt; large.is_convertible_to(&Type::I32));
-    assert!(rt; !large.is_convertible_to(&Type::I64));
+    assert!(rt; converts(&large, Type::I32));
+    assert!(rt; !converts(&large, Type::I64));
     let pair_of_any = storable(&rt, Instance::from(abstract_vector(&rt, alloc, &[1, 2])));
-    assert!(rt; pair_of_any.is_convertible_to(&vector(&rt, alloc, 2, Type::U32)));
-    assert!(rt; !pair_of_any.is_convertible_to(&vector(&rt, alloc, 3, Type::U32)));
+    assert!(rt; converts(&pair_of_any, vector(&rt, alloc, 2, Type::U32)));
+    assert!(rt; !converts(&pair_of_any, vector(&rt, alloc, 3, Type::U32)));
     let readable = storable(&rt, Instance::from(reference_of(&rt, alloc)));
-    assert!(rt; readable.is_convertible_to(&Type::U32));
-    assert!(rt; !readable.is_convertible_to(&Type::I32));
+    assert!(rt; converts(&readable, Type::U32));
+    assert!(rt; !converts(&readable, Type::I32));
     drop((large, pair_of_any, readable));
 }
 
@@ -415,13 +419,13 @@ fn a_composite_tells_to_which_types_its_own_converts(rt: HostRuntime) {
     let alloc = rt.alloc();
     let elements = abstract_array(&rt, alloc, &[1, 2], false);
     let elements = storable(&rt, Instance::from(elements));
-    assert!(rt; elements.is_convertible_to(&array(&rt, alloc, Type::I32, Some(2))));
-    assert!(rt; !elements.is_convertible_to(&array(&rt, alloc, Type::I32, None)));
+    assert!(rt; converts(&elements, array(&rt, alloc, Type::I32, Some(2))));
+    assert!(rt; !converts(&elements, array(&rt, alloc, Type::I32, None)));
     let columns = storable(&rt, Instance::from(abstract_mat2x3(&rt, alloc)));
-    assert!(rt; columns.is_convertible_to(&matrix(&rt, alloc, Type::F32)));
-    assert!(rt; !columns.is_convertible_to(&matrix(&rt, alloc, Type::U64)));
+    assert!(rt; converts(&columns, matrix(&rt, alloc, Type::F32)));
+    assert!(rt; !converts(&columns, matrix(&rt, alloc, Type::U64)));
     let structure = storable(&rt, Instance::from(pair_value(&rt, alloc)));
-    assert!(rt; structure.is_convertible_to(&pair(&rt, alloc)));
-    assert!(rt; !structure.is_convertible_to(&Type::U32));
+    assert!(rt; converts(&structure, pair(&rt, alloc)));
+    assert!(rt; !converts(&structure, Type::U32));
     drop((elements, columns, structure));
 }

@@ -1,12 +1,13 @@
 //! Values: when they can be made, what they are made from, when they are equal and may be stored.
 
-use crate::tests::asserts::{assert_gives, assert_same};
+use crate::tests::asserts::{assert_gives, assert_is, assert_is_not, assert_same};
 use crate::tests::fixtures::{
     array_of, atomic_from, integers, mat2x3, mat3x2, member_then_index, numbers, one_of_each_kind,
     pair_value, reference_of, twins, vector, vector_of,
 };
 use crate::tests::samples::vector_from;
 use std::alloc::{AllocError, Global};
+use std::mem;
 use std::process::Abort;
 use wgsl_rules::{AccessMode, AddressSpace, Type};
 use wgsl_samples::types::{pair_type, struct_type};
@@ -149,7 +150,7 @@ fn an_atomic_holds_an_i32_or_a_u32(rt: HostRuntime) {
     assert!(rt; !AtomicInstance::can_make(&two));
     assert!(rt; !AtomicInstance::can_make(&Instance::from(Type::U32)));
     let held = atomic_from(&rt, alloc, Instance::from(-5i32));
-    assert_eq!(rt; held.inner(), &Instance::from(-5i32));
+    assert_is(&rt, held.inner(), Instance::from(-5i32));
     drop((two, held));
 }
 
@@ -276,12 +277,13 @@ fn payloads_of_values(rt: HostRuntime) {
     assert_eq!(rt; seven.unwrap_literal_ref(), &U32(7));
     assert_eq!(rt; seven.unwrap_literal(), U32(7));
     let mut components = Instance::Vec(vector_of(&rt, alloc, &[1, 2]));
-    assert_eq!(rt;
+    assert_is(
+        &rt,
         components.unwrap_vec_ref(),
-        &vector_of(&rt, alloc, &[1, 2])
+        vector_of(&rt, alloc, &[1, 2]),
     );
     if let Some(second) = components.unwrap_vec_mut().get_mut(1) {
-        *second = Instance::from(9u32);
+        drop(mem::replace(second, Instance::from(9u32)));
     }
     let wanted = Instance::Vec(vector_of(&rt, alloc, &[1, 9]));
     assert_eq!(rt; components, wanted);
@@ -303,7 +305,7 @@ fn values_of_other_kinds_differ(rt: HostRuntime) {
         for (j, other) in values.iter().enumerate() {
             assert_eq!(rt; value == other, i == j, "{i} and {j}");
         }
-        assert_eq!(rt; &value.clone(alloc).expect(&rt, "memory"), value);
+        assert_is(&rt, value, value.clone(alloc).expect(&rt, "memory"));
     }
 }
 
@@ -321,7 +323,7 @@ fn a_value_with_a_deferred_part_is_not_well_formed(rt: HostRuntime) {
     let alloc = rt.alloc();
     let mut array = array_of(&rt, alloc, &[1, 2], false);
     if let Some(second) = array.get_mut(1) {
-        *second = Instance::from(Type::U32);
+        drop(mem::replace(second, Instance::from(Type::U32)));
     }
     let array = Instance::from(array);
     assert!(rt; !array.is_well_formed());
@@ -339,24 +341,32 @@ fn values_differ_in_any_part(rt: HostRuntime) {
     let mut other = pair.clone(alloc).expect(&rt, "memory");
     assert_eq!(rt; other, pair);
     if let Some(a) = other.member_mut("a") {
-        *a = Instance::from(2u32);
+        drop(mem::replace(a, Instance::from(2u32)));
     }
     assert_ne!(rt; other, pair);
-    assert_ne!(rt; twins(&rt, alloc), pair);
+    assert_is_not(&rt, &pair, twins(&rt, alloc));
     let two = array_of(&rt, alloc, &[1, 2], false);
-    assert_eq!(rt; two.clone(alloc).expect(&rt, "memory"), two);
-    assert_ne!(rt; array_of(&rt, alloc, &[1, 2], true), two);
-    assert_ne!(rt; array_of(&rt, alloc, &[1, 2, 3], false), two);
+    assert_is(&rt, &two, two.clone(alloc).expect(&rt, "memory"));
+    assert_is_not(&rt, &two, array_of(&rt, alloc, &[1, 2], true));
+    assert_is_not(&rt, &two, array_of(&rt, alloc, &[1, 2, 3], false));
     let components = vector_of(&rt, alloc, &[1, 2]);
-    assert_eq!(rt; components.clone(alloc).expect(&rt, "memory"), components);
-    assert_ne!(rt; vector_of(&rt, alloc, &[1, 3]), components);
-    assert_ne!(rt; vector_from(&rt, integers(&rt, alloc, &[1, 2])), components);
+    assert_is(
+        &rt,
+        &components,
+        components.clone(alloc).expect(&rt, "memory"),
+    );
+    assert_is_not(&rt, &components, vector_of(&rt, alloc, &[1, 3]));
+    assert_is_not(
+        &rt,
+        &components,
+        vector_from(&rt, integers(&rt, alloc, &[1, 2])),
+    );
     let matrix = mat2x3(&rt, alloc);
-    assert_eq!(rt; matrix.clone(alloc).expect(&rt, "memory"), matrix);
-    assert_ne!(rt; mat3x2(&rt, alloc), matrix);
+    assert_is(&rt, &matrix, matrix.clone(alloc).expect(&rt, "memory"));
+    assert_is_not(&rt, &matrix, mat3x2(&rt, alloc));
     let atomic = atomic_from(&rt, alloc, Instance::from(5u32));
-    assert_eq!(rt; atomic.clone(alloc).expect(&rt, "memory"), atomic);
-    assert_ne!(rt; atomic_from(&rt, alloc, Instance::from(5i32)), atomic);
+    assert_is(&rt, &atomic, atomic.clone(alloc).expect(&rt, "memory"));
+    assert_is_not(&rt, &atomic, atomic_from(&rt, alloc, Instance::from(5i32)));
     drop((pair, other, two, components, matrix, atomic));
 }
 
@@ -381,7 +391,11 @@ fn assert_differs(
 fn references_differ_in_cell_view_type_space_and_access(rt: HostRuntime) {
     let alloc = rt.alloc();
     let reference = reference_of(&rt, alloc);
-    assert_eq!(rt; reference.clone(alloc).expect(&rt, "memory"), reference);
+    assert_is(
+        &rt,
+        &reference,
+        reference.clone(alloc).expect(&rt, "memory"),
+    );
     let pointer = PtrInstance::from(reference_of(&rt, alloc));
     assert_gives(&rt, pointer.clone(alloc), pointer);
     let (storage, mode) = (AddressSpace::Storage, AccessMode::ReadWrite);

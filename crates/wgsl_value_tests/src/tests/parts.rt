@@ -1,10 +1,11 @@
 //! The parts of values: each lent, each lent to be written, each in its turn.
 
-use crate::tests::asserts::{assert_gives, assert_same};
+use crate::tests::asserts::{assert_gives, assert_has, assert_is, assert_same};
 use crate::tests::fixtures::{
     array_of, atomic_from, mat2x3, mat3x2, member_then_index, numbers, pair_value, reference_of,
     twins, vector_of,
 };
+use std::mem;
 use wgsl_rules::{AccessMode, AddressSpace, Type};
 use wgsl_samples::types::pair_type;
 use wgsl_values::{Instance, PtrInstance, RefInstance};
@@ -13,10 +14,14 @@ use wgsl_values::{Instance, PtrInstance, RefInstance};
 fn members_of_a_structure(rt: HostRuntime) {
     let alloc = rt.alloc();
     let pair = pair_value(&rt, alloc);
-    assert_eq!(rt; pair.struct_ty(), &pair_type(alloc).expect(&rt, "memory"));
+    assert_is(
+        &rt,
+        pair.struct_ty(),
+        pair_type(alloc).expect(&rt, "memory"),
+    );
     assert_eq!(rt; pair.members().len(), 2);
-    assert_same(&rt, pair.members().first(), Some(&Instance::from(1u32)));
-    assert_same(&rt, pair.member("a"), Some(&Instance::from(1u32)));
+    assert_has(&rt, pair.members().first(), Instance::from(1u32));
+    assert_has(&rt, pair.member("a"), Instance::from(1u32));
     let b = Instance::from(vector_of(&rt, alloc, &[2, 3, 4]));
     assert_same(&rt, pair.members().get(1), Some(&b));
     assert_same(&rt, pair.member("b"), Some(&b));
@@ -27,12 +32,12 @@ fn members_of_a_structure(rt: HostRuntime) {
 #[test]
 fn of_two_members_of_a_name_the_first_is_found(rt: HostRuntime) {
     let mut twins = twins(&rt, rt.alloc());
-    assert_same(&rt, twins.member("a"), Some(&Instance::from(1u32)));
+    assert_has(&rt, twins.member("a"), Instance::from(1u32));
     if let Some(first) = twins.member_mut("a") {
-        *first = Instance::from(9u32);
+        drop(mem::replace(first, Instance::from(9u32)));
     }
-    assert_same(&rt, twins.members().first(), Some(&Instance::from(9u32)));
-    assert_same(&rt, twins.members().get(1), Some(&Instance::from(2u32)));
+    assert_has(&rt, twins.members().first(), Instance::from(9u32));
+    assert_has(&rt, twins.members().get(1), Instance::from(2u32));
     assert!(rt; twins.member_mut("b").is_none());
     drop(twins);
 }
@@ -48,17 +53,17 @@ fn elements_of_an_array(rt: HostRuntime) {
         array.as_slice(),
         numbers(&rt, alloc, &[1, 2, 3]).as_slice()
     );
-    assert_same(&rt, array.get(2), Some(&Instance::from(3u32)));
+    assert_has(&rt, array.get(2), Instance::from(3u32));
     assert_eq!(rt; array.get(3), None);
     assert!(rt; array.get_mut(3).is_none());
     if let Some(second) = array.get_mut(1) {
-        *second = Instance::from(9u32);
+        drop(mem::replace(second, Instance::from(9u32)));
     }
-    assert_eq!(rt; array, array_of(&rt, alloc, &[1, 9, 3], false));
+    assert_is(&rt, &array, array_of(&rt, alloc, &[1, 9, 3], false));
     let mut items = array.iter();
-    assert_same(&rt, items.next(), Some(&Instance::from(1u32)));
-    assert_same(&rt, items.next(), Some(&Instance::from(9u32)));
-    assert_same(&rt, items.next(), Some(&Instance::from(3u32)));
+    assert_has(&rt, items.next(), Instance::from(1u32));
+    assert_has(&rt, items.next(), Instance::from(9u32));
+    assert_has(&rt, items.next(), Instance::from(3u32));
     assert_eq!(rt; items.next(), None);
     let mut items = array.into_iter();
     assert_same(&rt, items.next(), Some(Instance::from(1u32)));
@@ -73,21 +78,21 @@ fn components_of_a_vector(rt: HostRuntime) {
     let alloc = rt.alloc();
     let mut components = vector_of(&rt, alloc, &[1, 2]);
     assert_eq!(rt; components.n(), 2);
-    assert_eq!(rt; components[0], Instance::from(1u32));
+    assert_is(&rt, &components[0], Instance::from(1u32));
     assert_eq!(rt;
         components.as_slice(),
         numbers(&rt, alloc, &[1, 2]).as_slice()
     );
-    assert_same(&rt, components.get(1), Some(&Instance::from(2u32)));
+    assert_has(&rt, components.get(1), Instance::from(2u32));
     assert_eq!(rt; components.get(2), None);
     assert!(rt; components.get_mut(2).is_none());
     if let Some(second) = components.get_mut(1) {
-        *second = Instance::from(9u32);
+        drop(mem::replace(second, Instance::from(9u32)));
     }
-    assert_eq!(rt; components, vector_of(&rt, alloc, &[1, 9]));
+    assert_is(&rt, &components, vector_of(&rt, alloc, &[1, 9]));
     let mut items = components.iter();
-    assert_same(&rt, items.next(), Some(&Instance::from(1u32)));
-    assert_same(&rt, items.next(), Some(&Instance::from(9u32)));
+    assert_has(&rt, items.next(), Instance::from(1u32));
+    assert_has(&rt, items.next(), Instance::from(9u32));
     assert_eq!(rt; items.next(), None);
     let mut items = components.into_iter();
     assert_same(&rt, items.next(), Some(Instance::from(1u32)));
@@ -106,8 +111,8 @@ fn columns_of_a_matrix(rt: HostRuntime) {
     assert_same(&rt, matrix.col(0), Some(&first));
     assert_same(&rt, matrix.col(1), Some(&second));
     assert_eq!(rt; matrix.col(2), None);
-    assert_same(&rt, matrix.get(1, 0), Some(&Instance::from(4u32)));
-    assert_same(&rt, matrix.get(0, 2), Some(&Instance::from(3u32)));
+    assert_has(&rt, matrix.get(1, 0), Instance::from(4u32));
+    assert_has(&rt, matrix.get(0, 2), Instance::from(3u32));
     assert_eq!(rt; matrix.get(2, 0), None);
     assert_eq!(rt; matrix.get(0, 3), None);
     let mut columns = matrix.iter_cols();
@@ -126,7 +131,7 @@ fn components_of_a_matrix_come_column_by_column(rt: HostRuntime) {
     let matrix = mat2x3(&rt, rt.alloc());
     let mut components = matrix.iter();
     for n in [1u32, 2, 3, 4, 5, 6] {
-        assert_same(&rt, components.next(), Some(&Instance::from(n)));
+        assert_has(&rt, components.next(), Instance::from(n));
     }
     assert_eq!(rt; components.next(), None);
     drop(components);
@@ -137,24 +142,26 @@ fn writes_to_parts_of_a_matrix(rt: HostRuntime) {
     let alloc = rt.alloc();
     let mut matrix = mat3x2(&rt, alloc);
     if let Some(component) = matrix.get_mut(0, 1) {
-        *component = Instance::from(7u32);
+        drop(mem::replace(component, Instance::from(7u32)));
     }
-    assert_same(&rt, matrix.get(0, 1), Some(&Instance::from(7u32)));
-    assert_same(&rt, matrix.get(1, 0), Some(&Instance::from(2u32)));
+    assert_has(&rt, matrix.get(0, 1), Instance::from(7u32));
+    assert_has(&rt, matrix.get(1, 0), Instance::from(2u32));
     if let Some(column) = matrix.col_mut(2) {
-        *column = Instance::from(vector_of(&rt, alloc, &[8, 9]));
+        drop(mem::replace(column, Instance::from(vector_of(&rt, alloc, &[8, 9]))));
     }
     let text = "mat3x2(vec2(1u, 7u), vec2(2u, 5u), vec2(8u, 9u))";
-    assert_eq!(rt;
+    assert_is(
+        &rt,
+        &text,
         matrix.to_string(alloc).expect(&rt, "memory").as_str(),
-        text
     );
     assert!(rt; matrix.get_mut(3, 0).is_none());
     assert!(rt; matrix.get_mut(0, 2).is_none());
     assert!(rt; matrix.col_mut(3).is_none());
-    assert_eq!(rt;
+    assert_is(
+        &rt,
+        &text,
         matrix.to_string(alloc).expect(&rt, "memory").as_str(),
-        text
     );
     drop(matrix);
 }
@@ -164,9 +171,10 @@ fn a_transposed_matrix_has_the_rows_for_columns(rt: HostRuntime) {
     let alloc = rt.alloc();
     let transposed = mat2x3(&rt, alloc).transpose(alloc).expect(&rt, "memory");
     let text = "mat3x2(vec2(1u, 4u), vec2(2u, 5u), vec2(3u, 6u))";
-    assert_eq!(rt;
+    assert_is(
+        &rt,
+        &text,
         transposed.to_string(alloc).expect(&rt, "memory").as_str(),
-        text
     );
     assert_same(&rt, transposed, mat3x2(&rt, alloc));
     assert_gives(&rt, mat3x2(&rt, alloc).transpose(alloc), mat2x3(&rt, alloc));
@@ -175,9 +183,9 @@ fn a_transposed_matrix_has_the_rows_for_columns(rt: HostRuntime) {
 #[test]
 fn what_an_atomic_holds(rt: HostRuntime) {
     let mut atomic = atomic_from(&rt, rt.alloc(), Instance::from(5i32));
-    assert_eq!(rt; atomic.inner(), &Instance::from(5i32));
+    assert_is(&rt, atomic.inner(), Instance::from(5i32));
     *atomic.inner_mut() = Instance::from(-6i32);
-    assert_eq!(rt; atomic.inner(), &Instance::from(-6i32));
+    assert_is(&rt, atomic.inner(), Instance::from(-6i32));
     drop(atomic);
 }
 
@@ -186,7 +194,7 @@ fn what_references_and_pointers_name(rt: HostRuntime) {
     let alloc = rt.alloc();
     let reference = reference_of(&rt, alloc);
     assert_eq!(rt; reference.cell(), 7);
-    assert_eq!(rt; reference.view(), &member_then_index(&rt, alloc));
+    assert_is(&rt, reference.view(), member_then_index(&rt, alloc));
     assert_eq!(rt; reference.target_ty(), &Type::U32);
     assert_eq!(rt; reference.space(), AddressSpace::Storage);
     assert_eq!(rt; reference.access(), AccessMode::ReadWrite);

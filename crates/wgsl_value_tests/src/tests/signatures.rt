@@ -1,5 +1,6 @@
 //! Call signatures and the arguments of templates.
 
+use crate::tests::asserts::assert_is;
 use std::alloc::{AllocError, Global};
 use wgsl_rules::{AccessMode, Enumerant, Type};
 use wgsl_samples::types::vector;
@@ -36,7 +37,11 @@ fn texts_of_template_arguments(rt: HostRuntime) {
     let alloc = rt.alloc();
     let texts = ["f32", "4", "read_write"];
     for (param, text) in template(alloc).expect(&rt, "memory").iter().zip(texts) {
-        assert_eq!(rt; param.to_string(alloc).expect(&rt, "memory").as_str(), text);
+        assert_is(
+            &rt,
+            &text,
+            param.to_string(alloc).expect(&rt, "memory").as_str(),
+        );
     }
 }
 
@@ -60,13 +65,14 @@ fn texts_of_call_signatures(rt: HostRuntime) {
         "min(u32, AbstractInt)"
     );
     let text = "f<f32, 4, read_write>(u32, vec2<i32>)";
-    assert_eq!(rt;
+    assert_is(
+        &rt,
+        &text,
         templated(alloc)
             .expect(&rt, "memory")
             .to_string(alloc)
             .expect(&rt, "memory")
             .as_str(),
-        text
     );
     drop((without, arguments));
 }
@@ -76,7 +82,7 @@ fn copies_of_template_arguments_are_equal(rt: HostRuntime) {
     let alloc = rt.alloc();
     let params = template(alloc).expect(&rt, "memory");
     for (i, param) in params.iter().enumerate() {
-        assert_eq!(rt; &param.clone(alloc).expect(&rt, "memory"), param);
+        assert_is(&rt, param, param.clone(alloc).expect(&rt, "memory"));
         for (j, other) in params.iter().enumerate() {
             assert_eq!(rt; param == other, i == j);
         }
@@ -88,7 +94,11 @@ fn copies_of_template_arguments_are_equal(rt: HostRuntime) {
 fn signatures_differ_in_name_template_and_arguments(rt: HostRuntime) {
     let alloc = rt.alloc();
     let signature = templated(alloc).expect(&rt, "memory");
-    assert_eq!(rt; signature.clone(alloc).expect(&rt, "memory"), signature);
+    assert_is(
+        &rt,
+        &signature,
+        signature.clone(alloc).expect(&rt, "memory"),
+    );
     let mut other = signature.clone(alloc).expect(&rt, "memory");
     other.name = format!(in alloc; "g").expect(&rt, "memory");
     assert_ne!(rt; other, signature);

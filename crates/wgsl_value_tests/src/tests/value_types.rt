@@ -3,6 +3,7 @@
 ghost use Rattle.wgsl_rules.specs.Values.{IsWellFormed};
 ghost use Rattle.wgsl_values.specs.View.{value_of};
 
+use crate::tests::asserts::assert_is;
 use crate::tests::fixtures::{
     array, array_of, atomic_from, mat2x3, matrix, pair, pair_value, reference, reference_of,
     vector, vector_of,
@@ -17,10 +18,17 @@ use wgsl_values::{Instance, PtrInstance};
 fn assert_type<T: Ty>(rt: &impl Abort, alloc: Global, value: &T, ty: &Type, inner: &Type)
     requires { IsWellFormed (T.value_of value.now) }
 {
-    assert_eq!(rt; &value.ty(alloc).expect(rt, "memory"), ty);
-    assert_eq!(rt; &value.inner_ty(alloc).expect(rt, "memory"), inner);
+    assert_is(&rt, ty, value.ty(alloc).expect(rt, "memory"));
+    assert_is(&rt, inner, value.inner_ty(alloc).expect(rt, "memory"));
     assert!(rt; value.has_ty(ty), "{ty}");
     assert!(rt; !value.has_ty(&Type::F64), "{ty}");
+}
+
+/// Asserts that what has a type has another one.
+fn assert_has_not<T: Ty>(rt: &impl Abort, value: &T, ty: Type)
+    requires { IsWellFormed (T.value_of value.now) }
+{
+    assert!(rt; !value.has_ty(&ty), "{ty}");
 }
 
 #[test]
@@ -33,8 +41,8 @@ fn types_of_composites(rt: HostRuntime) {
     let ty = array(&rt, alloc, Type::U32, Some(2));
     let value = array_of(&rt, alloc, &[1, 2], false);
     assert_type(&rt, alloc, &value, &ty, &Type::U32);
-    assert!(rt; !value.has_ty(&array(&rt, alloc, Type::U32, None)));
-    assert!(rt; !value.has_ty(&array(&rt, alloc, Type::U32, Some(3))));
+    assert_has_not(&rt, &value, array(&rt, alloc, Type::U32, None));
+    assert_has_not(&rt, &value, array(&rt, alloc, Type::U32, Some(3)));
     assert_type(
         &rt,
         alloc,
@@ -45,7 +53,7 @@ fn types_of_composites(rt: HostRuntime) {
     let ty = array(&rt, alloc, Type::U32, None);
     let value = array_of(&rt, alloc, &[1, 2], true);
     assert_type(&rt, alloc, &value, &ty, &Type::U32);
-    assert!(rt; !value.has_ty(&array(&rt, alloc, Type::U32, Some(2))));
+    assert_has_not(&rt, &value, array(&rt, alloc, Type::U32, Some(2)));
     drop((ty, value));
 }
 
@@ -55,8 +63,8 @@ fn types_of_vectors_and_matrices(rt: HostRuntime) {
     let ty = vector(&rt, alloc, 3, Type::U32);
     let value = vector_of(&rt, alloc, &[1, 2, 3]);
     assert_type(&rt, alloc, &value, &ty, &Type::U32);
-    assert!(rt; !value.has_ty(&vector(&rt, alloc, 2, Type::U32)));
-    assert!(rt; !value.has_ty(&vector(&rt, alloc, 3, Type::I32)));
+    assert_has_not(&rt, &value, vector(&rt, alloc, 2, Type::U32));
+    assert_has_not(&rt, &value, vector(&rt, alloc, 3, Type::I32));
     assert_type(
         &rt,
         alloc,
@@ -110,7 +118,11 @@ fn types_of_references_and_pointers(rt: HostRuntime) {
     let ty = reference(&rt, alloc, Type::U32, AccessMode::ReadWrite);
     let value = reference_of(&rt, alloc);
     assert_type(&rt, alloc, &value, &ty, &Type::U32);
-    assert!(rt; !value.has_ty(&reference(&rt, alloc, Type::U32, AccessMode::Read)));
+    assert_has_not(
+        &rt,
+        &value,
+        reference(&rt, alloc, Type::U32, AccessMode::Read),
+    );
     assert_type(
         &rt,
         alloc,

@@ -3,13 +3,14 @@
 ghost use Rattle.wgsl_rules.specs.Values.{IsWellFormed};
 ghost use Rattle.wgsl_values.specs.View.{value_of};
 
-use crate::tests::asserts::assert_same;
+use crate::tests::asserts::{assert_is, assert_is_not, assert_same};
 use crate::tests::fixtures::{
     array, array_of, integers, light, matrix, member_then_index, pair, pair_value, to_component,
     to_member, vector, vector_of,
 };
 use crate::tests::samples::{self, storable, vector_from};
 use std::alloc::{AllocError, Global};
+use std::mem;
 use std::process::Abort;
 use wgsl_rules::Type;
 use wgsl_scalar::Error;
@@ -35,9 +36,9 @@ fn steps_are_put_behind_the_others(rt: HostRuntime) {
     view.append_member(alloc, format!(in alloc; "m").expect(&rt, "memory"))
         .expect(&rt, "memory");
     view.append_index(alloc, 2).expect(&rt, "memory");
-    assert_eq!(rt; view, member_then_index(&rt, alloc));
-    assert_eq!(rt; view.clone(alloc).expect(&rt, "memory"), view);
-    assert_ne!(rt; view, to_component(&rt, alloc));
+    assert_is(&rt, &view, member_then_index(&rt, alloc));
+    assert_is(&rt, &view, view.clone(alloc).expect(&rt, "memory"));
+    assert_is_not(&rt, &view, to_component(&rt, alloc));
     assert_ne!(rt; named(&rt, alloc, "2"), index(&rt, alloc, 2));
     assert_eq!(rt;
         to_member(&rt, alloc)
@@ -53,18 +54,19 @@ fn steps_are_put_behind_the_others(rt: HostRuntime) {
 fn a_view_leads_to_a_part(rt: HostRuntime) {
     let alloc = rt.alloc();
     let value = storable(&rt, light(&rt, alloc));
-    assert_eq!(rt;
+    assert_is(
+        &rt,
         value.view(alloc, &MemView::Whole).expect(&rt, "memory"),
-        &light(&rt, alloc)
+        light(&rt, alloc),
     );
     let component = value
         .view(alloc, &to_component(&rt, alloc))
         .expect(&rt, "memory");
-    assert_eq!(rt; component, &Instance::from(6u32));
+    assert_is(&rt, component, Instance::from(6u32));
     let b = value
         .view(alloc, &to_member(&rt, alloc))
         .expect(&rt, "memory");
-    assert_eq!(rt; b, &Instance::from(vector_of(&rt, alloc, &[2, 3, 4])));
+    assert_is(&rt, b, Instance::from(vector_of(&rt, alloc, &[2, 3, 4])));
     drop((component, b));
 }
 
@@ -157,12 +159,16 @@ fn a_part_is_written_through_a_view(rt: HostRuntime) {
     let mut value = storable(&rt, light(&rt, alloc));
     let view = to_component(&rt, alloc);
     let mut component = value.view_mut(alloc, &view).expect(&rt, "memory");
-    assert_eq!(rt; *component, Instance::from(6u32));
-    *component = Instance::from(9u32);
+    assert_is(&rt, &*component, Instance::from(6u32));
+    drop(mem::replace(&mut *component, Instance::from(9u32)));
     drop(component);
     let text =
         "Light(mat2x3(vec3(1u, 2u, 3u), vec3(4u, 5u, 9u)), array(Pair(1u, vec3(2u, 3u, 4u))))";
-    assert_eq!(rt; value.to_string(alloc).expect(&rt, "memory").as_str(), text);
+    assert_is(
+        &rt,
+        &text,
+        value.to_string(alloc).expect(&rt, "memory").as_str(),
+    );
     drop(value);
 }
 
@@ -179,17 +185,29 @@ fn a_part_is_put_into_its_place(rt: HostRuntime) {
     );
     let text =
         "Light(mat2x3(vec3(1u, 2u, 3u), vec3(4u, 5u, 6u)), array(Pair(1u, vec3(7u, 8u, 9u))))";
-    assert_eq!(rt; value.to_string(alloc).expect(&rt, "memory").as_str(), text);
+    assert_is(
+        &rt,
+        &text,
+        value.to_string(alloc).expect(&rt, "memory").as_str(),
+    );
     assert_same(
         &rt,
         value.put(&index(&rt, alloc, 0), Instance::from(1u32)),
         None,
     );
-    assert_eq!(rt; value.to_string(alloc).expect(&rt, "memory").as_str(), text);
+    assert_is(
+        &rt,
+        &text,
+        value.to_string(alloc).expect(&rt, "memory").as_str(),
+    );
     Instance::from(5u32).place(&mut value, &to_component(&rt, alloc));
     let text =
         "Light(mat2x3(vec3(1u, 2u, 3u), vec3(4u, 5u, 5u)), array(Pair(1u, vec3(7u, 8u, 9u))))";
-    assert_eq!(rt; value.to_string(alloc).expect(&rt, "memory").as_str(), text);
+    assert_is(
+        &rt,
+        &text,
+        value.to_string(alloc).expect(&rt, "memory").as_str(),
+    );
     drop(value);
 }
 
