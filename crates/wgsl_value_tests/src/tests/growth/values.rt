@@ -1,12 +1,11 @@
 //! Making, copies, types and texts of values.
 
-use crate::tests::asserts::assert_same;
+use crate::tests::asserts::{assert_is, assert_same};
 use crate::tests::samples::{
     array_of, atomic_from, mat2x3, mat3x2, one_of_each_kind, pair_value, storable, vector_of,
 };
 use std::alloc::{AllocError, Global};
 use std::process::Abort;
-use std::test::Fail;
 use wgsl_rules::{Ty, Type};
 use wgsl_samples::types::{array, pair, vector};
 use wgsl_samples::values::{numbers, reference_of};
@@ -14,126 +13,108 @@ use wgsl_scalar::Error;
 use wgsl_scalar::LiteralInstance::{I32, U32};
 use wgsl_values::{AtomicInstance, Instance, PtrInstance, VecInstance};
 
-/// What the call answers; it is made again where it wants memory, since one growth alone is refused.
+/// What the call answers. One growth alone is refused: where the call wants memory, it is made again.
 macro_rules! answer_of {
-    ($call:expr) => {
+    ($rt:expr; $call:expr) => {
         match $call {
             Ok(answer) => answer,
-            Err(_) => $call?,
+            Err(_) => $call.expect(&$rt, "memory"),
         }
     };
 }
 
 #[test]
-fn vectors_of_literals_want_memory_or_are_made(rt: HostRuntime) -> Result<(), Fail> {
+fn vectors_of_literals_want_memory_or_are_made(rt: HostRuntime) {
     let alloc = rt.alloc();
-    let Ok(wanted) = vector_of(&rt, alloc, &[1, 2]) else {
-        return Ok(());
-    };
-    let two = answer_of!(VecInstance::from2(alloc, [U32(1), U32(2)]));
-    assert_eq!(rt; two, wanted);
-    let Ok(wanted) = vector_of(&rt, alloc, &[1, 2, 3]) else {
-        return Ok(());
-    };
-    let three = answer_of!(VecInstance::from3(alloc, [U32(1), U32(2), U32(3)]));
-    assert_eq!(rt; three, wanted);
-    let Ok(wanted) = vector_of(&rt, alloc, &[1, 2, 3, 4]) else {
-        return Ok(());
-    };
-    let four = answer_of!(VecInstance::from4(alloc, [U32(1), U32(2), U32(3), U32(4)]));
-    assert_eq!(rt; four, wanted);
-    Ok(())
+    let wanted = answer_of!(rt; vector_of(&rt, alloc, &[1, 2]));
+    assert_same(
+        &rt,
+        answer_of!(rt; VecInstance::from2(alloc, [U32(1), U32(2)])),
+        wanted,
+    );
+    let wanted = answer_of!(rt; vector_of(&rt, alloc, &[1, 2, 3]));
+    assert_same(
+        &rt,
+        answer_of!(rt; VecInstance::from3(alloc, [U32(1), U32(2), U32(3)])),
+        wanted,
+    );
+    let wanted = answer_of!(rt; vector_of(&rt, alloc, &[1, 2, 3, 4]));
+    assert_same(
+        &rt,
+        answer_of!(rt; VecInstance::from4(alloc, [U32(1), U32(2), U32(3), U32(4)])),
+        wanted,
+    );
 }
 
 #[test]
-fn an_atomic_wants_memory_or_is_made(rt: HostRuntime) -> Result<(), Fail> {
+fn an_atomic_wants_memory_or_is_made(rt: HostRuntime) {
     let alloc = rt.alloc();
-    let atomic = answer_of!(atomic_from(&rt, alloc, Instance::from(5i32)));
-    assert_eq!(rt; atomic.inner(), &Instance::from(5i32));
-    Ok(())
+    let atomic = answer_of!(rt; atomic_from(&rt, alloc, Instance::from(5i32)));
+    assert_is(&rt, atomic.inner(), Instance::from(5i32));
+    drop(atomic);
 }
 
 #[test]
-fn a_transposed_matrix_wants_memory_or_is_made(rt: HostRuntime) -> Result<(), Fail> {
+fn a_transposed_matrix_wants_memory_or_is_made(rt: HostRuntime) {
     let alloc = rt.alloc();
-    let Ok(matrix) = mat2x3(&rt, alloc) else {
-        return Ok(());
-    };
-    let Ok(wanted) = mat3x2(&rt, alloc) else {
-        return Ok(());
-    };
-    assert_eq!(rt; answer_of!(matrix.transpose(alloc)), wanted);
-    Ok(())
+    let matrix = answer_of!(rt; mat2x3(&rt, alloc));
+    let wanted = answer_of!(rt; mat3x2(&rt, alloc));
+    assert_is(&rt, &wanted, answer_of!(rt; matrix.transpose(alloc)));
+    drop((matrix, wanted));
 }
 
 #[test]
-fn a_copy_of_a_value_wants_memory_or_is_equal(rt: HostRuntime) -> Result<(), Fail> {
+fn a_copy_of_a_value_wants_memory_or_is_equal(rt: HostRuntime) {
     let alloc = rt.alloc();
-    let Ok(values) = one_of_each_kind(&rt, alloc) else {
-        return Ok(());
-    };
+    let values = answer_of!(rt; one_of_each_kind(&rt, alloc));
     for value in &values {
-        assert_eq!(rt; &answer_of!(value.clone(alloc)), value);
+        assert_is(&rt, value, answer_of!(rt; value.clone(alloc)));
     }
-    Ok(())
 }
 
 #[test]
-fn a_copy_of_a_composite_wants_memory_or_is_equal(rt: HostRuntime) -> Result<(), Fail> {
+fn a_copy_of_a_composite_wants_memory_or_is_equal(rt: HostRuntime) {
     let alloc = rt.alloc();
-    if let Ok(pair) = pair_value(&rt, alloc) {
-        assert_eq!(rt; answer_of!(pair.clone(alloc)), pair);
-    }
-    if let Ok(elements) = array_of(&rt, alloc, &[1, 2], true) {
-        assert_eq!(rt; answer_of!(elements.clone(alloc)), elements);
-    }
-    if let Ok(components) = vector_of(&rt, alloc, &[1, 2, 3]) {
-        assert_eq!(rt; answer_of!(components.clone(alloc)), components);
-    }
-    if let Ok(matrix) = mat2x3(&rt, alloc) {
-        assert_eq!(rt; answer_of!(matrix.clone(alloc)), matrix);
-    }
-    Ok(())
+    let pair = answer_of!(rt; pair_value(&rt, alloc));
+    assert_is(&rt, &pair, answer_of!(rt; pair.clone(alloc)));
+    let elements = answer_of!(rt; array_of(&rt, alloc, &[1, 2], true));
+    assert_is(&rt, &elements, answer_of!(rt; elements.clone(alloc)));
+    let components = answer_of!(rt; vector_of(&rt, alloc, &[1, 2, 3]));
+    assert_is(&rt, &components, answer_of!(rt; components.clone(alloc)));
+    let matrix = answer_of!(rt; mat2x3(&rt, alloc));
+    assert_is(&rt, &matrix, answer_of!(rt; matrix.clone(alloc)));
+    drop((pair, elements, components, matrix));
 }
 
 #[test]
-fn a_copy_of_an_atomic_or_a_reference_wants_memory_or_is_equal(
-    rt: HostRuntime,
-) -> Result<(), Fail> {
+fn a_copy_of_an_atomic_or_a_reference_wants_memory_or_is_equal(rt: HostRuntime) {
     let alloc = rt.alloc();
-    if let Ok(atomic) = atomic_from(&rt, alloc, Instance::from(5i32)) {
-        assert_eq!(rt; answer_of!(atomic.clone(alloc)), atomic);
-    }
-    if let Ok(reference) = reference_of(alloc) {
-        assert_eq!(rt; answer_of!(reference.clone(alloc)), reference);
-        let pointer = PtrInstance::from(reference);
-        assert_eq!(rt; answer_of!(pointer.clone(alloc)), pointer);
-    }
-    Ok(())
+    let atomic = answer_of!(rt; atomic_from(&rt, alloc, Instance::from(5i32)));
+    assert_is(&rt, &atomic, answer_of!(rt; atomic.clone(alloc)));
+    let reference = answer_of!(rt; reference_of(alloc));
+    assert_is(&rt, &reference, answer_of!(rt; reference.clone(alloc)));
+    let pointer = PtrInstance::from(reference);
+    assert_is(&rt, &pointer, answer_of!(rt; pointer.clone(alloc)));
+    drop((atomic, pointer));
 }
 
 #[test]
-fn the_type_of_a_value_wants_memory_or_is_told(rt: HostRuntime) -> Result<(), Fail> {
+fn the_type_of_a_value_wants_memory_or_is_told(rt: HostRuntime) {
     let alloc = rt.alloc();
-    let Ok(values) = one_of_each_kind(&rt, alloc) else {
-        return Ok(());
-    };
+    let values = answer_of!(rt; one_of_each_kind(&rt, alloc));
     for value in &values {
         assert!(rt; value.is_well_formed());
-        let ty = answer_of!(value.ty(alloc));
+        let ty = answer_of!(rt; value.ty(alloc));
         assert!(rt; value.has_ty(&ty), "{ty}");
-        let inner = answer_of!(value.inner_ty(alloc));
-        assert_eq!(rt; &inner, ty.inner());
+        assert_is(&rt, ty.inner(), answer_of!(rt; value.inner_ty(alloc)));
+        drop(ty);
     }
-    Ok(())
 }
 
 #[test]
-fn the_text_of_a_value_wants_memory_or_is_whole(rt: HostRuntime) -> Result<(), Fail> {
+fn the_text_of_a_value_wants_memory_or_is_whole(rt: HostRuntime) {
     let alloc = rt.alloc();
-    let Ok(values) = one_of_each_kind(&rt, alloc) else {
-        return Ok(());
-    };
+    let values = answer_of!(rt; one_of_each_kind(&rt, alloc));
     let texts = [
         "7u",
         "Pair(1u, vec3(2u, 3u, 4u))",
@@ -146,9 +127,13 @@ fn the_text_of_a_value_wants_memory_or_is_whole(rt: HostRuntime) -> Result<(), F
         "__deferred<u32>",
     ];
     for (value, text) in values.iter().zip(texts) {
-        assert_eq!(rt; answer_of!(value.to_string(alloc)).as_str(), text);
+        assert_eq!(rt; answer_of!(rt; value.to_string(alloc)).as_str(), text);
     }
-    Ok(())
+}
+
+/// array(4u, 5u)
+fn two_numbers(rt: &impl Abort, alloc: Global) -> Result<Instance, AllocError> {
+    Ok(Instance::from(array_of(rt, alloc, &[4, 5], false)?))
 }
 
 /// An array of the type `array<u32, 3>`, two of the type `array<u32, 2>`, and why one of these
@@ -158,8 +143,8 @@ fn arrays(
     alloc: Global,
 ) -> Result<(Instance, Instance, Instance, Error), AllocError> {
     let own = Instance::from(array_of(rt, alloc, &[1, 2, 3], false)?);
-    let first = Instance::from(array_of(rt, alloc, &[4, 5], false)?);
-    let second = Instance::from(array_of(rt, alloc, &[4, 5], false)?);
+    let first = two_numbers(rt, alloc)?;
+    let second = two_numbers(rt, alloc)?;
     let two = array(alloc, Type::U32, Some(2))?;
     let three = array(alloc, Type::U32, Some(3))?;
     Ok((own, first, second, Error::WriteRefType(two, three)))
@@ -168,12 +153,8 @@ fn arrays(
 #[test]
 fn a_refused_write_wants_memory_or_is_told_and_changes_nothing(rt: HostRuntime) {
     let alloc = rt.alloc();
-    let Ok((value, first, second, error)) = arrays(&rt, alloc) else {
-        return;
-    };
-    let Ok(copy) = value.clone(alloc) else {
-        return;
-    };
+    let (value, first, second, error) = answer_of!(rt; arrays(&rt, alloc));
+    let copy = answer_of!(rt; value.clone(alloc));
     let mut value = storable(&rt, value);
     let first = storable(&rt, first);
     let second = storable(&rt, second);
@@ -182,21 +163,20 @@ fn a_refused_write_wants_memory_or_is_told_and_changes_nothing(rt: HostRuntime) 
             assert_eq!(rt; value, copy);
             value.write(alloc, second).err()
         }
-        refusal => refusal,
+        refusal => {
+            drop(second);
+            refusal
+        }
     };
     assert_same(&rt, refusal, Some(error));
-    assert_eq!(rt; value, copy);
-    drop(value);
+    assert_same(&rt, value, copy);
 }
 
 #[test]
 fn an_accepted_write_takes_no_memory(rt: HostRuntime) {
     let alloc = rt.alloc();
-    let Ok((_, first, second, _)) = arrays(&rt, alloc) else {
-        return;
-    };
-    let mut value = storable(&rt, first);
-    let second = storable(&rt, second);
-    assert!(rt; value.write(alloc, second).is_ok());
+    let mut value = storable(&rt, answer_of!(rt; two_numbers(&rt, alloc)));
+    let next = storable(&rt, answer_of!(rt; two_numbers(&rt, alloc)));
+    drop(value.write(alloc, next).expect(&rt, "accepted"));
     drop(value);
 }
