@@ -25,7 +25,7 @@ fn members_of_a_structure(rt: HostRuntime) {
     let b = Instance::from(vector_of(&rt, alloc, &[2, 3, 4]));
     assert_same(&rt, pair.members().get(1), Some(&b));
     assert_same(&rt, pair.member("b"), Some(&b));
-    assert_eq!(rt; pair.member("c"), None);
+    assert_same(&rt, pair.member("c"), None);
     drop((pair, b));
 }
 
@@ -47,14 +47,16 @@ fn elements_of_an_array(rt: HostRuntime) {
     let alloc = rt.alloc();
     let mut array = array_of(&rt, alloc, &[1, 2, 3], false);
     assert!(rt; !array.runtime_sized());
-    assert!(rt; array_of(&rt, alloc, &[1], true).runtime_sized());
+    let one = array_of(&rt, alloc, &[1], true);
+    assert!(rt; one.runtime_sized());
+    drop(one);
     assert_eq!(rt; array.n(), 3);
     assert_eq!(rt;
         array.as_slice(),
         numbers(&rt, alloc, &[1, 2, 3]).as_slice()
     );
     assert_has(&rt, array.get(2), Instance::from(3u32));
-    assert_eq!(rt; array.get(3), None);
+    assert_same(&rt, array.get(3), None);
     assert!(rt; array.get_mut(3).is_none());
     if let Some(second) = array.get_mut(1) {
         drop(mem::replace(second, Instance::from(9u32)));
@@ -64,12 +66,12 @@ fn elements_of_an_array(rt: HostRuntime) {
     assert_has(&rt, items.next(), Instance::from(1u32));
     assert_has(&rt, items.next(), Instance::from(9u32));
     assert_has(&rt, items.next(), Instance::from(3u32));
-    assert_eq!(rt; items.next(), None);
+    assert_same(&rt, items.next(), None);
     let mut items = array.into_iter();
     assert_same(&rt, items.next(), Some(Instance::from(1u32)));
     assert_same(&rt, items.next(), Some(Instance::from(9u32)));
     assert_same(&rt, items.next(), Some(Instance::from(3u32)));
-    assert_eq!(rt; items.next(), None);
+    assert_same(&rt, items.next(), None);
     drop(items);
 }
 
@@ -84,7 +86,7 @@ fn components_of_a_vector(rt: HostRuntime) {
         numbers(&rt, alloc, &[1, 2]).as_slice()
     );
     assert_has(&rt, components.get(1), Instance::from(2u32));
-    assert_eq!(rt; components.get(2), None);
+    assert_same(&rt, components.get(2), None);
     assert!(rt; components.get_mut(2).is_none());
     if let Some(second) = components.get_mut(1) {
         drop(mem::replace(second, Instance::from(9u32)));
@@ -93,11 +95,11 @@ fn components_of_a_vector(rt: HostRuntime) {
     let mut items = components.iter();
     assert_has(&rt, items.next(), Instance::from(1u32));
     assert_has(&rt, items.next(), Instance::from(9u32));
-    assert_eq!(rt; items.next(), None);
+    assert_same(&rt, items.next(), None);
     let mut items = components.into_iter();
     assert_same(&rt, items.next(), Some(Instance::from(1u32)));
     assert_same(&rt, items.next(), Some(Instance::from(9u32)));
-    assert_eq!(rt; items.next(), None);
+    assert_same(&rt, items.next(), None);
 }
 
 #[test]
@@ -110,19 +112,19 @@ fn columns_of_a_matrix(rt: HostRuntime) {
     let second = Instance::from(vector_of(&rt, alloc, &[4, 5, 6]));
     assert_same(&rt, matrix.col(0), Some(&first));
     assert_same(&rt, matrix.col(1), Some(&second));
-    assert_eq!(rt; matrix.col(2), None);
+    assert_same(&rt, matrix.col(2), None);
     assert_has(&rt, matrix.get(1, 0), Instance::from(4u32));
     assert_has(&rt, matrix.get(0, 2), Instance::from(3u32));
-    assert_eq!(rt; matrix.get(2, 0), None);
-    assert_eq!(rt; matrix.get(0, 3), None);
+    assert_same(&rt, matrix.get(2, 0), None);
+    assert_same(&rt, matrix.get(0, 3), None);
     let mut columns = matrix.iter_cols();
     assert_same(&rt, columns.next(), Some(&first));
     assert_same(&rt, columns.next(), Some(&second));
-    assert_eq!(rt; columns.next(), None);
+    assert_same(&rt, columns.next(), None);
     let mut columns = matrix.into_iter();
     assert_same(&rt, columns.next(), Some(first));
     assert_same(&rt, columns.next(), Some(second));
-    assert_eq!(rt; columns.next(), None);
+    assert_same(&rt, columns.next(), None);
     drop(columns);
 }
 
@@ -133,7 +135,7 @@ fn components_of_a_matrix_come_column_by_column(rt: HostRuntime) {
     for n in [1u32, 2, 3, 4, 5, 6] {
         assert_has(&rt, components.next(), Instance::from(n));
     }
-    assert_eq!(rt; components.next(), None);
+    assert_same(&rt, components.next(), None);
     drop(components);
 }
 
@@ -169,22 +171,22 @@ fn writes_to_parts_of_a_matrix(rt: HostRuntime) {
 #[test]
 fn a_transposed_matrix_has_the_rows_for_columns(rt: HostRuntime) {
     let alloc = rt.alloc();
-    let transposed = mat2x3(&rt, alloc).transpose(alloc).expect(&rt, "memory");
-    let text = "mat3x2(vec2(1u, 4u), vec2(2u, 5u), vec2(3u, 6u))";
-    assert_is(
-        &rt,
-        &text,
+    let matrix = mat2x3(&rt, alloc);
+    let transposed = matrix.transpose(alloc).expect(&rt, "memory");
+    assert_eq!(rt;
         transposed.to_string(alloc).expect(&rt, "memory").as_str(),
+        "mat3x2(vec2(1u, 4u), vec2(2u, 5u), vec2(3u, 6u))"
     );
-    assert_same(&rt, transposed, mat3x2(&rt, alloc));
-    assert_gives(&rt, mat3x2(&rt, alloc).transpose(alloc), mat2x3(&rt, alloc));
+    let wanted = mat3x2(&rt, alloc);
+    assert_gives(&rt, wanted.transpose(alloc), matrix);
+    assert_same(&rt, transposed, wanted);
 }
 
 #[test]
 fn what_an_atomic_holds(rt: HostRuntime) {
     let mut atomic = atomic_from(&rt, rt.alloc(), Instance::from(5i32));
     assert_is(&rt, atomic.inner(), Instance::from(5i32));
-    *atomic.inner_mut() = Instance::from(-6i32);
+    drop(mem::replace(atomic.inner_mut(), Instance::from(-6i32)));
     assert_is(&rt, atomic.inner(), Instance::from(-6i32));
     drop(atomic);
 }

@@ -87,13 +87,13 @@ fn assert_refused(rt: &impl Abort, alloc: Global, value: Instance, view: MemView
 {
     let mut whole = value.clone(alloc).expect(rt, "memory");
     assert!(rt; whole.is_well_formed());
-    match value.view(alloc, &view) {
-        Ok(_) => assert!(rt; false, "{view}"),
-        Err(refusal) => assert_eq!(rt; refusal, error),
-    }
-    let refusal = refusal_to_write(alloc, &mut whole, &view);
-    assert_eq!(rt; refusal, Some(error), "{view}");
+    let refusal = value.view(alloc, &view).err();
+    assert_eq!(rt; refusal.as_ref(), Some(&error), "{view}");
+    let write_refusal = refusal_to_write(alloc, &mut whole, &view);
+    assert_eq!(rt; write_refusal.as_ref(), Some(&error), "{view}");
     assert_eq!(rt; whole, value);
+    drop((refusal, write_refusal, whole));
+    drop((value, view, error));
 }
 
 fn component(rt: &impl Abort, alloc: Global, ty: Type, name: &str) -> Error {
