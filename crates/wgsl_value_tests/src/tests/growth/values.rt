@@ -138,22 +138,24 @@ fn two_numbers(rt: &impl Abort, alloc: Global) -> Result<Instance, AllocError> {
 
 /// An array of the type `array<u32, 3>`, two of the type `array<u32, 2>`, and why one of these
 /// doesn't go into the place of the first.
-fn arrays(
-    rt: &impl Abort,
-    alloc: Global,
-) -> Result<(Instance, Instance, Instance, Error), AllocError> {
-    let own = Instance::from(array_of(rt, alloc, &[1, 2, 3], false)?);
-    let first = two_numbers(rt, alloc)?;
-    let second = two_numbers(rt, alloc)?;
-    let two = array(alloc, Type::U32, Some(2))?;
-    let three = array(alloc, Type::U32, Some(3))?;
-    Ok((own, first, second, Error::WriteRefType(two, three)))
+fn arrays(rt: &impl Abort, alloc: Global) -> (Instance, Instance, Instance, Error) {
+    let own = answer_of!(*rt; array_of(rt, alloc, &[1, 2, 3], false));
+    let first = answer_of!(*rt; two_numbers(rt, alloc));
+    let second = answer_of!(*rt; two_numbers(rt, alloc));
+    let two = answer_of!(*rt; array(alloc, Type::U32, Some(2)));
+    let three = answer_of!(*rt; array(alloc, Type::U32, Some(3)));
+    (
+        Instance::from(own),
+        first,
+        second,
+        Error::WriteRefType(two, three),
+    )
 }
 
 #[test]
 fn a_refused_write_wants_memory_or_is_told_and_changes_nothing(rt: HostRuntime) {
     let alloc = rt.alloc();
-    let (value, first, second, error) = answer_of!(rt; arrays(&rt, alloc));
+    let (value, first, second, error) = arrays(&rt, alloc);
     let copy = answer_of!(rt; value.clone(alloc));
     let mut value = storable(&rt, value);
     let first = storable(&rt, first);
