@@ -152,18 +152,16 @@ fn writes_to_parts_of_a_matrix(rt: HostRuntime) {
         drop(mem::replace(column, Instance::from(vector_of(&rt, alloc, &[8, 9]))));
     }
     let text = "mat3x2(vec2(1u, 7u), vec2(2u, 5u), vec2(8u, 9u))";
-    assert_is(
-        &rt,
-        &text,
+    assert_eq!(rt;
         matrix.to_string(alloc).expect(&rt, "memory").as_str(),
+        text
     );
     assert!(rt; matrix.get_mut(3, 0).is_none());
     assert!(rt; matrix.get_mut(0, 2).is_none());
     assert!(rt; matrix.col_mut(3).is_none());
-    assert_is(
-        &rt,
-        &text,
+    assert_eq!(rt;
         matrix.to_string(alloc).expect(&rt, "memory").as_str(),
+        text
     );
     drop(matrix);
 }

@@ -37,11 +37,7 @@ fn texts_of_template_arguments(rt: HostRuntime) {
     let alloc = rt.alloc();
     let texts = ["f32", "4", "read_write"];
     for (param, text) in template(alloc).expect(&rt, "memory").iter().zip(texts) {
-        assert_is(
-            &rt,
-            &text,
-            param.to_string(alloc).expect(&rt, "memory").as_str(),
-        );
+        assert_eq!(rt; param.to_string(alloc).expect(&rt, "memory").as_str(), text);
     }
 }
 
@@ -65,14 +61,13 @@ fn texts_of_call_signatures(rt: HostRuntime) {
         "min(u32, AbstractInt)"
     );
     let text = "f<f32, 4, read_write>(u32, vec2<i32>)";
-    assert_is(
-        &rt,
-        &text,
+    assert_eq!(rt;
         templated(alloc)
             .expect(&rt, "memory")
             .to_string(alloc)
             .expect(&rt, "memory")
             .as_str(),
+        text
     );
     drop((without, arguments));
 }

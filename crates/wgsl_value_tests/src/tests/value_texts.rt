@@ -1,6 +1,5 @@
 //! The texts of values of all kinds.
 
-use crate::tests::asserts::assert_is;
 use crate::tests::fixtures::{
     array_of, atomic_from, integers, mat2x3, member_then_index, pair_value, reference_of, vector,
     vector_of,
@@ -11,11 +10,7 @@ use wgsl_rules::Type;
 use wgsl_values::{ArrayInstance, Instance, MemView, PtrInstance};
 
 fn assert_text(rt: &impl Abort, alloc: Global, value: Instance, text: &str) {
-    assert_is(
-        &rt,
-        &text,
-        value.to_string(alloc).expect(rt, "memory").as_str(),
-    );
+    assert_eq!(rt; value.to_string(alloc).expect(rt, "memory").as_str(), text);
 }
 
 #[test]
@@ -52,10 +47,9 @@ fn values_of_each_kind_have_a_text(rt: HostRuntime) {
     assert_text(&rt, alloc, Instance::from(components), "vec3(1u, 2u, 3u)");
     let matrix = mat2x3(&rt, alloc);
     let text = "mat2x3(vec3(1u, 2u, 3u), vec3(4u, 5u, 6u))";
-    assert_is(
-        &rt,
-        &text,
+    assert_eq!(rt;
         matrix.to_string(alloc).expect(&rt, "memory").as_str(),
+        text
     );
     assert_text(&rt, alloc, Instance::from(matrix), text);
     let atomic = atomic_from(&rt, alloc, Instance::from(5i32));
@@ -73,18 +67,16 @@ fn pointers_and_references_print_their_types(rt: HostRuntime) {
     let alloc = rt.alloc();
     let reference = reference_of(&rt, alloc);
     let text = "ref<storage, u32, read_write>";
-    assert_is(
-        &rt,
-        &text,
+    assert_eq!(rt;
         reference.to_string(alloc).expect(&rt, "memory").as_str(),
+        text
     );
     assert_text(&rt, alloc, Instance::from(reference), text);
     let pointer = PtrInstance::from(reference_of(&rt, alloc));
     let text = "ptr<storage, u32, read_write>";
-    assert_is(
-        &rt,
-        &text,
+    assert_eq!(rt;
         pointer.to_string(alloc).expect(&rt, "memory").as_str(),
+        text
     );
     assert_text(&rt, alloc, Instance::from(pointer), text);
 }

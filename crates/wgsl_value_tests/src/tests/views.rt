@@ -164,11 +164,7 @@ fn a_part_is_written_through_a_view(rt: HostRuntime) {
     drop(component);
     let text =
         "Light(mat2x3(vec3(1u, 2u, 3u), vec3(4u, 5u, 9u)), array(Pair(1u, vec3(2u, 3u, 4u))))";
-    assert_is(
-        &rt,
-        &text,
-        value.to_string(alloc).expect(&rt, "memory").as_str(),
-    );
+    assert_eq!(rt; value.to_string(alloc).expect(&rt, "memory").as_str(), text);
     drop(value);
 }
 
@@ -185,29 +181,17 @@ fn a_part_is_put_into_its_place(rt: HostRuntime) {
     );
     let text =
         "Light(mat2x3(vec3(1u, 2u, 3u), vec3(4u, 5u, 6u)), array(Pair(1u, vec3(7u, 8u, 9u))))";
-    assert_is(
-        &rt,
-        &text,
-        value.to_string(alloc).expect(&rt, "memory").as_str(),
-    );
+    assert_eq!(rt; value.to_string(alloc).expect(&rt, "memory").as_str(), text);
     assert_same(
         &rt,
         value.put(&index(&rt, alloc, 0), Instance::from(1u32)),
         None,
     );
-    assert_is(
-        &rt,
-        &text,
-        value.to_string(alloc).expect(&rt, "memory").as_str(),
-    );
+    assert_eq!(rt; value.to_string(alloc).expect(&rt, "memory").as_str(), text);
     Instance::from(5u32).place(&mut value, &to_component(&rt, alloc));
     let text =
         "Light(mat2x3(vec3(1u, 2u, 3u), vec3(4u, 5u, 5u)), array(Pair(1u, vec3(7u, 8u, 9u))))";
-    assert_is(
-        &rt,
-        &text,
-        value.to_string(alloc).expect(&rt, "memory").as_str(),
-    );
+    assert_eq!(rt; value.to_string(alloc).expect(&rt, "memory").as_str(), text);
     drop(value);
 }
 
