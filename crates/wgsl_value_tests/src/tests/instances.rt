@@ -6,7 +6,7 @@ use crate::tests::fixtures::{
     pair_value, reference_of, twins, vector, vector_of,
 };
 use crate::tests::samples::vector_from;
-use std::alloc::{AllocError, Global};
+use std::alloc::Global;
 use std::mem;
 use std::process::Abort;
 use wgsl_rules::{AccessMode, AddressSpace, Type};

@@ -4,7 +4,7 @@ use crate::tests::fixtures::{
     array_of, atomic_from, integers, mat2x3, member_then_index, pair_value, reference_of, vector,
     vector_of,
 };
-use std::alloc::{AllocError, Global};
+use std::alloc::Global;
 use std::process::Abort;
 use wgsl_rules::Type;
 use wgsl_values::{ArrayInstance, Instance, MemView, PtrInstance};

@@ -9,7 +9,7 @@ use crate::tests::fixtures::{
     vector, vector_of,
 };
 use crate::tests::samples::storable;
-use std::alloc::{AllocError, Global};
+use std::alloc::Global;
 use std::process::Abort;
 use wgsl_rules::{AccessMode, AddressSpace, Ty, Type};
 use wgsl_values::{Instance, PtrInstance};

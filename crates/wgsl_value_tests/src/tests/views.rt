@@ -9,7 +9,7 @@ use crate::tests::fixtures::{
     to_member, vector, vector_of,
 };
 use crate::tests::samples::{self, storable, vector_from};
-use std::alloc::{AllocError, Global};
+use std::alloc::Global;
 use std::mem;
 use std::process::Abort;
 use wgsl_rules::Type;

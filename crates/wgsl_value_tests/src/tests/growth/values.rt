@@ -7,11 +7,11 @@ use crate::tests::samples::{
 use std::alloc::{AllocError, Global};
 use std::process::Abort;
 use wgsl_rules::{Ty, Type};
-use wgsl_samples::types::{array, pair, vector};
-use wgsl_samples::values::{numbers, reference_of};
+use wgsl_samples::types::array;
+use wgsl_samples::values::reference_of;
 use wgsl_scalar::Error;
-use wgsl_scalar::LiteralInstance::{I32, U32};
-use wgsl_values::{AtomicInstance, Instance, PtrInstance, VecInstance};
+use wgsl_scalar::LiteralInstance::U32;
+use wgsl_values::{Instance, PtrInstance, VecInstance};
 
 /// What the call answers. One growth alone is refused: where the call wants memory, it is made again.
 macro_rules! answer_of {
