@@ -1,8 +1,10 @@
 //! What public calls on types and literals answer.
 
+mod asserts;
 mod errors;
 mod growth;
 mod literals;
 mod operators;
+mod samples;
 mod sizes;
 mod types;

@@ -2,7 +2,6 @@ use crate::tests::output_of;
 use crate::{RunFault, run_script};
 use std::io;
 use std::io::{Read, Write};
-use std::test::Fail;
 
 /// Gives one byte a call, and fails once it gave `before` of them.
 #[derive(Drop)]
@@ -95,14 +94,13 @@ refused BadLine
 ";
 
 #[test]
-fn the_script_prints_what_is_wanted(rt: HostRuntime) -> Result<(), Fail> {
-    let output = output_of(rt.alloc(), SCRIPT)?;
+fn the_script_prints_what_is_wanted(rt: HostRuntime) {
+    let output = output_of(rt.alloc(), SCRIPT).expect(&rt, "memory");
     assert_eq!(rt; output.as_slice(), WANTED);
-    Ok(())
 }
 
 #[test]
-fn a_script_that_comes_byte_by_byte_is_run(rt: HostRuntime) -> Result<(), Fail> {
+fn a_script_that_comes_byte_by_byte_is_run(rt: HostRuntime) {
     let mut reader = Flaky {
         bytes: SCRIPT,
         before: usize::MAX,
@@ -111,11 +109,10 @@ fn a_script_that_comes_byte_by_byte_is_run(rt: HostRuntime) -> Result<(), Fail> 
     let mut output = Vec::new(rt.alloc());
     assert_eq!(rt; run_script(rt.alloc(), &mut reader, &mut output), Ok(()));
     assert_eq!(rt; output.as_slice(), WANTED);
-    Ok(())
 }
 
 #[test]
-fn a_read_that_fails_at_any_call_runs_nothing(rt: HostRuntime) -> Result<(), Fail> {
+fn a_read_that_fails_at_any_call_runs_nothing(rt: HostRuntime) {
     for kind in [io::ErrorKind::Interrupted, io::ErrorKind::BrokenPipe] {
         for before in 0..SCRIPT.len() + 1 {
             let mut reader = Flaky {
@@ -129,11 +126,10 @@ fn a_read_that_fails_at_any_call_runs_nothing(rt: HostRuntime) -> Result<(), Fai
             assert!(rt; output.is_empty());
         }
     }
-    Ok(())
 }
 
 #[test]
-fn a_write_that_fails_at_any_call_ends_the_run(rt: HostRuntime) -> Result<(), Fail> {
+fn a_write_that_fails_at_any_call_ends_the_run(rt: HostRuntime) {
     for failure in [Failure::Broken, Failure::Interrupted, Failure::TakesNothing] {
         for before in 0..WANTED.len() {
             let mut script = SCRIPT;
@@ -152,11 +148,10 @@ fn a_write_that_fails_at_any_call_ends_the_run(rt: HostRuntime) -> Result<(), Fa
             );
         }
     }
-    Ok(())
 }
 
 #[test]
-fn a_line_is_written_at_once_where_it_is_taken(rt: HostRuntime) -> Result<(), Fail> {
+fn a_line_is_written_at_once_where_it_is_taken(rt: HostRuntime) {
     // Seven lines, and so seven writes.
     for before in 0..8 {
         let mut script = SCRIPT;
@@ -171,7 +166,6 @@ fn a_line_is_written_at_once_where_it_is_taken(rt: HostRuntime) -> Result<(), Fa
         assert_eq!(rt; lines, before.min(7));
         assert_eq!(rt; outcome.is_ok(), before >= 7);
     }
-    Ok(())
 }
 
 #[test]

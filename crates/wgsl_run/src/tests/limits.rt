@@ -4,7 +4,6 @@ use crate::{RunFault, run_script};
 use std::alloc::{AllocError, Global};
 use std::fmt::Write;
 use std::process::Abort;
-use std::test::Fail;
 
 /// A text of so many bytes.
 fn repeated(alloc: Global, byte: u8, count: usize) -> Result<Vec<u8>, AllocError> {
@@ -26,54 +25,56 @@ fn joined(
 }
 
 #[test]
-fn a_script_of_the_greatest_length_is_run(rt: HostRuntime) -> Result<(), Fail> {
+fn a_script_of_the_greatest_length_is_run(rt: HostRuntime) {
     let first = b"new u32 storage read 05000000\nread &0\n";
-    let script = joined(rt.alloc(), first, b'\n', LIMIT - first.len(), b"")?;
+    let script = joined(rt.alloc(), first, b'\n', LIMIT - first.len(), b"").expect(&rt, "memory");
     assert_eq!(rt; script.len(), 1_048_576);
-    assert_prints(&rt, rt.alloc(), script.as_slice(), b"&0\n5u\n")
+    assert_prints(&rt, rt.alloc(), script.as_slice(), b"&0\n5u\n");
 }
 
 #[test]
-fn one_byte_more_is_too_long_and_runs_nothing(rt: HostRuntime) -> Result<(), Fail> {
+fn one_byte_more_is_too_long_and_runs_nothing(rt: HostRuntime) {
     let first = b"new u32 storage read 05000000\nread &0\n";
-    let script = joined(rt.alloc(), first, b'\n', LIMIT - first.len() + 1, b"")?;
+    let script = joined(rt.alloc(), first, b'\n', LIMIT - first.len() + 1, b"");
+    let script = script.expect(&rt, "memory");
     assert_eq!(rt; script.len(), 1_048_577);
     let mut reader = script.as_slice();
     let mut output = Vec::new(rt.alloc());
     let outcome = run_script(rt.alloc(), &mut reader, &mut output);
     assert_eq!(rt; outcome, Err(RunFault::TooLong));
     assert!(rt; output.is_empty());
-    Ok(())
 }
 
 #[test]
-fn a_line_of_a_megabyte_is_answered(rt: HostRuntime) -> Result<(), Fail> {
-    let word = repeated(rt.alloc(), b'x', 1_000_000)?;
-    assert_prints(&rt, rt.alloc(), word.as_slice(), b"refused BadLine\n")?;
+fn a_line_of_a_megabyte_is_answered(rt: HostRuntime) {
+    let word = repeated(rt.alloc(), b'x', 1_000_000).expect(&rt, "memory");
+    assert_prints(&rt, rt.alloc(), word.as_slice(), b"refused BadLine\n");
     let spaces = joined(
         rt.alloc(),
         b"new u32 storage read 05000000\nread",
         b' ',
         1_000_000,
         b"&0",
-    )?;
-    assert_prints(&rt, rt.alloc(), spaces.as_slice(), b"&0\n5u\n")?;
+    )
+    .expect(&rt, "memory");
+    assert_prints(&rt, rt.alloc(), spaces.as_slice(), b"&0\n5u\n");
     let digits = joined(
         rt.alloc(),
         b"new u32 storage read 05",
         b'0',
         1_000_000,
         b"\ndump &0",
-    )?;
-    assert_prints(&rt, rt.alloc(), digits.as_slice(), b"&0\n05000000\n")?;
-    let bytes = repeated(rt.alloc(), 0xff, 1_000_000)?;
-    assert_prints(&rt, rt.alloc(), bytes.as_slice(), b"refused BadLine\n")
+    )
+    .expect(&rt, "memory");
+    assert_prints(&rt, rt.alloc(), digits.as_slice(), b"&0\n05000000\n");
+    let bytes = repeated(rt.alloc(), 0xff, 1_000_000).expect(&rt, "memory");
+    assert_prints(&rt, rt.alloc(), bytes.as_slice(), b"refused BadLine\n");
 }
 
 #[test]
-fn a_name_may_be_long(rt: HostRuntime) -> Result<(), Fail> {
-    let script = joined(rt.alloc(), b"struct ", b'n', 500_000, b" a:u32\n")?;
-    assert_prints(&rt, rt.alloc(), script.as_slice(), b"done\n")
+fn a_name_may_be_long(rt: HostRuntime) {
+    let script = joined(rt.alloc(), b"struct ", b'n', 500_000, b" a:u32\n").expect(&rt, "memory");
+    assert_prints(&rt, rt.alloc(), script.as_slice(), b"done\n");
 }
 
 /// The line of a structure with so many members of a type, each a word.
@@ -86,15 +87,30 @@ fn wide(alloc: Global, name: &str, member: &str, count: usize) -> Result<String,
     Ok(line)
 }
 
+/// Pushes the line of `wide`.
+fn push_wide(
+    rt: &impl Abort,
+    alloc: Global,
+    script: &mut String,
+    name: &str,
+    member: &str,
+    count: usize,
+) {
+    let line = wide(alloc, name, member, count).expect(rt, "memory");
+    script.push_str(line.as_str()).expect(rt, "memory");
+}
+
 #[test]
-fn a_structure_has_at_most_4096_nodes(rt: HostRuntime) -> Result<(), Fail> {
+fn a_structure_has_at_most_4096_nodes(rt: HostRuntime) {
     let alloc = rt.alloc();
-    let mut script = wide(alloc, "A", "a:u32", 4095)?;
-    script.push_str(wide(alloc, "B", "a:u32", 4096)?.as_str())?;
-    script.push_str(wide(alloc, "C", "a:vec4<u32>", 2047)?.as_str())?;
-    script.push_str(wide(alloc, "D", "a:vec4<u32>", 2048)?.as_str())?;
-    script.push_str("struct E a:A\n")?;
-    script.push_str("struct F a:C\nstruct G a:F\nstruct H a:C b:u32\n")?;
+    let mut script = wide(alloc, "A", "a:u32", 4095).expect(&rt, "memory");
+    push_wide(&rt, alloc, &mut script, "B", "a:u32", 4096);
+    push_wide(&rt, alloc, &mut script, "C", "a:vec4<u32>", 2047);
+    push_wide(&rt, alloc, &mut script, "D", "a:vec4<u32>", 2048);
+    script.push_str("struct E a:A\n").expect(&rt, "memory");
+    script
+        .push_str("struct F a:C\nstruct G a:F\nstruct H a:C b:u32\n")
+        .expect(&rt, "memory");
     let wanted = b"done
 refused BadLine
 done
@@ -104,28 +120,32 @@ done
 refused BadLine
 refused BadLine
 ";
-    assert_prints(&rt, alloc, script.as_bytes(), wanted)
+    assert_prints(&rt, alloc, script.as_bytes(), wanted);
 }
 
 #[test]
-fn nodes_of_structures_are_counted_with_their_members(rt: HostRuntime) -> Result<(), Fail> {
+fn nodes_of_structures_are_counted_with_their_members(rt: HostRuntime) {
     let alloc = rt.alloc();
     // Each has two of the one before and itself: 2, 5, 11, 23, and so on to 3071; then one more
     // would have 6143, and 1024 words of one node fit beside the last.
-    let mut script = String::from_str(alloc, "struct T0 a:u32\n")?;
+    let mut script = String::from_str(alloc, "struct T0 a:u32\n").expect(&rt, "memory");
     for i in 0..10 {
         let next = i + 1;
-        writeln!(script, "struct T{next} a:T{i} b:T{i}")?;
+        writeln!(script, "struct T{next} a:T{i} b:T{i}").expect(&rt, "memory");
     }
-    script.push_str("struct T11 a:T10 b:T10\n")?;
-    script.push_str(wide(alloc, "X a:T10", "b:u32", 1024)?.as_str())?;
-    script.push_str(wide(alloc, "Y a:T10", "b:u32", 1025)?.as_str())?;
+    script
+        .push_str("struct T11 a:T10 b:T10\n")
+        .expect(&rt, "memory");
+    push_wide(&rt, alloc, &mut script, "X a:T10", "b:u32", 1024);
+    push_wide(&rt, alloc, &mut script, "Y a:T10", "b:u32", 1025);
     let mut wanted = String::new(alloc);
     for _ in 0..11 {
-        wanted.push_str("done\n")?;
+        wanted.push_str("done\n").expect(&rt, "memory");
     }
-    wanted.push_str("refused BadLine\ndone\nrefused BadLine\n")?;
-    assert_prints(&rt, alloc, script.as_bytes(), wanted.as_bytes())
+    wanted
+        .push_str("refused BadLine\ndone\nrefused BadLine\n")
+        .expect(&rt, "memory");
+    assert_prints(&rt, alloc, script.as_bytes(), wanted.as_bytes());
 }
 
 /// Structures `T0` of a u32, and `T1` to `Tn`, each of the one before.
@@ -139,28 +159,30 @@ fn chain(alloc: Global, depth: usize) -> Result<String, AllocError> {
 }
 
 /// Asserts that a chain of so many structures and one more is made, read, written and dumped.
-fn assert_chain_runs(rt: &impl Abort, alloc: Global, depth: usize) -> Result<(), Fail> {
-    let mut script = chain(alloc, depth)?;
-    writeln!(script, "new T{depth} storage read_write 07000000")?;
-    script.push_str("read &0\nwrite &0 08000000\ndump &0\nmember &0 a\n")?;
+fn assert_chain_runs(rt: &impl Abort, alloc: Global, depth: usize) {
+    let mut script = chain(alloc, depth).expect(rt, "memory");
+    writeln!(script, "new T{depth} storage read_write 07000000").expect(rt, "memory");
+    script
+        .push_str("read &0\nwrite &0 08000000\ndump &0\nmember &0 a\n")
+        .expect(rt, "memory");
     let mut wanted = String::new(alloc);
     let mut closed = String::new(alloc);
     for _ in 0..depth {
-        wanted.push_str("done\n")?;
-        closed.push(')')?;
+        wanted.push_str("done\n").expect(rt, "memory");
+        closed.push(')').expect(rt, "memory");
     }
-    wanted.push_str("done\n&0\n")?;
+    wanted.push_str("done\n&0\n").expect(rt, "memory");
     for i in (0..depth).rev() {
         let n = i.saturating_add(1);
-        write!(wanted, "T{n}(")?;
+        write!(wanted, "T{n}(").expect(rt, "memory");
     }
-    writeln!(wanted, "T0(7u){closed}\ndone\n08000000\n&1")?;
-    assert_prints(rt, alloc, script.as_bytes(), wanted.as_bytes())
+    writeln!(wanted, "T0(7u){closed}\ndone\n08000000\n&1").expect(rt, "memory");
+    assert_prints(rt, alloc, script.as_bytes(), wanted.as_bytes());
 }
 
 #[test]
-fn a_chain_of_structures_is_made_read_written_and_dumped(rt: HostRuntime) -> Result<(), Fail> {
-    assert_chain_runs(&rt, rt.alloc(), 1000)
+fn a_chain_of_structures_is_made_read_written_and_dumped(rt: HostRuntime) {
+    assert_chain_runs(&rt, rt.alloc(), 1000);
 }
 
 /// The word of so many arrays round a word.
@@ -177,10 +199,10 @@ fn arrays_of(alloc: Global, count: usize, word: &str) -> Result<String, AllocErr
 }
 
 #[test]
-fn a_type_word_has_at_most_16_nested_parts(rt: HostRuntime) -> Result<(), Fail> {
+fn a_type_word_has_at_most_16_nested_parts(rt: HostRuntime) {
     let alloc = rt.alloc();
-    let of_scalars = arrays_of(alloc, 16, "u32")?;
-    let of_vectors = arrays_of(alloc, 15, "vec2<u32>")?;
+    let of_scalars = arrays_of(alloc, 16, "u32").expect(&rt, "memory");
+    let of_vectors = arrays_of(alloc, 15, "vec2<u32>").expect(&rt, "memory");
     let words = [of_scalars.as_str(), of_vectors.as_str()];
     assert_each(
         &rt,
@@ -188,9 +210,9 @@ fn a_type_word_has_at_most_16_nested_parts(rt: HostRuntime) -> Result<(), Fail> 
         "new * storage read 00",
         &words,
         "refused NoValue",
-    )?;
-    let of_scalars = arrays_of(alloc, 17, "u32")?;
-    let of_vectors = arrays_of(alloc, 16, "vec2<u32>")?;
+    );
+    let of_scalars = arrays_of(alloc, 17, "u32").expect(&rt, "memory");
+    let of_vectors = arrays_of(alloc, 16, "vec2<u32>").expect(&rt, "memory");
     let words = [of_scalars.as_str(), of_vectors.as_str()];
     assert_each(
         &rt,
@@ -198,47 +220,55 @@ fn a_type_word_has_at_most_16_nested_parts(rt: HostRuntime) -> Result<(), Fail> 
         "new * storage read 00",
         &words,
         "refused BadLine",
-    )?;
-    assert_each(&rt, alloc, "struct S a:*", &words, "refused BadLine")
+    );
+    assert_each(&rt, alloc, "struct S a:*", &words, "refused BadLine");
 }
 
 #[test]
-fn each_word_has_the_limit_of_its_own(rt: HostRuntime) -> Result<(), Fail> {
+fn each_word_has_the_limit_of_its_own(rt: HostRuntime) {
     let alloc = rt.alloc();
-    let deep = arrays_of(alloc, 16, "A")?;
-    let deeper = arrays_of(alloc, 16, "B")?;
+    let deep = arrays_of(alloc, 16, "A").expect(&rt, "memory");
+    let deeper = arrays_of(alloc, 16, "B").expect(&rt, "memory");
     let script = format!(in alloc;
         "struct A a:u32\nstruct B a:{deep} b:{deep}\nnew {deeper} storage read 00\n"
-    )?;
+    ).expect(&rt, "memory");
     assert_prints(
         &rt,
         alloc,
         script.as_bytes(),
         b"done\ndone\nrefused NoValue\n",
-    )
+    );
 }
 
 #[test]
-fn a_type_word_of_a_megabyte_is_a_bad_line(rt: HostRuntime) -> Result<(), Fail> {
-    let word = arrays_of(rt.alloc(), 140_000, "u32")?;
+fn a_type_word_of_a_megabyte_is_a_bad_line(rt: HostRuntime) {
+    let word = arrays_of(rt.alloc(), 140_000, "u32").expect(&rt, "memory");
     assert_each(
         &rt,
         rt.alloc(),
         "new * storage read 00",
         &[word.as_str()],
         "refused BadLine",
-    )
+    );
 }
 
 #[test]
-fn the_type_of_a_word_has_at_most_4096_nodes(rt: HostRuntime) -> Result<(), Fail> {
+fn the_type_of_a_word_has_at_most_4096_nodes(rt: HostRuntime) {
     let alloc = rt.alloc();
-    let mut script = wide(alloc, "A", "a:u32", 4095)?;
-    script.push_str(wide(alloc, "B", "a:u32", 4093)?.as_str())?;
-    script.push_str("new A storage read 00\nnew array<A,2> storage read 00\n")?;
-    script.push_str("new array<array<B,2>> storage read 00\n")?;
-    script.push_str("new array<array<array<B,2>,2>,2> storage read 00\n")?;
-    script.push_str("struct C a:array<B,2>\nstruct D a:array<array<B,2>,2>\n")?;
+    let mut script = wide(alloc, "A", "a:u32", 4095).expect(&rt, "memory");
+    push_wide(&rt, alloc, &mut script, "B", "a:u32", 4093);
+    script
+        .push_str("new A storage read 00\nnew array<A,2> storage read 00\n")
+        .expect(&rt, "memory");
+    script
+        .push_str("new array<array<B,2>> storage read 00\n")
+        .expect(&rt, "memory");
+    script
+        .push_str("new array<array<array<B,2>,2>,2> storage read 00\n")
+        .expect(&rt, "memory");
+    script
+        .push_str("struct C a:array<B,2>\nstruct D a:array<array<B,2>,2>\n")
+        .expect(&rt, "memory");
     let wanted = b"done
 done
 refused NoValue
@@ -248,11 +278,11 @@ refused BadLine
 done
 refused BadLine
 ";
-    assert_prints(&rt, alloc, script.as_bytes(), wanted)
+    assert_prints(&rt, alloc, script.as_bytes(), wanted);
 }
 
 #[test]
-fn counts_reach_to_4294967295(rt: HostRuntime) -> Result<(), Fail> {
+fn counts_reach_to_4294967295(rt: HostRuntime) {
     let lines = [
         (
             "new array<u32,4294967295> storage read 00",
@@ -273,16 +303,15 @@ fn counts_reach_to_4294967295(rt: HostRuntime) -> Result<(), Fail> {
         ("struct S a:array<u32,4294967295>", "done"),
         ("struct T a:array<u32,4294967296>", "refused BadLine"),
     ];
-    assert_answers(&rt, rt.alloc(), &lines)
+    assert_answers(&rt, rt.alloc(), &lines);
 }
 
 #[test]
-fn many_definitions_cost_no_more_than_their_lines(rt: HostRuntime) -> Result<(), Fail> {
-    let script = chain(rt.alloc(), 4094)?;
-    let output = output_of(rt.alloc(), script.as_bytes())?;
+fn many_definitions_cost_no_more_than_their_lines(rt: HostRuntime) {
+    let script = chain(rt.alloc(), 4094).expect(&rt, "memory");
+    let output = output_of(rt.alloc(), script.as_bytes()).expect(&rt, "memory");
     assert_eq!(rt; output.len(), 5 * 4095);
-    let script = chain(rt.alloc(), 4095)?;
-    let output = output_of(rt.alloc(), script.as_bytes())?;
+    let script = chain(rt.alloc(), 4095).expect(&rt, "memory");
+    let output = output_of(rt.alloc(), script.as_bytes()).expect(&rt, "memory");
     assert!(rt; output.ends_with(b"done\nrefused BadLine\n"));
-    Ok(())
 }

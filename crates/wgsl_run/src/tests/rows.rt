@@ -1,8 +1,7 @@
 use crate::tests::{assert_answers, assert_prints};
-use std::test::Fail;
 
 #[test]
-fn write_through_a_component_shows_in_the_whole(rt: HostRuntime) -> Result<(), Fail> {
+fn write_through_a_component_shows_in_the_whole(rt: HostRuntime) {
     let lines = [
         ("struct S a:u32 b:vec3<u32>", "done"),
         (
@@ -18,11 +17,11 @@ fn write_through_a_component_shows_in_the_whole(rt: HostRuntime) -> Result<(), F
             "0100000000000000000000000000000002000000030000000900000000000000",
         ),
     ];
-    assert_answers(&rt, rt.alloc(), &lines)
+    assert_answers(&rt, rt.alloc(), &lines);
 }
 
 #[test]
-fn write_through_the_whole_shows_in_a_component(rt: HostRuntime) -> Result<(), Fail> {
+fn write_through_the_whole_shows_in_a_component(rt: HostRuntime) {
     let lines = [
         ("struct S a:u32 b:vec3<u32>", "done"),
         (
@@ -36,11 +35,11 @@ fn write_through_the_whole_shows_in_a_component(rt: HostRuntime) -> Result<(), F
         ("member &0 a", "&3"),
         ("read &3", "1u"),
     ];
-    assert_answers(&rt, rt.alloc(), &lines)
+    assert_answers(&rt, rt.alloc(), &lines);
 }
 
 #[test]
-fn a_write_only_handle_is_written_and_not_read(rt: HostRuntime) -> Result<(), Fail> {
+fn a_write_only_handle_is_written_and_not_read(rt: HostRuntime) {
     let lines = [
         ("read &0", "refused NoHandle"),
         ("new S storage read 00", "refused BadLine"),
@@ -50,16 +49,16 @@ fn a_write_only_handle_is_written_and_not_read(rt: HostRuntime) -> Result<(), Fa
         ("write &0 01", "refused NoValue"),
         ("write &0 040000000500000006000000", "done"),
     ];
-    assert_answers(&rt, rt.alloc(), &lines)
+    assert_answers(&rt, rt.alloc(), &lines);
 }
 
 #[test]
-fn empty_input_prints_nothing(rt: HostRuntime) -> Result<(), Fail> {
-    assert_prints(&rt, rt.alloc(), b"", b"")
+fn empty_input_prints_nothing(rt: HostRuntime) {
+    assert_prints(&rt, rt.alloc(), b"", b"");
 }
 
 #[test]
-fn padding_and_bytes_past_the_size_are_not_kept(rt: HostRuntime) -> Result<(), Fail> {
+fn padding_and_bytes_past_the_size_are_not_kept(rt: HostRuntime) {
     let lines = [
         ("struct S a:u32 b:vec3<u32>", "done"),
         (
@@ -74,21 +73,21 @@ fn padding_and_bytes_past_the_size_are_not_kept(rt: HostRuntime) -> Result<(), F
         ("new u32 storage read ffffffff0000", "&1"),
         ("dump &1", "ffffffff"),
     ];
-    assert_answers(&rt, rt.alloc(), &lines)
+    assert_answers(&rt, rt.alloc(), &lines);
 }
 
 #[test]
-fn an_odd_number_of_digits_is_a_bad_line(rt: HostRuntime) -> Result<(), Fail> {
+fn an_odd_number_of_digits_is_a_bad_line(rt: HostRuntime) {
     let lines = [
         ("new u32 storage read_write 00000000", "&0"),
         ("write &0 0", "refused BadLine"),
         ("copy &0 &0", "done"),
     ];
-    assert_answers(&rt, rt.alloc(), &lines)
+    assert_answers(&rt, rt.alloc(), &lines);
 }
 
 #[test]
-fn each_case_is_refused_by_its_name(rt: HostRuntime) -> Result<(), Fail> {
+fn each_case_is_refused_by_its_name(rt: HostRuntime) {
     let lines = [
         ("struct S a:u32 b:vec2<u32>", "done"),
         (
@@ -113,11 +112,11 @@ fn each_case_is_refused_by_its_name(rt: HostRuntime) -> Result<(), Fail> {
         ("read &4", "3u"),
         ("dump &1", "05000000"),
     ];
-    assert_answers(&rt, rt.alloc(), &lines)
+    assert_answers(&rt, rt.alloc(), &lines);
 }
 
 #[test]
-fn no_handle_is_found_before_the_bytes_are_looked_at(rt: HostRuntime) -> Result<(), Fail> {
+fn no_handle_is_found_before_the_bytes_are_looked_at(rt: HostRuntime) {
     let lines = [
         ("write &0 00", "refused NoHandle"),
         ("write &0 0", "refused BadLine"),
@@ -126,22 +125,22 @@ fn no_handle_is_found_before_the_bytes_are_looked_at(rt: HostRuntime) -> Result<
         ("member &0 a", "refused NoHandle"),
         ("write &x 00000000", "refused BadLine"),
     ];
-    assert_answers(&rt, rt.alloc(), &lines)
+    assert_answers(&rt, rt.alloc(), &lines);
 }
 
 #[test]
-fn too_few_bytes_are_found_before_the_access(rt: HostRuntime) -> Result<(), Fail> {
+fn too_few_bytes_are_found_before_the_access(rt: HostRuntime) {
     let lines = [
         ("new vec2<u32> storage read 0100000002000000", "&0"),
         ("write &0 01000000020000", "refused NoValue"),
         ("write &0 0300000004000000", "refused NotWrite"),
         ("read &0", "vec2(1u, 2u)"),
     ];
-    assert_answers(&rt, rt.alloc(), &lines)
+    assert_answers(&rt, rt.alloc(), &lines);
 }
 
 #[test]
-fn bytes_that_lack_the_tail_padding_are_no_value(rt: HostRuntime) -> Result<(), Fail> {
+fn bytes_that_lack_the_tail_padding_are_no_value(rt: HostRuntime) {
     let lines = [
         ("struct S a:vec2<u32> b:u32", "done"),
         (
@@ -151,11 +150,11 @@ fn bytes_that_lack_the_tail_padding_are_no_value(rt: HostRuntime) -> Result<(), 
         ("new S storage read 01000000020000000300000000000000", "&0"),
         ("dump &0", "01000000020000000300000000000000"),
     ];
-    assert_answers(&rt, rt.alloc(), &lines)
+    assert_answers(&rt, rt.alloc(), &lines);
 }
 
 #[test]
-fn a_refused_line_leaves_all_as_it_was(rt: HostRuntime) -> Result<(), Fail> {
+fn a_refused_line_leaves_all_as_it_was(rt: HostRuntime) {
     let lines = [
         ("new vec2<u32> storage read_write 0100000002000000", "&0"),
         ("index &0 2", "refused OutOfBounds"),
@@ -166,11 +165,11 @@ fn a_refused_line_leaves_all_as_it_was(rt: HostRuntime) -> Result<(), Fail> {
         ("struct S a:u32", "done"),
         ("read &1", "2u"),
     ];
-    assert_answers(&rt, rt.alloc(), &lines)
+    assert_answers(&rt, rt.alloc(), &lines);
 }
 
 #[test]
-fn a_runtime_sized_array_keeps_its_length(rt: HostRuntime) -> Result<(), Fail> {
+fn a_runtime_sized_array_keeps_its_length(rt: HostRuntime) {
     let lines = [
         (
             "new array<u32> storage read_write 0a0000000b0000000c000000",
@@ -184,11 +183,11 @@ fn a_runtime_sized_array_keeps_its_length(rt: HostRuntime) -> Result<(), Fail> {
         ("write &0 010000000200000003000000ff", "done"),
         ("read &0", "array(1u, 2u, 3u)"),
     ];
-    assert_answers(&rt, rt.alloc(), &lines)
+    assert_answers(&rt, rt.alloc(), &lines);
 }
 
 #[test]
-fn what_one_handle_names_is_copied_to_another(rt: HostRuntime) -> Result<(), Fail> {
+fn what_one_handle_names_is_copied_to_another(rt: HostRuntime) {
     let lines = [
         ("new array<u32> storage read_write 0100000002000000", "&0"),
         (
@@ -201,11 +200,11 @@ fn what_one_handle_names_is_copied_to_another(rt: HostRuntime) -> Result<(), Fai
         ("copy &2 &3", "done"),
         ("dump &0", "0500000002000000"),
     ];
-    assert_answers(&rt, rt.alloc(), &lines)
+    assert_answers(&rt, rt.alloc(), &lines);
 }
 
 #[test]
-fn copy_is_refused_as_the_read_then_as_the_write(rt: HostRuntime) -> Result<(), Fail> {
+fn copy_is_refused_as_the_read_then_as_the_write(rt: HostRuntime) {
     let lines = [
         ("new u32 storage read 01000000", "&0"),
         ("new u32 storage write 02000000", "&1"),
@@ -221,11 +220,11 @@ fn copy_is_refused_as_the_read_then_as_the_write(rt: HostRuntime) -> Result<(), 
         ("copy &0 &1", "done"),
         ("dump &2", "03000000"),
     ];
-    assert_answers(&rt, rt.alloc(), &lines)
+    assert_answers(&rt, rt.alloc(), &lines);
 }
 
 #[test]
-fn a_write_to_a_member_leaves_its_padding(rt: HostRuntime) -> Result<(), Fail> {
+fn a_write_to_a_member_leaves_its_padding(rt: HostRuntime) {
     let lines = [
         ("struct S @size(16)a:u32 b:u32", "done"),
         (
@@ -238,24 +237,24 @@ fn a_write_to_a_member_leaves_its_padding(rt: HostRuntime) -> Result<(), Fail> {
         ("dump &0", "0500000000000000000000000000000002000000"),
         ("read &0", "S(5u, 2u)"),
     ];
-    assert_answers(&rt, rt.alloc(), &lines)
+    assert_answers(&rt, rt.alloc(), &lines);
 }
 
 #[test]
-fn an_alignment_moves_a_member(rt: HostRuntime) -> Result<(), Fail> {
+fn an_alignment_moves_a_member(rt: HostRuntime) {
     let bytes = "0100000000000000000000000000000002000000000000000000000000000000";
-    let made = format!(in rt.alloc(); "new S storage read_write {bytes}")?;
+    let made = format!(in rt.alloc(); "new S storage read_write {bytes}").expect(&rt, "memory");
     let lines = [
         ("struct S a:u32 @align(16)b:u32", "done"),
         (made.as_str(), "&0"),
         ("read &0", "S(1u, 2u)"),
         ("dump &0", bytes),
     ];
-    assert_answers(&rt, rt.alloc(), &lines)
+    assert_answers(&rt, rt.alloc(), &lines);
 }
 
 #[test]
-fn columns_of_a_matrix_are_vectors(rt: HostRuntime) -> Result<(), Fail> {
+fn columns_of_a_matrix_are_vectors(rt: HostRuntime) {
     let lines = [
         (
             "new mat2x3<u32> storage read_write 0100000002000000030000000000000004000000050000000600000000000000",
@@ -273,11 +272,11 @@ fn columns_of_a_matrix_are_vectors(rt: HostRuntime) -> Result<(), Fail> {
         ("index &0 2", "refused OutOfBounds"),
         ("member &0 x", "refused Component"),
     ];
-    assert_answers(&rt, rt.alloc(), &lines)
+    assert_answers(&rt, rt.alloc(), &lines);
 }
 
 #[test]
-fn numbers_of_64_bits_are_signed_and_unsigned(rt: HostRuntime) -> Result<(), Fail> {
+fn numbers_of_64_bits_are_signed_and_unsigned(rt: HostRuntime) {
     let lines = [
         (
             "new vec2<i64> storage read ffffffffffffffff0200000000000000",
@@ -289,11 +288,11 @@ fn numbers_of_64_bits_are_signed_and_unsigned(rt: HostRuntime) -> Result<(), Fai
         ("new i32 storage read fbffffff", "&2"),
         ("read &2", "-5i"),
     ];
-    assert_answers(&rt, rt.alloc(), &lines)
+    assert_answers(&rt, rt.alloc(), &lines);
 }
 
 #[test]
-fn a_structure_may_end_in_a_runtime_sized_array(rt: HostRuntime) -> Result<(), Fail> {
+fn a_structure_may_end_in_a_runtime_sized_array(rt: HostRuntime) {
     let lines = [
         ("struct S a:atomic<i32> b:array<u32>", "done"),
         ("new S storage read_write ffffffff05000000060000", "&0"),
@@ -309,5 +308,5 @@ fn a_structure_may_end_in_a_runtime_sized_array(rt: HostRuntime) -> Result<(), F
         ("dump &1", "020000000500000006000000"),
         ("new array<S,2> storage read 00000000", "refused NoValue"),
     ];
-    assert_answers(&rt, rt.alloc(), &lines)
+    assert_answers(&rt, rt.alloc(), &lines);
 }

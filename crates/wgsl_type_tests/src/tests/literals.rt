@@ -1,24 +1,35 @@
 //! Literals: conversions and payloads.
 
-use std::alloc::{AllocError, Global};
+use crate::tests::asserts::assert_same;
+use std::alloc::Global;
 use std::process::Abort;
 use wgsl_rules::{Ty, Type};
 use wgsl_scalar::LiteralInstance;
 use wgsl_scalar::LiteralInstance::{AbstractInt, I32, I64, U32, U64};
 
+/// Asserts what the literal is as one of that type.
+fn assert_kind(
+    rt: &impl Abort,
+    literal: LiteralInstance,
+    ty: Type,
+    wanted: Option<LiteralInstance>,
+) {
+    assert_eq!(rt; literal.to_kind(&ty), wanted, "{ty}");
+}
+
 #[test]
 fn conversions(rt: HostRuntime) {
-    let rows = [
-        (AbstractInt(4294967295), Type::U32, Some(U32(4294967295))),
-        (AbstractInt(4294967295), Type::I32, None),
-        (AbstractInt(1), Type::I64, None),
-        (I64(1), Type::I64, Some(I64(1))),
-        (U32(1), Type::I32, None),
-    ];
-    for (i, (literal, ty, wanted)) in rows.iter().enumerate() {
-        assert_eq!(rt; &literal.to_kind(ty), wanted, "row {i}");
-    }
-    assert!(rt; I64(7).literal_ty() == Type::I64);
+    assert_kind(
+        &rt,
+        AbstractInt(4294967295),
+        Type::U32,
+        Some(U32(4294967295)),
+    );
+    assert_kind(&rt, AbstractInt(4294967295), Type::I32, None);
+    assert_kind(&rt, AbstractInt(1), Type::I64, None);
+    assert_kind(&rt, I64(1), Type::I64, Some(I64(1)));
+    assert_kind(&rt, U32(1), Type::I32, None);
+    assert_same(&rt, I64(7).literal_ty(), Type::I64);
 }
 
 #[test]
@@ -40,27 +51,21 @@ fn has_type(literal: LiteralInstance, ty: &Type) -> bool {
 }
 
 /// Asserts the type of the literal, each way to ask for it.
-fn assert_type(
-    rt: &impl Abort,
-    alloc: Global,
-    literal: LiteralInstance,
-    ty: &Type,
-) -> Result<(), AllocError> {
-    assert_eq!(rt; &literal.literal_ty(), ty);
-    assert_eq!(rt; &literal.ty(alloc)?, ty);
-    assert_eq!(rt; &literal.inner_ty(alloc)?, ty);
-    assert!(rt; has_type(literal, ty), "{ty}");
+fn assert_type(rt: &impl Abort, alloc: Global, literal: LiteralInstance, ty: Type) {
+    assert!(rt; has_type(literal, &ty), "{ty}");
     assert!(rt; !has_type(literal, &Type::F32), "{ty}");
-    Ok(())
+    assert_eq!(rt; literal.literal_ty(), ty);
+    assert_eq!(rt; literal.ty(alloc).expect(rt, "memory"), ty);
+    assert_eq!(rt; literal.inner_ty(alloc).expect(rt, "memory"), ty);
 }
 
 #[test]
-fn types_of_literals(rt: HostRuntime) -> Result<(), AllocError> {
+fn types_of_literals(rt: HostRuntime) {
     let alloc = rt.alloc();
-    assert_type(&rt, alloc, LiteralInstance::Bool(true), &Type::Bool)?;
-    assert_type(&rt, alloc, AbstractInt(1), &Type::AbstractInt)?;
-    assert_type(&rt, alloc, I32(1), &Type::I32)?;
-    assert_type(&rt, alloc, U32(1), &Type::U32)?;
-    assert_type(&rt, alloc, I64(1), &Type::I64)?;
-    assert_type(&rt, alloc, U64(1), &Type::U64)
+    assert_type(&rt, alloc, LiteralInstance::Bool(true), Type::Bool);
+    assert_type(&rt, alloc, AbstractInt(1), Type::AbstractInt);
+    assert_type(&rt, alloc, I32(1), Type::I32);
+    assert_type(&rt, alloc, U32(1), Type::U32);
+    assert_type(&rt, alloc, I64(1), Type::I64);
+    assert_type(&rt, alloc, U64(1), Type::U64);
 }

@@ -1,5 +1,7 @@
 //! Operators on literals and numeric builtins, by worked rows.
 
+use crate::tests::asserts::assert_same;
+use std::process::Abort;
 use wgsl_rules::ShaderStage::{Const, Exec, Override};
 use wgsl_rules::{BinaryOperator, ShaderStage, Type, UnaryOperator};
 use wgsl_scalar::LiteralInstance::{AbstractInt, Bool, I32, I64, U32, U64};
@@ -51,6 +53,31 @@ fn answer(
         Call::Min => left.min(right),
         Call::Max => left.max(right),
     }
+}
+
+fn assert_number(
+    rt: &impl Abort,
+    row: usize,
+    answer: Result<LiteralInstance, Error>,
+    wanted: LiteralInstance,
+) {
+    assert_eq!(rt; answer, Ok(wanted), "row {row}");
+}
+
+fn assert_refused(
+    rt: &impl Abort,
+    call: Call,
+    left: LiteralInstance,
+    right: LiteralInstance,
+    stage: ShaderStage,
+    wanted: Error,
+) {
+    let got = answer(call, &left, &right, stage);
+    assert_eq!(rt;
+        got.as_ref().err(),
+        Some(&wanted),
+        "{call:?} {left:?} {right:?}"
+    );
 }
 
 #[test]
@@ -116,7 +143,7 @@ fn two_numbers_give_a_number(rt: HostRuntime) {
         (Call::Max, I32(1), AbstractInt(2), Const, I32(2)),
     ];
     for (i, (call, left, right, stage, wanted)) in rows.iter().enumerate() {
-        assert_eq!(rt; answer(*call, left, right, *stage), Ok(*wanted), "row {i}");
+        assert_number(&rt, i, answer(*call, left, right, *stage), *wanted);
     }
 }
 
@@ -126,195 +153,215 @@ fn binary(operator: BinaryOperator, left: Type, right: Type) -> Error {
 
 #[test]
 fn two_numbers_are_refused(rt: HostRuntime) {
-    let rows = [
-        (
-            Call::Div,
-            I32(-2147483648),
-            I32(-1),
-            Const,
-            Error::DivByZero,
-        ),
-        (
-            Call::Div,
-            I32(-2147483648),
-            I32(-1),
-            Override,
-            Error::DivByZero,
-        ),
-        (
-            Call::Div,
-            AbstractInt(LEAST),
-            AbstractInt(-1),
-            Const,
-            Error::DivByZero,
-        ),
-        (Call::Div, I64(1), I64(0), Const, Error::DivByZero),
-        (
-            Call::Rem,
-            I32(-2147483648),
-            I32(-1),
-            Const,
-            Error::RemZeroDiv,
-        ),
-        (Call::Rem, I32(7), I32(0), Const, Error::RemZeroDiv),
-        (
-            Call::Add,
-            AbstractInt(9223372036854775807),
-            AbstractInt(1),
-            Exec,
-            Error::AddOverflow,
-        ),
-        (
-            Call::Sub,
-            AbstractInt(LEAST),
-            AbstractInt(1),
-            Const,
-            Error::SubOverflow,
-        ),
-        (
-            Call::Mul,
-            AbstractInt(LEAST),
-            AbstractInt(-1),
-            Const,
-            Error::MulOverflow,
-        ),
-        (
-            Call::Shl,
-            AbstractInt(1),
-            AbstractInt(63),
-            Const,
-            Error::ShlOverflow(63, AbstractInt(1)),
-        ),
-        (
-            Call::Shl,
-            U32(3000000000),
-            U32(1),
-            Const,
-            Error::ShlOverflow(1, U32(3000000000)),
-        ),
-        (
-            Call::Shr,
-            U32(8),
-            U32(32),
-            Const,
-            Error::ShrOverflow(32, U32(8)),
-        ),
-        (
-            Call::Min,
-            AbstractInt(4294967295),
-            I32(1),
-            Const,
-            Error::Builtin(BuiltinReason::NoCommonType),
-        ),
-        // a bool and a number have no common type, but two bools have one
-        (
-            Call::Max,
-            Bool(true),
-            I32(1),
-            Const,
-            Error::Builtin(BuiltinReason::NoCommonType),
-        ),
-        (
-            Call::Min,
-            Bool(true),
-            Bool(false),
-            Const,
-            Error::Builtin(BuiltinReason::NotNumber),
-        ),
-        (
-            Call::Max,
-            Bool(true),
-            Bool(true),
-            Const,
-            Error::Builtin(BuiltinReason::NotNumber),
-        ),
-    ];
-    for (i, (call, left, right, stage, wanted)) in rows.iter().enumerate() {
-        let got = answer(*call, left, right, *stage);
-        assert_eq!(rt; got.as_ref().err(), Some(wanted), "row {i}");
-    }
+    assert_refused(
+        &rt,
+        Call::Div,
+        I32(-2147483648),
+        I32(-1),
+        Const,
+        Error::DivByZero,
+    );
+    assert_refused(
+        &rt,
+        Call::Div,
+        I32(-2147483648),
+        I32(-1),
+        Override,
+        Error::DivByZero,
+    );
+    assert_refused(
+        &rt,
+        Call::Div,
+        AbstractInt(LEAST),
+        AbstractInt(-1),
+        Const,
+        Error::DivByZero,
+    );
+    assert_refused(&rt, Call::Div, I64(1), I64(0), Const, Error::DivByZero);
+    assert_refused(
+        &rt,
+        Call::Rem,
+        I32(-2147483648),
+        I32(-1),
+        Const,
+        Error::RemZeroDiv,
+    );
+    assert_refused(&rt, Call::Rem, I32(7), I32(0), Const, Error::RemZeroDiv);
+    assert_refused(
+        &rt,
+        Call::Add,
+        AbstractInt(9223372036854775807),
+        AbstractInt(1),
+        Exec,
+        Error::AddOverflow,
+    );
+    assert_refused(
+        &rt,
+        Call::Sub,
+        AbstractInt(LEAST),
+        AbstractInt(1),
+        Const,
+        Error::SubOverflow,
+    );
+    assert_refused(
+        &rt,
+        Call::Mul,
+        AbstractInt(LEAST),
+        AbstractInt(-1),
+        Const,
+        Error::MulOverflow,
+    );
+    assert_refused(
+        &rt,
+        Call::Shl,
+        AbstractInt(1),
+        AbstractInt(63),
+        Const,
+        Error::ShlOverflow(63, AbstractInt(1)),
+    );
+    assert_refused(
+        &rt,
+        Call::Shl,
+        U32(3000000000),
+        U32(1),
+        Const,
+        Error::ShlOverflow(1, U32(3000000000)),
+    );
+    assert_refused(
+        &rt,
+        Call::Shr,
+        U32(8),
+        U32(32),
+        Const,
+        Error::ShrOverflow(32, U32(8)),
+    );
+    assert_refused(
+        &rt,
+        Call::Min,
+        AbstractInt(4294967295),
+        I32(1),
+        Const,
+        Error::Builtin(BuiltinReason::NoCommonType),
+    );
+    // a bool and a number have no common type, but two bools have one
+    assert_refused(
+        &rt,
+        Call::Max,
+        Bool(true),
+        I32(1),
+        Const,
+        Error::Builtin(BuiltinReason::NoCommonType),
+    );
+    assert_refused(
+        &rt,
+        Call::Min,
+        Bool(true),
+        Bool(false),
+        Const,
+        Error::Builtin(BuiltinReason::NotNumber),
+    );
+    assert_refused(
+        &rt,
+        Call::Max,
+        Bool(true),
+        Bool(true),
+        Const,
+        Error::Builtin(BuiltinReason::NotNumber),
+    );
 }
 
 #[test]
 fn operands_without_a_common_type_are_refused(rt: HostRuntime) {
     let number = AbstractInt(4294967295);
-    let rows = [
-        (
-            Call::Add,
-            number,
-            I32(1),
-            binary(BinaryOperator::Addition, Type::AbstractInt, Type::I32),
-        ),
-        (
-            Call::Div,
-            Bool(true),
-            Bool(true),
-            binary(BinaryOperator::Division, Type::Bool, Type::Bool),
-        ),
-        (
-            Call::Shl,
-            U32(1),
-            I32(1),
-            binary(BinaryOperator::ShiftLeft, Type::U32, Type::I32),
-        ),
-        (
-            Call::Shl,
-            Bool(true),
-            U32(0),
-            binary(BinaryOperator::ShiftLeft, Type::Bool, Type::U32),
-        ),
-        (
-            Call::BitXor,
-            Bool(false),
-            Bool(true),
-            binary(BinaryOperator::BitwiseXor, Type::Bool, Type::Bool),
-        ),
-        (
-            Call::And,
-            Bool(false),
-            I32(1),
-            binary(BinaryOperator::ShortCircuitAnd, Type::Bool, Type::I32),
-        ),
-    ];
-    for (i, (call, left, right, wanted)) in rows.iter().enumerate() {
-        let got = answer(*call, left, right, Exec);
-        assert_eq!(rt; got.as_ref().err(), Some(wanted), "row {i}");
-    }
+    assert_refused(
+        &rt,
+        Call::Add,
+        number,
+        I32(1),
+        Exec,
+        binary(BinaryOperator::Addition, Type::AbstractInt, Type::I32),
+    );
+    assert_refused(
+        &rt,
+        Call::Div,
+        Bool(true),
+        Bool(true),
+        Exec,
+        binary(BinaryOperator::Division, Type::Bool, Type::Bool),
+    );
+    assert_refused(
+        &rt,
+        Call::Shl,
+        U32(1),
+        I32(1),
+        Exec,
+        binary(BinaryOperator::ShiftLeft, Type::U32, Type::I32),
+    );
+    assert_refused(
+        &rt,
+        Call::Shl,
+        Bool(true),
+        U32(0),
+        Exec,
+        binary(BinaryOperator::ShiftLeft, Type::Bool, Type::U32),
+    );
+    assert_refused(
+        &rt,
+        Call::BitXor,
+        Bool(false),
+        Bool(true),
+        Exec,
+        binary(BinaryOperator::BitwiseXor, Type::Bool, Type::Bool),
+    );
+    assert_refused(
+        &rt,
+        Call::And,
+        Bool(false),
+        I32(1),
+        Exec,
+        binary(BinaryOperator::ShortCircuitAnd, Type::Bool, Type::I32),
+    );
 }
 
 #[test]
 fn one_literal(rt: HostRuntime) {
-    assert_eq!(rt; AbstractInt(LEAST).op_neg(), Ok(AbstractInt(LEAST)));
-    assert_eq!(rt;
+    assert_same(&rt, AbstractInt(LEAST).op_neg(), Ok(AbstractInt(LEAST)));
+    assert_same(
+        &rt,
         U32(7).op_neg(),
-        Err(Error::Unary(UnaryOperator::Negation, Type::U32))
+        Err(Error::Unary(UnaryOperator::Negation, Type::U32)),
     );
-    assert_eq!(rt; I32(0).op_bitnot(), Ok(I32(-1)));
-    assert_eq!(rt; Bool(true).op_not(), Ok(Bool(false)));
-    assert_eq!(rt; I32(-3).sign(), Ok(I32(-1)));
-    assert_eq!(rt;
+    assert_same(&rt, I32(0).op_bitnot(), Ok(I32(-1)));
+    assert_same(&rt, Bool(true).op_not(), Ok(Bool(false)));
+    assert_same(&rt, I32(-3).sign(), Ok(I32(-1)));
+    assert_same(
+        &rt,
         Bool(true).abs(),
-        Err(Error::Builtin(BuiltinReason::NotNumber))
+        Err(Error::Builtin(BuiltinReason::NotNumber)),
     );
 }
 
 #[test]
 fn magnitudes_and_counts(rt: HostRuntime) {
-    assert_eq!(rt; I32(-3).abs(), Ok(I32(3)));
-    assert_eq!(rt; I32(-2147483648).abs(), Ok(I32(-2147483648)));
-    assert_eq!(rt; AbstractInt(1).count_leading_zeros(), Ok(AbstractInt(63)));
-    assert_eq!(rt; U32(0).count_trailing_zeros(), Ok(U32(32)));
-    assert_eq!(rt; I32(-1).count_one_bits(), Ok(I32(32)));
+    assert_same(&rt, I32(-3).abs(), Ok(I32(3)));
+    assert_same(&rt, I32(-2147483648).abs(), Ok(I32(-2147483648)));
+    assert_same(
+        &rt,
+        AbstractInt(1).count_leading_zeros(),
+        Ok(AbstractInt(63)),
+    );
+    assert_same(&rt, U32(0).count_trailing_zeros(), Ok(U32(32)));
+    assert_same(&rt, I32(-1).count_one_bits(), Ok(I32(32)));
 }
 
 #[test]
 fn comparisons_take_the_common_type(rt: HostRuntime) {
-    assert_eq!(rt; Bool(false).op_lt(&Bool(true)), Ok(true));
-    assert_eq!(rt; AbstractInt(3).op_eq(&U32(3)), Ok(true));
-    assert_eq!(rt; I32(3).op_ne(&I32(3)), Ok(false));
-    assert_eq!(rt; I32(-3).op_le(&I32(-3)), Ok(true));
-    assert_eq!(rt; I32(-3).op_gt(&I32(2)), Ok(false));
-    assert_eq!(rt; I32(-3).op_ge(&I32(2)), Ok(false));
+    assert_same(&rt, Bool(false).op_lt(&Bool(true)), Ok(true));
+    assert_same(&rt, AbstractInt(3).op_eq(&U32(3)), Ok(true));
+    assert_same(&rt, I32(3).op_ne(&I32(3)), Ok(false));
+    assert_same(&rt, I32(-3).op_le(&I32(-3)), Ok(true));
+    assert_same(&rt, I32(-3).op_gt(&I32(2)), Ok(false));
+    assert_same(&rt, I32(-3).op_ge(&I32(2)), Ok(false));
 }
 
 #[test]

@@ -1,33 +1,40 @@
 //! Copies and texts of types.
 
-use std::test::Fail;
+use std::alloc::Global;
+use std::process::Abort;
+use wgsl_rules::Type;
 use wgsl_samples::types::nested;
 
-#[test]
-fn a_copy_of_a_type_is_refused_or_equal(rt: HostRuntime) -> Result<(), Fail> {
-    let alloc = rt.alloc();
-    let Ok(ty) = nested(alloc) else {
-        return Ok(());
-    };
+/// Asserts that a copy is equal, where one growth alone may be refused.
+fn assert_copy(rt: &impl Abort, alloc: Global, ty: Type) {
     let copy = match ty.clone(alloc) {
         Ok(copy) => copy,
-        // One growth alone is refused.
-        Err(_) => ty.clone(alloc)?,
+        Err(_) => ty.clone(alloc).expect(rt, "memory"),
     };
-    assert!(rt; copy == ty);
-    Ok(())
+    assert_eq!(rt; copy, ty);
 }
 
 #[test]
-fn a_text_of_a_type_is_refused_or_whole(rt: HostRuntime) -> Result<(), Fail> {
+fn a_copy_of_a_type_is_refused_or_equal(rt: HostRuntime) {
     let alloc = rt.alloc();
-    let Ok(ty) = nested(alloc) else {
-        return Ok(());
-    };
+    if let Ok(ty) = nested(alloc) {
+        assert_copy(&rt, alloc, ty);
+    }
+}
+
+/// Asserts that the text is whole, where one growth alone may be refused.
+fn assert_text(rt: &impl Abort, alloc: Global, ty: Type, wanted: &str) {
     let text = match ty.to_string(alloc) {
         Ok(text) => text,
-        Err(_) => ty.to_string(alloc)?,
+        Err(_) => ty.to_string(alloc).expect(rt, "memory"),
     };
-    assert_eq!(rt; text.as_str(), "Nested");
-    Ok(())
+    assert_eq!(rt; text.as_str(), wanted);
+}
+
+#[test]
+fn a_text_of_a_type_is_refused_or_whole(rt: HostRuntime) {
+    let alloc = rt.alloc();
+    if let Ok(ty) = nested(alloc) {
+        assert_text(&rt, alloc, ty, "Nested");
+    }
 }
