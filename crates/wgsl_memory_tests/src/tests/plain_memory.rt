@@ -195,34 +195,33 @@ fn assert_step(
     session: &mut Session,
     plain: &mut Plain,
     numbers: &mut Numbers,
-) -> Result<(), Fail> {
+) {
     // One handle more than there are: it is not there.
     let limit = plain.handles.len().wrapping_add(1);
     let handle = numbers.below(limit);
     let (made, wanted) = match numbers.below(5) {
         0 => {
             let i = numbers.below(7);
-            (Call::Index(handle, i), plain.index(handle, i)?)
+            (Call::Index(handle, i), plain.index(handle, i).expect(rt, "memory"))
         }
-        1 => (Call::Read(handle), plain.read(rt, alloc, handle)?),
+        1 => (Call::Read(handle), plain.read(rt, alloc, handle).expect(rt, "memory")),
         2 => {
-            let words = numbers.words(alloc)?;
-            let value = value_of(rt, alloc, &words)?;
+            let words = numbers.words(alloc).expect(rt, "memory");
+            let value = value_of(rt, alloc, &words).expect(rt, "memory");
             (Call::Write(handle, value), plain.write(handle, &words))
         }
         3 => {
-            let words = numbers.words(alloc)?;
-            let value = value_of(rt, alloc, &words)?;
-            let wanted = plain.replace(rt, alloc, handle, &words)?;
+            let words = numbers.words(alloc).expect(rt, "memory");
+            let value = value_of(rt, alloc, &words).expect(rt, "memory");
+            let wanted = plain.replace(rt, alloc, handle, &words).expect(rt, "memory");
             (Call::Replace(handle, value), wanted)
         }
         _ => {
             let to = numbers.below(limit);
-            (Call::Copy(handle, to), plain.copy(alloc, handle, to)?)
+            (Call::Copy(handle, to), plain.copy(alloc, handle, to).expect(rt, "memory"))
         }
     };
     assert_eq!(rt; answer_of(call(rt, session, made)), wanted);
-    Ok(())
 }
 
 /// Makes a cell of the words on both.
@@ -232,19 +231,18 @@ fn assert_cell(
     session: &mut Session,
     plain: &mut Plain,
     words: Vec<u32>,
-) -> Result<(), Fail> {
-    let value = value_of(rt, alloc, &words)?;
+) {
+    let value = value_of(rt, alloc, &words).expect(rt, "memory");
     let made = plain.handles.len();
     let cell = plain.cells.len();
-    plain.cells.push(words)?;
+    plain.cells.push(words).expect(rt, "memory");
     plain.handles.push(Named {
         cell,
         first: 0,
         len: WORDS,
-    })?;
+    }).expect(rt, "memory");
     let reply = call(rt, session, Call::New(value, Storage, ReadWrite));
     assert_eq!(rt; answer_of(reply), Answer::Handle(made));
-    Ok(())
 }
 
 fn assert_run(rt: &impl Abort, alloc: Global, seed: u64) -> Result<(), Fail> {
@@ -259,10 +257,10 @@ fn assert_run(rt: &impl Abort, alloc: Global, seed: u64) -> Result<(), Fail> {
         for i in 0..WORDS {
             words.push(first.wrapping_add(i as u32))?;
         }
-        assert_cell(rt, alloc, &mut session, &mut plain, words)?;
+        assert_cell(rt, alloc, &mut session, &mut plain, words);
     }
     for _ in 0..2000 {
-        assert_step(rt, alloc, &mut session, &mut plain, &mut numbers)?;
+        assert_step(rt, alloc, &mut session, &mut plain, &mut numbers);
     }
     Ok(())
 }

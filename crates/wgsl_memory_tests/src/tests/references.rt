@@ -104,10 +104,9 @@ pub(super) fn assert_reads(
     store: &Store,
     reference: &RefInstance,
     text: &str,
-) -> Result<(), Fail> {
-    let value = read(rt, alloc, store, reference)?;
-    assert_eq!(rt; value.to_string(alloc)?.as_str(), text);
-    Ok(())
+) {
+    let value = read(rt, alloc, store, reference).expect(rt, "memory");
+    assert_eq!(rt; value.to_string(alloc).expect(rt, "memory").as_str(), text);
 }
 
 #[test]
@@ -121,10 +120,10 @@ fn what_is_written_through_one_reference_is_read_through_another(
     let b = view_member(&rt, alloc, &store, &whole, "b")?;
     let last = view_index(&rt, alloc, &store, &b, 2)?;
     write(&rt, alloc, &mut store, &last, Instance::from(9u32))?;
-    assert_reads(&rt, alloc, &store, &b, "vec3(2u, 3u, 9u)")?;
+    assert_reads(&rt, alloc, &store, &b, "vec3(2u, 3u, 9u)");
     let sevens = Instance::from(vector_of(&rt, alloc, &[7, 7, 7])?);
     write(&rt, alloc, &mut store, &b, sevens)?;
-    assert_reads(&rt, alloc, &store, &last, "7u")?;
+    assert_reads(&rt, alloc, &store, &last, "7u");
     let bytes = bytes_at(&rt, alloc, &store, &whole)?;
     assert!(rt; bytes.starts_with(&[1, 0, 0, 0]));
     assert_eq!(rt; store.len(), 1);
@@ -142,7 +141,7 @@ fn a_runtime_sized_array_keeps_its_length(rt: HostRuntime) -> Result<(), Fail> {
     let refusal = write(&rt, alloc, &mut store, &whole, two).err();
     let own = Type::Array(Box::new(alloc, Type::U32)?, None);
     assert_eq!(rt; refusal, Some(Error::WriteRefType(own.clone(alloc)?, own)));
-    assert_reads(&rt, alloc, &store, &last, "12u")?;
+    assert_reads(&rt, alloc, &store, &last, "12u");
     let bytes = bytes_at(&rt, alloc, &store, &whole)?;
     let unchanged = [10, 0, 0, 0, 11, 0, 0, 0, 12, 0, 0, 0];
     assert_eq!(rt; bytes.as_slice(), unchanged.as_slice());
@@ -187,7 +186,8 @@ fn what_may_only_be_read_is_not_written(rt: HostRuntime) -> Result<(), Fail> {
     );
     let refusal = read_write(&rt, alloc, &mut store, &whole, Instance::from(2u32)).err();
     assert_eq!(rt; refusal, Some(Error::NotReadWrite));
-    assert_reads(&rt, alloc, &store, &whole, "1u")
+    assert_reads(&rt, alloc, &store, &whole, "1u");
+    Ok(())
 }
 
 #[test]
@@ -353,5 +353,6 @@ fn a_value_is_held_with_each_pointer_in_it(rt: HostRuntime) -> Result<(), Fail> 
     assert!(rt; Store::new(alloc).holds_value(&Instance::from(1i32)));
     let whole = new(&rt, alloc, &mut first, value, ReadWrite)?;
     let inner = view_member(&rt, alloc, &first, &whole, "p")?;
-    assert_reads(&rt, alloc, &first, &inner, "ptr<storage, i32, read_write>")
+    assert_reads(&rt, alloc, &first, &inner, "ptr<storage, i32, read_write>");
+    Ok(())
 }
