@@ -4,7 +4,6 @@ use crate::tests::samples::{array_from, vector_of};
 use crate::tests::sessions::call;
 use std::alloc::{AllocError, Global};
 use std::process::Abort;
-use std::test::Fail;
 use wgsl_rules::AccessMode::ReadWrite;
 use wgsl_rules::AddressSpace::Storage;
 use wgsl_session::{Call, Fault, Reply, Session};
@@ -202,9 +201,15 @@ fn assert_step(
     let (made, wanted) = match numbers.below(5) {
         0 => {
             let i = numbers.below(7);
-            (Call::Index(handle, i), plain.index(handle, i).expect(rt, "memory"))
+            (
+                Call::Index(handle, i),
+                plain.index(handle, i).expect(rt, "memory"),
+            )
         }
-        1 => (Call::Read(handle), plain.read(rt, alloc, handle).expect(rt, "memory")),
+        1 => (
+            Call::Read(handle),
+            plain.read(rt, alloc, handle).expect(rt, "memory"),
+        ),
         2 => {
             let words = numbers.words(alloc).expect(rt, "memory");
             let value = value_of(rt, alloc, &words).expect(rt, "memory");
@@ -213,12 +218,17 @@ fn assert_step(
         3 => {
             let words = numbers.words(alloc).expect(rt, "memory");
             let value = value_of(rt, alloc, &words).expect(rt, "memory");
-            let wanted = plain.replace(rt, alloc, handle, &words).expect(rt, "memory");
+            let wanted = plain
+                .replace(rt, alloc, handle, &words)
+                .expect(rt, "memory");
             (Call::Replace(handle, value), wanted)
         }
         _ => {
             let to = numbers.below(limit);
-            (Call::Copy(handle, to), plain.copy(alloc, handle, to).expect(rt, "memory"))
+            (
+                Call::Copy(handle, to),
+                plain.copy(alloc, handle, to).expect(rt, "memory"),
+            )
         }
     };
     assert_eq!(rt; answer_of(call(rt, session, made)), wanted);
@@ -236,16 +246,19 @@ fn assert_cell(
     let made = plain.handles.len();
     let cell = plain.cells.len();
     plain.cells.push(words).expect(rt, "memory");
-    plain.handles.push(Named {
-        cell,
-        first: 0,
-        len: WORDS,
-    }).expect(rt, "memory");
+    plain
+        .handles
+        .push(Named {
+            cell,
+            first: 0,
+            len: WORDS,
+        })
+        .expect(rt, "memory");
     let reply = call(rt, session, Call::New(value, Storage, ReadWrite));
     assert_eq!(rt; answer_of(reply), Answer::Handle(made));
 }
 
-fn assert_run(rt: &impl Abort, alloc: Global, seed: u64) -> Result<(), Fail> {
+fn assert_run(rt: &impl Abort, alloc: Global, seed: u64) {
     let mut numbers = Numbers { state: seed };
     let mut session = Session::new(alloc);
     let mut plain = Plain {
@@ -255,21 +268,21 @@ fn assert_run(rt: &impl Abort, alloc: Global, seed: u64) -> Result<(), Fail> {
     for first in [1u32, 100, 200] {
         let mut words = Vec::new(alloc);
         for i in 0..WORDS {
-            words.push(first.wrapping_add(i as u32))?;
+            words
+                .push(first.wrapping_add(i as u32))
+                .expect(rt, "memory");
         }
         assert_cell(rt, alloc, &mut session, &mut plain, words);
     }
     for _ in 0..2000 {
         assert_step(rt, alloc, &mut session, &mut plain, &mut numbers);
     }
-    Ok(())
 }
 
 #[test]
-fn a_session_answers_as_a_plain_memory(rt: HostRuntime) -> Result<(), Fail> {
+fn a_session_answers_as_a_plain_memory(rt: HostRuntime) {
     let alloc = rt.alloc();
     for seed in [1, 2, 3, 4, 5] {
-        assert_run(&rt, alloc, seed)?;
+        assert_run(&rt, alloc, seed);
     }
-    Ok(())
 }
