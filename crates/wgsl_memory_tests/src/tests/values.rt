@@ -22,6 +22,7 @@ fn a_copy_equals_its_source(rt: HostRuntime) {
     let bytes = bytes_of(alloc, &[1, 2, 3]).expect(&rt, "memory");
     let value = value_of(&rt, alloc, &[1, 2, 3], &ty);
     let copy = value.clone(alloc).expect(&rt, "memory");
+    assert!(rt; copy.is_well_formed());
     assert!(rt; value == copy);
     assert!(rt; copy.has_ty(&ty));
     assert!(rt; copy.ty(alloc).expect(&rt, "memory") == ty);
