@@ -1,5 +1,6 @@
 //! What public calls on buffers, stores, references and sessions answer.
 
+mod asserts;
 mod buffers;
 mod cells;
 mod growth;

@@ -4,7 +4,6 @@ use crate::tests::samples::{array_from, vector_of};
 use crate::tests::sessions::call;
 use std::alloc::{AllocError, Global};
 use std::process::Abort;
-use std::test::Fail;
 use wgsl_rules::AccessMode::ReadWrite;
 use wgsl_rules::AddressSpace::Storage;
 use wgsl_session::{Call, Fault, Reply, Session};
@@ -195,34 +194,44 @@ fn assert_step(
     session: &mut Session,
     plain: &mut Plain,
     numbers: &mut Numbers,
-) -> Result<(), Fail> {
+) {
     // One handle more than there are: it is not there.
     let limit = plain.handles.len().wrapping_add(1);
     let handle = numbers.below(limit);
     let (made, wanted) = match numbers.below(5) {
         0 => {
             let i = numbers.below(7);
-            (Call::Index(handle, i), plain.index(handle, i)?)
+            (
+                Call::Index(handle, i),
+                plain.index(handle, i).expect(rt, "memory"),
+            )
         }
-        1 => (Call::Read(handle), plain.read(rt, alloc, handle)?),
+        1 => (
+            Call::Read(handle),
+            plain.read(rt, alloc, handle).expect(rt, "memory"),
+        ),
         2 => {
-            let words = numbers.words(alloc)?;
-            let value = value_of(rt, alloc, &words)?;
+            let words = numbers.words(alloc).expect(rt, "memory");
+            let value = value_of(rt, alloc, &words).expect(rt, "memory");
             (Call::Write(handle, value), plain.write(handle, &words))
         }
         3 => {
-            let words = numbers.words(alloc)?;
-            let value = value_of(rt, alloc, &words)?;
-            let wanted = plain.replace(rt, alloc, handle, &words)?;
+            let words = numbers.words(alloc).expect(rt, "memory");
+            let value = value_of(rt, alloc, &words).expect(rt, "memory");
+            let wanted = plain
+                .replace(rt, alloc, handle, &words)
+                .expect(rt, "memory");
             (Call::Replace(handle, value), wanted)
         }
         _ => {
             let to = numbers.below(limit);
-            (Call::Copy(handle, to), plain.copy(alloc, handle, to)?)
+            (
+                Call::Copy(handle, to),
+                plain.copy(alloc, handle, to).expect(rt, "memory"),
+            )
         }
     };
     assert_eq!(rt; answer_of(call(rt, session, made)), wanted);
-    Ok(())
 }
 
 /// Makes a cell of the words on both.
@@ -232,22 +241,24 @@ fn assert_cell(
     session: &mut Session,
     plain: &mut Plain,
     words: Vec<u32>,
-) -> Result<(), Fail> {
-    let value = value_of(rt, alloc, &words)?;
+) {
+    let value = value_of(rt, alloc, &words).expect(rt, "memory");
     let made = plain.handles.len();
     let cell = plain.cells.len();
-    plain.cells.push(words)?;
-    plain.handles.push(Named {
-        cell,
-        first: 0,
-        len: WORDS,
-    })?;
+    plain.cells.push(words).expect(rt, "memory");
+    plain
+        .handles
+        .push(Named {
+            cell,
+            first: 0,
+            len: WORDS,
+        })
+        .expect(rt, "memory");
     let reply = call(rt, session, Call::New(value, Storage, ReadWrite));
     assert_eq!(rt; answer_of(reply), Answer::Handle(made));
-    Ok(())
 }
 
-fn assert_run(rt: &impl Abort, alloc: Global, seed: u64) -> Result<(), Fail> {
+fn assert_run(rt: &impl Abort, alloc: Global, seed: u64) {
     let mut numbers = Numbers { state: seed };
     let mut session = Session::new(alloc);
     let mut plain = Plain {
@@ -257,21 +268,21 @@ fn assert_run(rt: &impl Abort, alloc: Global, seed: u64) -> Result<(), Fail> {
     for first in [1u32, 100, 200] {
         let mut words = Vec::new(alloc);
         for i in 0..WORDS {
-            words.push(first.wrapping_add(i as u32))?;
+            words
+                .push(first.wrapping_add(i as u32))
+                .expect(rt, "memory");
         }
-        assert_cell(rt, alloc, &mut session, &mut plain, words)?;
+        assert_cell(rt, alloc, &mut session, &mut plain, words);
     }
     for _ in 0..2000 {
-        assert_step(rt, alloc, &mut session, &mut plain, &mut numbers)?;
+        assert_step(rt, alloc, &mut session, &mut plain, &mut numbers);
     }
-    Ok(())
 }
 
 #[test]
-fn a_session_answers_as_a_plain_memory(rt: HostRuntime) -> Result<(), Fail> {
+fn a_session_answers_as_a_plain_memory(rt: HostRuntime) {
     let alloc = rt.alloc();
     for seed in [1, 2, 3, 4, 5] {
-        assert_run(&rt, alloc, seed)?;
+        assert_run(&rt, alloc, seed);
     }
-    Ok(())
 }

@@ -1,9 +1,9 @@
 //! Stores, and calls on references to parts of their cells. Each call here tests its conditions first.
 
+use crate::tests::asserts::{assert_none, assert_same};
 use crate::tests::samples::{array_of, pair_value, structure_from, vector_of};
 use std::alloc::{AllocError, Global};
 use std::process::Abort;
-use std::test::Fail;
 use wgsl_rules::AccessMode::{Read, ReadWrite, Write};
 use wgsl_rules::AddressSpace::Storage;
 use wgsl_rules::{AccessMode, AddressSpace, Type};
@@ -104,57 +104,58 @@ pub(super) fn assert_reads(
     store: &Store,
     reference: &RefInstance,
     text: &str,
-) -> Result<(), Fail> {
-    let value = read(rt, alloc, store, reference)?;
-    assert_eq!(rt; value.to_string(alloc)?.as_str(), text);
-    Ok(())
+) {
+    let value = read(rt, alloc, store, reference).expect(rt, "memory");
+    assert_eq!(rt; value.to_string(alloc).expect(rt, "memory").as_str(), text);
 }
 
 #[test]
-fn what_is_written_through_one_reference_is_read_through_another(
-    rt: HostRuntime,
-) -> Result<(), Fail> {
+fn what_is_written_through_one_reference_is_read_through_another(rt: HostRuntime) {
     let alloc = rt.alloc();
     let mut store = Store::new(alloc);
-    let pair = Instance::from(pair_value(&rt, alloc)?);
-    let whole = new(&rt, alloc, &mut store, pair, ReadWrite)?;
-    let b = view_member(&rt, alloc, &store, &whole, "b")?;
-    let last = view_index(&rt, alloc, &store, &b, 2)?;
-    write(&rt, alloc, &mut store, &last, Instance::from(9u32))?;
-    assert_reads(&rt, alloc, &store, &b, "vec3(2u, 3u, 9u)")?;
-    let sevens = Instance::from(vector_of(&rt, alloc, &[7, 7, 7])?);
-    write(&rt, alloc, &mut store, &b, sevens)?;
-    assert_reads(&rt, alloc, &store, &last, "7u")?;
-    let bytes = bytes_at(&rt, alloc, &store, &whole)?;
+    let pair = Instance::from(pair_value(&rt, alloc).expect(&rt, "memory"));
+    let whole = new(&rt, alloc, &mut store, pair, ReadWrite).expect(&rt, "memory");
+    let b = view_member(&rt, alloc, &store, &whole, "b").expect(&rt, "memory");
+    let last = view_index(&rt, alloc, &store, &b, 2).expect(&rt, "memory");
+    write(&rt, alloc, &mut store, &last, Instance::from(9u32)).expect(&rt, "memory");
+    assert_reads(&rt, alloc, &store, &b, "vec3(2u, 3u, 9u)");
+    let sevens = Instance::from(vector_of(&rt, alloc, &[7, 7, 7]).expect(&rt, "memory"));
+    write(&rt, alloc, &mut store, &b, sevens).expect(&rt, "memory");
+    assert_reads(&rt, alloc, &store, &last, "7u");
+    let bytes = bytes_at(&rt, alloc, &store, &whole).expect(&rt, "memory");
     assert!(rt; bytes.starts_with(&[1, 0, 0, 0]));
     assert_eq!(rt; store.len(), 1);
-    Ok(())
+    drop((store, whole, b, last));
 }
 
 #[test]
-fn a_runtime_sized_array_keeps_its_length(rt: HostRuntime) -> Result<(), Fail> {
+fn a_runtime_sized_array_keeps_its_length(rt: HostRuntime) {
     let alloc = rt.alloc();
     let mut store = Store::new(alloc);
-    let three = Instance::from(array_of(&rt, alloc, &[10, 11, 12], true)?);
-    let whole = new(&rt, alloc, &mut store, three, ReadWrite)?;
-    let last = view_index(&rt, alloc, &store, &whole, 2)?;
-    let two = Instance::from(array_of(&rt, alloc, &[1, 2], true)?);
+    let three = Instance::from(array_of(&rt, alloc, &[10, 11, 12], true).expect(&rt, "memory"));
+    let whole = new(&rt, alloc, &mut store, three, ReadWrite).expect(&rt, "memory");
+    let last = view_index(&rt, alloc, &store, &whole, 2).expect(&rt, "memory");
+    let two = Instance::from(array_of(&rt, alloc, &[1, 2], true).expect(&rt, "memory"));
     let refusal = write(&rt, alloc, &mut store, &whole, two).err();
-    let own = Type::Array(Box::new(alloc, Type::U32)?, None);
-    assert_eq!(rt; refusal, Some(Error::WriteRefType(own.clone(alloc)?, own)));
-    assert_reads(&rt, alloc, &store, &last, "12u")?;
-    let bytes = bytes_at(&rt, alloc, &store, &whole)?;
+    let own = Type::Array(Box::new(alloc, Type::U32).expect(&rt, "memory"), None);
+    assert_same(
+        &rt,
+        refusal,
+        Some(Error::WriteRefType(own.clone(alloc).expect(&rt, "memory"), own)),
+    );
+    assert_reads(&rt, alloc, &store, &last, "12u");
+    let bytes = bytes_at(&rt, alloc, &store, &whole).expect(&rt, "memory");
     let unchanged = [10, 0, 0, 0, 11, 0, 0, 0, 12, 0, 0, 0];
     assert_eq!(rt; bytes.as_slice(), unchanged.as_slice());
-    Ok(())
+    drop((store, whole, last));
 }
 
 #[test]
-fn what_may_only_be_written_is_not_read(rt: HostRuntime) -> Result<(), Fail> {
+fn what_may_only_be_written_is_not_read(rt: HostRuntime) {
     let alloc = rt.alloc();
     let mut store = Store::new(alloc);
-    let vector = Instance::from(vector_of(&rt, alloc, &[5, 6])?);
-    let whole = new(&rt, alloc, &mut store, vector, Write)?;
+    let vector = Instance::from(vector_of(&rt, alloc, &[5, 6]).expect(&rt, "memory"));
+    let whole = new(&rt, alloc, &mut store, vector, Write).expect(&rt, "memory");
     assert_eq!(rt;
         view_index(&rt, alloc, &store, &whole, 0).err(),
         Some(Error::NotRead)
@@ -167,49 +168,62 @@ fn what_may_only_be_written_is_not_read(rt: HostRuntime) -> Result<(), Fail> {
         show(&rt, alloc, &store, &whole).err(),
         Some(Error::NotRead)
     );
-    let next = Instance::from(vector_of(&rt, alloc, &[7, 8])?);
-    write(&rt, alloc, &mut store, &whole, next)?;
-    let ones = Instance::from(vector_of(&rt, alloc, &[1, 1])?);
-    let old = read_write(&rt, alloc, &mut store, &whole, ones)?;
-    assert_eq!(rt; old.to_string(alloc)?.as_str(), "vec2(7u, 8u)");
-    Ok(())
+    let next = Instance::from(vector_of(&rt, alloc, &[7, 8]).expect(&rt, "memory"));
+    write(&rt, alloc, &mut store, &whole, next).expect(&rt, "memory");
+    let ones = Instance::from(vector_of(&rt, alloc, &[1, 1]).expect(&rt, "memory"));
+    let old = read_write(&rt, alloc, &mut store, &whole, ones).expect(&rt, "memory");
+    assert_eq!(rt;
+        old.to_string(alloc).expect(&rt, "memory").as_str(),
+        "vec2(7u, 8u)"
+    );
+    drop((store, whole, old));
 }
 
 #[test]
-fn what_may_only_be_read_is_not_written(rt: HostRuntime) -> Result<(), Fail> {
+fn what_may_only_be_read_is_not_written(rt: HostRuntime) {
     let alloc = rt.alloc();
     let mut store = Store::new(alloc);
-    let whole = new(&rt, alloc, &mut store, Instance::from(1u32), Read)?;
+    let whole = new(&rt, alloc, &mut store, Instance::from(1u32), Read).expect(&rt, "memory");
     let two = Instance::from(2u32);
     assert_eq!(rt;
         write(&rt, alloc, &mut store, &whole, two).err(),
         Some(Error::NotWrite)
     );
     let refusal = read_write(&rt, alloc, &mut store, &whole, Instance::from(2u32)).err();
-    assert_eq!(rt; refusal, Some(Error::NotReadWrite));
-    assert_reads(&rt, alloc, &store, &whole, "1u")
+    assert_same(&rt, refusal, Some(Error::NotReadWrite));
+    assert_reads(&rt, alloc, &store, &whole, "1u");
+    drop((store, whole));
 }
 
 #[test]
-fn steps_that_lead_nowhere_are_refused(rt: HostRuntime) -> Result<(), Fail> {
+fn steps_that_lead_nowhere_are_refused(rt: HostRuntime) {
     let alloc = rt.alloc();
     let mut store = Store::new(alloc);
-    let vector = Instance::from(vector_of(&rt, alloc, &[5, 6])?);
-    let whole = new(&rt, alloc, &mut store, vector, ReadWrite)?;
-    let own = Type::Vec(2, Box::new(alloc, Type::U32)?);
+    let vector = Instance::from(vector_of(&rt, alloc, &[5, 6]).expect(&rt, "memory"));
+    let whole = new(&rt, alloc, &mut store, vector, ReadWrite).expect(&rt, "memory");
+    let own = Type::Vec(2, Box::new(alloc, Type::U32).expect(&rt, "memory"));
     let refusal = view_index(&rt, alloc, &store, &whole, 2).err();
-    assert_eq!(rt; refusal, Some(Error::OutOfBounds(2, own.clone(alloc)?, 2)));
-    let refusal = view_member(&rt, alloc, &store, &whole, "x").err();
-    assert_eq!(rt;
+    assert_same(
+        &rt,
         refusal,
-        Some(Error::Component(own, String::from_str(alloc, "x")?))
+        Some(Error::OutOfBounds(2, own.clone(alloc).expect(&rt, "memory"), 2)),
     );
-    let first = view_index(&rt, alloc, &store, &whole, 0)?;
+    let refusal = view_member(&rt, alloc, &store, &whole, "x").err();
+    assert_same(
+        &rt,
+        refusal,
+        Some(Error::Component(own, String::from_str(alloc, "x").expect(&rt, "memory"))),
+    );
+    let first = view_index(&rt, alloc, &store, &whole, 0).expect(&rt, "memory");
     let refusal = view_index(&rt, alloc, &store, &first, 0).err();
-    assert_eq!(rt; refusal, Some(Error::NotIndexable(Type::U32)));
+    assert_same(&rt, refusal, Some(Error::NotIndexable(Type::U32)));
     let refusal = write(&rt, alloc, &mut store, &first, Instance::from(1i32)).err();
-    assert_eq!(rt; refusal, Some(Error::WriteRefType(Type::I32, Type::U32)));
-    Ok(())
+    assert_same(
+        &rt,
+        refusal,
+        Some(Error::WriteRefType(Type::I32, Type::U32)),
+    );
+    drop((store, whole, first));
 }
 
 pub(super) fn show(
@@ -224,18 +238,18 @@ pub(super) fn show(
 }
 
 #[test]
-fn references_and_pointers_are_shown_with_their_values(rt: HostRuntime) -> Result<(), Fail> {
+fn references_and_pointers_are_shown_with_their_values(rt: HostRuntime) {
     let alloc = rt.alloc();
     let mut store = Store::new(alloc);
-    let five = new(&rt, alloc, &mut store, Instance::from(5i32), ReadWrite)?;
-    let text = show(&rt, alloc, &store, &five)?;
+    let five = new(&rt, alloc, &mut store, Instance::from(5i32), ReadWrite).expect(&rt, "memory");
+    let text = show(&rt, alloc, &store, &five).expect(&rt, "memory");
     assert_eq!(rt; text.as_str(), "ref<storage, i32, read_write>(5i)");
     let pointer = PtrInstance::from(five);
-    let held = Instance::from(pointer.clone(alloc)?);
+    let held = Instance::from(pointer.clone(alloc).expect(&rt, "memory"));
     assert!(rt; store.holds_value(&held));
-    let text = pointer.show(alloc, &store)?;
+    let text = pointer.show(alloc, &store).expect(&rt, "memory");
     assert_eq!(rt; text.as_str(), "ptr<storage, i32, read_write>(5i)");
-    Ok(())
+    drop((store, pointer, held, text));
 }
 
 pub(super) fn loaded(
@@ -249,34 +263,38 @@ pub(super) fn loaded(
 }
 
 #[test]
-fn a_chain_of_references_is_loaded_to_its_literal(rt: HostRuntime) -> Result<(), Fail> {
+fn a_chain_of_references_is_loaded_to_its_literal(rt: HostRuntime) {
     let alloc = rt.alloc();
     let mut store = Store::new(alloc);
-    let first = new(&rt, alloc, &mut store, Instance::from(5i32), ReadWrite)?;
-    let mut last = first.clone(alloc)?;
+    let first = new(&rt, alloc, &mut store, Instance::from(5i32), ReadWrite).expect(&rt, "memory");
+    let mut last = first.clone(alloc).expect(&rt, "memory");
     for _ in 0..100 {
-        last = new(&rt, alloc, &mut store, Instance::from(last), ReadWrite)?;
+        last = new(&rt, alloc, &mut store, Instance::from(last), ReadWrite).expect(&rt, "memory");
     }
     let chain = Instance::from(last);
-    let value = loaded(&rt, alloc, &store, chain.clone(alloc)?)?;
-    assert_eq!(rt; value, Instance::from(5i32));
-    write(&rt, alloc, &mut store, &first, Instance::from(6i32))?;
-    let value = loaded(&rt, alloc, &store, chain)?;
-    assert_eq!(rt; value, Instance::from(6i32));
-    let itself = loaded(&rt, alloc, &store, Instance::from(7u32))?;
-    assert_eq!(rt; itself, Instance::from(7u32));
-    Ok(())
+    let value = loaded(&rt, alloc, &store, chain.clone(alloc).expect(&rt, "memory")).expect(
+        &rt, "memory",
+    );
+    assert_same(&rt, value, Instance::from(5i32));
+    write(&rt, alloc, &mut store, &first, Instance::from(6i32)).expect(&rt, "memory");
+    let value = loaded(&rt, alloc, &store, chain).expect(&rt, "memory");
+    assert_same(&rt, value, Instance::from(6i32));
+    let itself = loaded(&rt, alloc, &store, Instance::from(7u32)).expect(&rt, "memory");
+    assert_same(&rt, itself, Instance::from(7u32));
+    drop((store, first));
 }
 
 #[test]
-fn a_chain_with_a_link_that_is_not_read_is_not_loaded(rt: HostRuntime) -> Result<(), Fail> {
+fn a_chain_with_a_link_that_is_not_read_is_not_loaded(rt: HostRuntime) {
     let alloc = rt.alloc();
     let mut store = Store::new(alloc);
-    let first = new(&rt, alloc, &mut store, Instance::from(5i32), Write)?;
-    let second = new(&rt, alloc, &mut store, Instance::from(first), ReadWrite)?;
+    let first = new(&rt, alloc, &mut store, Instance::from(5i32), Write).expect(&rt, "memory");
+    let second = new(&rt, alloc, &mut store, Instance::from(first), ReadWrite).expect(
+        &rt, "memory",
+    );
     let refusal = loaded(&rt, alloc, &store, Instance::from(second)).err();
-    assert_eq!(rt; refusal, Some(Error::NotRead));
-    Ok(())
+    assert_same(&rt, refusal, Some(Error::NotRead));
+    drop(store);
 }
 
 pub(super) fn convert_loaded(
@@ -292,15 +310,15 @@ pub(super) fn convert_loaded(
 }
 
 #[test]
-fn what_is_loaded_is_converted(rt: HostRuntime) -> Result<(), Fail> {
+fn what_is_loaded_is_converted(rt: HostRuntime) {
     let alloc = rt.alloc();
     let mut store = Store::new(alloc);
-    let seven = new(&rt, alloc, &mut store, Instance::from(7i64), ReadWrite)?;
+    let seven = new(&rt, alloc, &mut store, Instance::from(7i64), ReadWrite).expect(&rt, "memory");
     let value = Instance::from(seven);
-    let converted = convert_loaded(&rt, alloc, &store, &value, &Type::U32)?;
-    assert_eq!(rt; converted, Some(Instance::from(7u32)));
-    assert!(rt; convert_loaded(&rt, alloc, &store, &value, &Type::Bool)?.is_none());
-    Ok(())
+    let converted = convert_loaded(&rt, alloc, &store, &value, &Type::U32).expect(&rt, "memory");
+    assert_same(&rt, converted, Some(Instance::from(7u32)));
+    assert_none(&rt, convert_loaded(&rt, alloc, &store, &value, &Type::Bool));
+    drop((store, value));
 }
 
 /// A store of one cell with the value.
@@ -311,21 +329,23 @@ fn store_of(rt: &impl Abort, alloc: Global, value: Instance) -> Result<Store, Er
 }
 
 #[test]
-fn a_reference_is_held_where_it_names_a_value_of_its_type(rt: HostRuntime) -> Result<(), Fail> {
+fn a_reference_is_held_where_it_names_a_value_of_its_type(rt: HostRuntime) {
     let alloc = rt.alloc();
     let mut first = Store::new(alloc);
-    let reference = new(&rt, alloc, &mut first, Instance::from(1i32), ReadWrite)?;
-    let unsigned = store_of(&rt, alloc, Instance::from(1u32))?;
-    let other = store_of(&rt, alloc, Instance::from(2i32))?;
+    let reference = new(&rt, alloc, &mut first, Instance::from(1i32), ReadWrite).expect(
+        &rt, "memory",
+    );
+    let unsigned = store_of(&rt, alloc, Instance::from(1u32)).expect(&rt, "memory");
+    let other = store_of(&rt, alloc, Instance::from(2i32)).expect(&rt, "memory");
     let empty = Store::new(alloc);
     assert!(rt; first.holds(&reference));
     assert!(rt; !unsigned.holds(&reference));
     assert!(rt; other.holds(&reference));
     assert!(rt; !empty.holds(&reference));
-    let past = MemView::Index(0, Box::new(alloc, MemView::Whole)?);
+    let past = MemView::Index(0, Box::new(alloc, MemView::Whole).expect(&rt, "memory"));
     let past = RefInstance::from_parts(0, past, Type::I32, AddressSpace::Private, Read);
     assert!(rt; !first.holds(&past));
-    Ok(())
+    drop((first, reference, unsigned, other, empty, past));
 }
 
 /// A structure with a pointer to the whole of the cell.
@@ -343,15 +363,18 @@ fn with_pointer(
 }
 
 #[test]
-fn a_value_is_held_with_each_pointer_in_it(rt: HostRuntime) -> Result<(), Fail> {
+fn a_value_is_held_with_each_pointer_in_it(rt: HostRuntime) {
     let alloc = rt.alloc();
     let mut first = Store::new(alloc);
-    let reference = new(&rt, alloc, &mut first, Instance::from(1i32), ReadWrite)?;
-    let value = with_pointer(&rt, alloc, reference)?;
+    let reference = new(&rt, alloc, &mut first, Instance::from(1i32), ReadWrite).expect(
+        &rt, "memory",
+    );
+    let value = with_pointer(&rt, alloc, reference).expect(&rt, "memory");
     assert!(rt; first.holds_value(&value));
     assert!(rt; !Store::new(alloc).holds_value(&value));
     assert!(rt; Store::new(alloc).holds_value(&Instance::from(1i32)));
-    let whole = new(&rt, alloc, &mut first, value, ReadWrite)?;
-    let inner = view_member(&rt, alloc, &first, &whole, "p")?;
-    assert_reads(&rt, alloc, &first, &inner, "ptr<storage, i32, read_write>")
+    let whole = new(&rt, alloc, &mut first, value, ReadWrite).expect(&rt, "memory");
+    let inner = view_member(&rt, alloc, &first, &whole, "p").expect(&rt, "memory");
+    assert_reads(&rt, alloc, &first, &inner, "ptr<storage, i32, read_write>");
+    drop((first, whole, inner));
 }

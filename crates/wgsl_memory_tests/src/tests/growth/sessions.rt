@@ -9,7 +9,6 @@ use crate::tests::samples::{pair_value, pair_with};
 use crate::tests::sessions::sound;
 use std::alloc::{AllocError, Global};
 use std::process::Abort;
-use std::test::Fail;
 use wgsl_rules::AccessMode::ReadWrite;
 use wgsl_rules::AddressSpace::Storage;
 use wgsl_scalar::Error;
@@ -56,37 +55,36 @@ fn refused_in(replies: &[Result<Reply, Fault>]) -> Option<usize> {
 }
 
 /// Runs the calls on a new session, and asserts what is answered and made. Answers whether memory was refused.
-fn assert_run(rt: &impl Abort, alloc: Global, calls: Vec<Call>) -> Result<bool, Fail>
+fn assert_run(rt: &impl Abort, alloc: Global, calls: Vec<Call>) -> bool
     requires { AreSoundCalls (map call_of calls.items) }
 {
     let mut session = Session::new(alloc);
     let Ok(replies) = session.run(calls) else {
         assert_eq!(rt; session.store().len(), 0);
         assert!(rt; session.reference(0).is_none());
-        return Ok(true);
+        return true;
     };
     let refused = refused_in(&replies);
     let wanted = match wanted(rt, alloc, refused) {
         Ok(wanted) => wanted,
         // One growth alone is refused.
-        Err(_) => wanted(rt, alloc, refused)?,
+        Err(_) => wanted(rt, alloc, refused).expect(rt, "memory"),
     };
     assert!(rt; replies == wanted);
     assert_eq!(rt; session.store().len(), usize::from(refused != Some(0)));
-    Ok(refused.is_some())
+    refused.is_some()
 }
 
 #[test]
-fn a_list_of_calls_wants_memory_or_is_run(rt: HostRuntime) -> Result<(), Fail> {
+fn a_list_of_calls_wants_memory_or_is_run(rt: HostRuntime) {
     let alloc = rt.alloc();
     let Ok(first) = calls(&rt, alloc) else {
-        return Ok(());
+        return;
     };
     let Ok(again) = calls(&rt, alloc) else {
-        return Ok(());
+        return;
     };
-    if assert_run(&rt, alloc, first)? {
-        assert!(rt; !assert_run(&rt, alloc, again)?);
+    if assert_run(&rt, alloc, first) {
+        assert!(rt; !assert_run(&rt, alloc, again));
     }
-    Ok(())
 }
