@@ -2,7 +2,9 @@
 
 mod asserts;
 mod buffers;
+mod calls;
 mod cells;
+mod fixtures;
 mod growth;
 mod plain_memory;
 mod readme;

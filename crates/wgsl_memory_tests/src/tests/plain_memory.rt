@@ -1,6 +1,8 @@
 //! Long lists of calls on a session, against a plain memory of words.
 
-use crate::tests::samples::{array_from, vector_of};
+use crate::tests::asserts::assert_same;
+use crate::tests::fixtures::vector_of;
+use crate::tests::samples::array_from;
 use crate::tests::sessions::call;
 use std::alloc::{AllocError, Global};
 use std::process::Abort;
@@ -44,16 +46,18 @@ const NOT_INDEXABLE: Answer = Answer::Refused(9);
 const OUT_OF_BOUNDS: Answer = Answer::Refused(10);
 
 /// The u32, the vector or the array of these words.
-fn value_of(rt: &impl Abort, alloc: Global, words: &[u32]) -> Result<Instance, AllocError> {
+fn value_of(rt: &impl Abort, alloc: Global, words: &[u32]) -> Instance {
     match words {
-        [word] => Ok(Instance::from(*word)),
-        [_, _, _, _] => Ok(Instance::from(vector_of(rt, alloc, words)?)),
+        [word] => Instance::from(*word),
+        [_, _, _, _] => vector_of(rt, alloc, words),
         _ => {
             let mut elements = Vec::new(alloc);
             for element in words.chunks(4) {
-                elements.push(Instance::from(vector_of(rt, alloc, element)?))?;
+                elements
+                    .push(vector_of(rt, alloc, element))
+                    .expect(rt, "memory");
             }
-            Ok(Instance::from(array_from(rt, elements, false)))
+            Instance::from(array_from(rt, elements, false))
         }
     }
 }
@@ -93,12 +97,12 @@ impl Plain {
         Ok(Answer::Handle(made))
     }
 
-    fn read(&self, rt: &impl Abort, alloc: Global, handle: usize) -> Result<Answer, AllocError> {
+    fn read(&self, rt: &impl Abort, alloc: Global, handle: usize) -> Answer {
         let Some(named) = self.named(handle) else {
-            return Ok(Answer::NoHandle);
+            return Answer::NoHandle;
         };
-        let words = self.words(alloc, named)?;
-        Ok(Answer::Value(value_of(rt, alloc, &words)?))
+        let words = self.words(alloc, named).expect(rt, "memory");
+        Answer::Value(value_of(rt, alloc, &words))
     }
 
     fn write(&mut self, handle: usize, words: &[u32]) -> Answer {
@@ -119,17 +123,14 @@ impl Plain {
     }
 
     /// As a write, which answers the old value.
-    fn replace(
-        &mut self,
-        rt: &impl Abort,
-        alloc: Global,
-        handle: usize,
-        words: &[u32],
-    ) -> Result<Answer, AllocError> {
-        let old = self.read(rt, alloc, handle)?;
+    fn replace(&mut self, rt: &impl Abort, alloc: Global, handle: usize, words: &[u32]) -> Answer {
+        let old = self.read(rt, alloc, handle);
         match self.write(handle, words) {
-            Answer::Done => Ok(old),
-            refusal => Ok(refusal),
+            Answer::Done => old,
+            refusal => {
+                drop(old);
+                refusal
+            }
         }
     }
 
@@ -148,7 +149,11 @@ fn answer_of(reply: Result<Reply, Fault>) -> Answer {
         Ok(Reply::Value(value)) => Answer::Value(value),
         Ok(Reply::Done) => Answer::Done,
         Err(Fault::NoHandle) => Answer::NoHandle,
-        Err(Fault::Of(error)) => Answer::Refused(error.number()),
+        Err(Fault::Of(error)) => {
+            let number = error.number();
+            drop(error);
+            Answer::Refused(number)
+        }
     }
 }
 
@@ -201,37 +206,28 @@ fn assert_step(
     let (made, wanted) = match numbers.below(5) {
         0 => {
             let i = numbers.below(7);
-            (
-                Call::Index(handle, i),
-                plain.index(handle, i).expect(rt, "memory"),
-            )
+            let wanted = plain.index(handle, i).expect(rt, "memory");
+            (Call::Index(handle, i), wanted)
         }
-        1 => (
-            Call::Read(handle),
-            plain.read(rt, alloc, handle).expect(rt, "memory"),
-        ),
+        1 => (Call::Read(handle), plain.read(rt, alloc, handle)),
         2 => {
             let words = numbers.words(alloc).expect(rt, "memory");
-            let value = value_of(rt, alloc, &words).expect(rt, "memory");
+            let value = value_of(rt, alloc, &words);
             (Call::Write(handle, value), plain.write(handle, &words))
         }
         3 => {
             let words = numbers.words(alloc).expect(rt, "memory");
-            let value = value_of(rt, alloc, &words).expect(rt, "memory");
-            let wanted = plain
-                .replace(rt, alloc, handle, &words)
-                .expect(rt, "memory");
-            (Call::Replace(handle, value), wanted)
+            let wanted = plain.replace(rt, alloc, handle, &words);
+            (Call::Replace(handle, value_of(rt, alloc, &words)), wanted)
         }
         _ => {
             let to = numbers.below(limit);
-            (
-                Call::Copy(handle, to),
-                plain.copy(alloc, handle, to).expect(rt, "memory"),
-            )
+            let wanted = plain.copy(alloc, handle, to).expect(rt, "memory");
+            (Call::Copy(handle, to), wanted)
         }
     };
-    assert_eq!(rt; answer_of(call(rt, session, made)), wanted);
+    let answer = answer_of(call(rt, session, made));
+    assert_same(rt, answer, wanted);
 }
 
 /// Makes a cell of the words on both.
@@ -242,7 +238,7 @@ fn assert_cell(
     plain: &mut Plain,
     words: Vec<u32>,
 ) {
-    let value = value_of(rt, alloc, &words).expect(rt, "memory");
+    let value = value_of(rt, alloc, &words);
     let made = plain.handles.len();
     let cell = plain.cells.len();
     plain.cells.push(words).expect(rt, "memory");
@@ -254,8 +250,8 @@ fn assert_cell(
             len: WORDS,
         })
         .expect(rt, "memory");
-    let reply = call(rt, session, Call::New(value, Storage, ReadWrite));
-    assert_eq!(rt; answer_of(reply), Answer::Handle(made));
+    let answer = answer_of(call(rt, session, Call::New(value, Storage, ReadWrite)));
+    assert_same(rt, answer, Answer::Handle(made));
 }
 
 fn assert_run(rt: &impl Abort, alloc: Global, seed: u64) {
@@ -277,6 +273,7 @@ fn assert_run(rt: &impl Abort, alloc: Global, seed: u64) {
     for _ in 0..2000 {
         assert_step(rt, alloc, &mut session, &mut plain, &mut numbers);
     }
+    drop((session, plain));
 }
 
 #[test]

@@ -3,8 +3,9 @@
 ghost use Rattle.wgsl_session.specs.Calls.{IsSoundCall};
 ghost use Rattle.wgsl_session.specs.View.{call_of};
 
-use crate::tests::samples::{pair_value, vector_of};
-use std::alloc::{AllocError, Global};
+use crate::tests::asserts::{assert_is, assert_refused, assert_same};
+use crate::tests::fixtures::{assert_text, pair_value, text, vector_of};
+use std::alloc::Global;
 use std::process::Abort;
 use wgsl_rules::AccessMode::{Read, ReadWrite};
 use wgsl_rules::AddressSpace::{Function, Storage};
@@ -12,7 +13,7 @@ use wgsl_rules::Type;
 use wgsl_samples::values::reference_of;
 use wgsl_scalar::{BuiltinReason, Error};
 use wgsl_session::{Call, Fault, Reply, Session};
-use wgsl_values::{Instance, PtrInstance};
+use wgsl_values::{Instance, PtrInstance, RefInstance};
 
 /// The call, which a session takes.
 pub(super) fn sound(rt: &impl Abort, call: Call) -> Call
@@ -29,26 +30,35 @@ pub(super) fn call(rt: &impl Abort, session: &mut Session, call: Call) -> Result
 }
 
 fn assert_handle(rt: &impl Abort, session: &mut Session, made: Call, handle: usize) {
-    assert_eq!(rt; call(rt, session, made), Ok(Reply::Handle(handle)));
+    assert_same(rt, call(rt, session, made), Ok(Reply::Handle(handle)));
 }
 
 fn assert_value(rt: &impl Abort, session: &mut Session, asked: Call, value: Instance) {
-    assert_eq!(rt; call(rt, session, asked), Ok(Reply::Value(value)));
+    assert_same(rt, call(rt, session, asked), Ok(Reply::Value(value)));
 }
 
-/// The text of the value that is answered.
-fn text_of(alloc: Global, reply: Result<Reply, Fault>) -> Result<Option<String>, AllocError> {
-    match reply {
-        Ok(Reply::Value(value)) => Ok(Some(value.to_string(alloc)?)),
-        Ok(Reply::Handle(_) | Reply::Done) | Err(_) => Ok(None),
+fn assert_done(rt: &impl Abort, session: &mut Session, asked: Call) {
+    assert_same(rt, call(rt, session, asked), Ok(Reply::Done));
+}
+
+/// Asserts the text of what the handle is read as.
+fn assert_reads(
+    rt: &impl Abort,
+    alloc: Global,
+    session: &mut Session,
+    handle: usize,
+    wanted: &str,
+) {
+    match call(rt, session, Call::Read(handle)) {
+        Ok(Reply::Value(value)) => {
+            assert_text(rt, alloc, &value, wanted);
+            drop(value);
+        }
+        other => {
+            assert!(rt; false, "handle {handle} is read");
+            drop(other);
+        }
     }
-}
-
-/// Asserts the text of the value that the call answers.
-fn assert_text(rt: &impl Abort, alloc: Global, session: &mut Session, asked: Call, wanted: &str) {
-    let reply = call(rt, session, asked);
-    let text = text_of(alloc, reply).expect(rt, "memory");
-    assert!(rt; text.is_some_and(|text| text.as_str() == wanted));
 }
 
 #[test]
@@ -60,18 +70,16 @@ fn a_cell_holds_a_reference_to_another(rt: HostRuntime) {
     assert_handle(&rt, &mut session, Call::NewOf(0, Function, ReadWrite), 1);
     assert_value(&rt, &mut session, Call::Load(1), Instance::from(5i32));
     let held = "ref<storage, i32, read_write>";
-    assert_text(&rt, alloc, &mut session, Call::Read(1), held);
-    let six = Call::Write(0, Instance::from(6i32));
-    assert_eq!(rt; call(&rt, &mut session, six), Ok(Reply::Done));
+    assert_reads(&rt, alloc, &mut session, 1, held);
+    assert_done(&rt, &mut session, Call::Write(0, Instance::from(6i32)));
     assert_value(&rt, &mut session, Call::Load(1), Instance::from(6i32));
     let number = Call::Write(1, Instance::from(1i32));
     let target = Box::new(alloc, Type::I32).expect(&rt, "memory");
     let refusal = Error::WriteRefType(Type::I32, Type::Ref(Storage, target, ReadWrite));
-    assert_eq!(rt; call(&rt, &mut session, number), Err(Fault::Of(refusal)));
-    assert_eq!(rt;
-        call(&rt, &mut session, Call::Read(2)),
-        Err(Fault::NoHandle)
-    );
+    let answer = call(&rt, &mut session, number);
+    assert_refused(&rt, answer, Fault::Of(refusal));
+    let answer = call(&rt, &mut session, Call::Read(2));
+    assert_refused(&rt, answer, Fault::NoHandle);
     assert_eq!(rt; session.store().len(), 2);
     drop(session);
 }
@@ -86,11 +94,11 @@ fn a_load_reads_on_along_references(rt: HostRuntime) {
     assert_handle(&rt, &mut session, Call::NewOf(1, Function, ReadWrite), 2);
     assert_value(&rt, &mut session, Call::Load(2), Instance::from(5i32));
     let held = "ref<function, ref<storage, i32, read_write>, read_write>";
-    assert_text(&rt, alloc, &mut session, Call::Read(2), held);
+    assert_reads(&rt, alloc, &mut session, 2, held);
     let seven = Call::New(Instance::from(7i32), Storage, ReadWrite);
     assert_handle(&rt, &mut session, seven, 3);
     assert_handle(&rt, &mut session, Call::NewOf(3, Function, ReadWrite), 4);
-    assert_eq!(rt; call(&rt, &mut session, Call::Copy(4, 1)), Ok(Reply::Done));
+    assert_done(&rt, &mut session, Call::Copy(4, 1));
     assert_value(&rt, &mut session, Call::Load(2), Instance::from(7i32));
     assert_value(&rt, &mut session, Call::Read(0), Instance::from(5i32));
     drop(session);
@@ -100,51 +108,64 @@ fn a_load_reads_on_along_references(rt: HostRuntime) {
 fn members_and_old_values_are_answered(rt: HostRuntime) {
     let alloc = rt.alloc();
     let mut session = Session::new(alloc);
-    let pair = Instance::from(pair_value(&rt, alloc).expect(&rt, "memory"));
+    let pair = pair_value(&rt, alloc);
     assert_handle(&rt, &mut session, Call::New(pair, Storage, ReadWrite), 0);
-    let a = Call::Member(0, String::from_str(alloc, "a").expect(&rt, "memory"));
+    let a = Call::Member(0, text(&rt, alloc, "a"));
     assert_handle(&rt, &mut session, a, 1);
     let next = Call::Replace(1, Instance::from(9u32));
     assert_value(&rt, &mut session, next, Instance::from(1u32));
-    assert_text(
-        &rt,
-        alloc,
-        &mut session,
-        Call::Read(0),
-        "Pair(9u, vec3(2u, 3u, 4u))",
-    );
-    let reference = session.reference(1);
-    assert!(rt; reference.is_some_and(|reference| reference.target_ty() == &Type::U32));
-    assert!(rt; session.reference(2).is_none());
-    drop(reference);
+    let read = "Pair(9u, vec3(2u, 3u, 4u))";
+    assert_reads(&rt, alloc, &mut session, 0, read);
+    drop(session);
 }
 
+#[test]
+fn the_handle_of_a_member_has_a_reference_of_its_type(rt: HostRuntime) {
+    let alloc = rt.alloc();
+    let mut session = Session::new(alloc);
+    let pair = Call::New(pair_value(&rt, alloc), Storage, ReadWrite);
+    assert_handle(&rt, &mut session, pair, 0);
+    let a = Call::Member(0, text(&rt, alloc, "a"));
+    assert_handle(&rt, &mut session, a, 1);
+    let target = session.reference(1).map(RefInstance::target_ty);
+    assert_eq!(rt; target, Some(&Type::U32));
+    assert!(rt; session.reference(2).is_none());
+    drop(session);
+}
+
+/// Whether a session takes the value for a new cell.
 fn is_sound(value: Instance) -> bool {
-    Call::New(value, Storage, ReadWrite).is_sound()
+    let call = Call::New(value, Storage, ReadWrite);
+    let is_sound = call.is_sound();
+    drop(call);
+    is_sound
 }
 
 #[test]
 fn calls_with_references_are_not_sound(rt: HostRuntime) {
     let alloc = rt.alloc();
     assert!(rt; is_sound(Instance::from(5i32)));
-    assert!(rt; is_sound(Instance::from(pair_value(&rt, alloc).expect(&rt, "memory"))));
-    assert!(rt; !is_sound(Instance::from(reference_of(alloc).expect(&rt, "memory"))));
-    assert!(rt;
-        !is_sound(Instance::from(PtrInstance::from(reference_of(alloc).expect(&rt, "memory"))))
-    );
+    assert!(rt; is_sound(pair_value(&rt, alloc)));
+    let reference = reference_of(alloc).expect(&rt, "memory");
+    assert!(rt; !is_sound(Instance::from(reference)));
+    let pointer = PtrInstance::from(reference_of(alloc).expect(&rt, "memory"));
+    assert!(rt; !is_sound(Instance::from(pointer)));
     assert!(rt; !is_sound(Instance::from(Type::I32)));
-    assert!(rt;
-        !Call::Write(0, Instance::from(reference_of(alloc).expect(&rt, "memory"))).is_sound()
-    );
-    assert!(rt; !Call::Replace(0, Instance::from(Type::I32)).is_sound());
-    assert!(rt; Call::Load(9).is_sound());
+    let reference = reference_of(alloc).expect(&rt, "memory");
+    let write = Call::Write(0, Instance::from(reference));
+    assert!(rt; !write.is_sound());
+    let replace = Call::Replace(0, Instance::from(Type::I32));
+    assert!(rt; !replace.is_sound());
+    let load = Call::Load(9);
+    assert!(rt; load.is_sound());
+    drop((write, replace, load));
 }
 
 #[test]
 fn a_list_of_calls_has_a_reply_for_each(rt: HostRuntime) {
     let alloc = rt.alloc();
     let mut session = Session::new(alloc);
-    let vector = Instance::from(vector_of(&rt, alloc, &[1, 2, 3]).expect(&rt, "memory"));
+    let vector = vector_of(&rt, alloc, &[1, 2, 3]);
     assert_handle(&rt, &mut session, Call::New(vector, Storage, ReadWrite), 0);
     let calls = vec![in alloc;
         Call::Index(0, 1),
@@ -170,12 +191,12 @@ fn a_list_of_calls_has_a_reply_for_each(rt: HostRuntime) {
 #[test]
 fn copies_of_calls_are_equal(rt: HostRuntime) {
     let alloc = rt.alloc();
-    let pair = Instance::from(pair_value(&rt, alloc).expect(&rt, "memory"));
-    let vector = Instance::from(vector_of(&rt, alloc, &[1, 2]).expect(&rt, "memory"));
+    let pair = pair_value(&rt, alloc);
+    let vector = vector_of(&rt, alloc, &[1, 2]);
     let calls = vec![in alloc;
         Call::New(pair, Storage, Read),
         Call::NewOf(1, Function, ReadWrite),
-        Call::Member(1, String::from_str(alloc, "b").expect(&rt, "memory")),
+        Call::Member(1, text(&rt, alloc, "b")),
         Call::Index(1, 2),
         Call::Read(1),
         Call::Write(1, vector),
@@ -189,6 +210,7 @@ fn copies_of_calls_are_equal(rt: HostRuntime) {
         for (j, other) in calls.iter().enumerate() {
             assert_eq!(rt; &copy == other, i == j);
         }
+        drop(copy);
     }
     drop(calls);
 }
@@ -196,17 +218,14 @@ fn copies_of_calls_are_equal(rt: HostRuntime) {
 #[test]
 fn copies_of_replies_and_faults_are_equal(rt: HostRuntime) {
     let alloc = rt.alloc();
-    let pair = Instance::from(pair_value(&rt, alloc).expect(&rt, "memory"));
-    let replies = vec![in alloc; Reply::Handle(7), Reply::Value(pair), Reply::Done].expect(
-        &rt, "memory",
-    );
+    let pair = pair_value(&rt, alloc);
+    let replies = vec![in alloc; Reply::Handle(7), Reply::Value(pair), Reply::Done];
+    let replies = replies.expect(&rt, "memory");
     for reply in &replies {
-        assert_eq!(rt; &reply.clone(alloc).expect(&rt, "memory"), reply);
+        let copy = reply.clone(alloc).expect(&rt, "memory");
+        assert_is(&rt, reply, copy);
     }
-    let missing = Error::Component(
-        Type::U32,
-        String::from_str(alloc, "c").expect(&rt, "memory"),
-    );
+    let missing = Error::Component(Type::U32, text(&rt, alloc, "c"));
     let faults = vec![in alloc;
         Fault::NoHandle,
         Fault::Of(Error::Builtin(BuiltinReason::OutOfRange)),
@@ -214,7 +233,8 @@ fn copies_of_replies_and_faults_are_equal(rt: HostRuntime) {
     ]
     .expect(&rt, "memory");
     for fault in &faults {
-        assert_eq!(rt; &fault.clone(alloc).expect(&rt, "memory"), fault);
+        let copy = fault.clone(alloc).expect(&rt, "memory");
+        assert_is(&rt, fault, copy);
     }
     drop((replies, faults));
 }

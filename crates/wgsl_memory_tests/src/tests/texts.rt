@@ -1,25 +1,28 @@
 //! The texts of types, words, operators, literals, values and views.
 
+use crate::tests::fixtures;
+use crate::tests::fixtures::{array, member, vector};
 use crate::tests::values::value_of;
-use std::alloc::{AllocError, Global};
+use std::alloc::Global;
+use std::fmt::Display;
 use std::process::Abort;
 use wgsl_rules::{
     AccessMode, AddressSpace, BinaryOperator, Enumerant, SampledType, SamplerType, TexelFormat,
     TextureType, Type, UnaryOperator,
 };
-use wgsl_samples::types::{array, matrix, member, pair, reference, structure, vector};
+use wgsl_samples::types::{matrix, pair, reference, structure};
 use wgsl_scalar::LiteralInstance::{AbstractInt, Bool, I32, I64, U32, U64};
 use wgsl_scalar::{BuiltinName, BuiltinReason};
 
-fn assert_text(rt: &impl Abort, alloc: Global, ty: Type, text: &str) {
+fn assert_text<T: Display + Drop>(rt: &impl Abort, alloc: Global, value: T, text: &str) {
     assert_eq!(rt;
-        format!(in alloc; "{ty}").expect(rt, "memory").as_str(),
+        format!(in alloc; "{value}").expect(rt, "memory").as_str(),
         text
     );
 }
 
 #[test]
-fn texts_of_types(rt: HostRuntime) -> Result<(), AllocError> {
+fn texts_of_types(rt: HostRuntime) {
     let alloc = rt.alloc();
     for (ty, text) in [
         (Type::Bool, "bool"),
@@ -53,23 +56,24 @@ fn texts_of_types(rt: HostRuntime) -> Result<(), AllocError> {
         Type::Texture(storage),
         "texture_storage_2d<rgba16float, write>",
     );
-    assert_text(&rt, alloc, pair(alloc)?, "Pair");
-    let vectors = array(alloc, vector(alloc, 3, Type::I64)?, Some(12))?;
+    assert_text(&rt, alloc, pair(alloc).expect(&rt, "memory"), "Pair");
+    let vectors = array(&rt, alloc, vector(&rt, alloc, 3, Type::I64), Some(12));
     assert_text(&rt, alloc, vectors, "array<vec3<i64>, 12>");
-    assert_text(&rt, alloc, array(alloc, Type::F64, None)?, "array<f64>");
-    assert_text(&rt, alloc, matrix(alloc, Type::F32)?, "mat2x3<f32>");
-    let atomic = Type::Atomic(Box::new(alloc, Type::U32)?);
-    assert_text(&rt, alloc, atomic, "atomic<u32>");
-    let inner = Box::new(alloc, Type::I32)?;
+    let elements = array(&rt, alloc, Type::F64, None);
+    assert_text(&rt, alloc, elements, "array<f64>");
+    let columns = matrix(alloc, Type::F32).expect(&rt, "memory");
+    assert_text(&rt, alloc, columns, "mat2x3<f32>");
+    let inner = Box::new(alloc, Type::U32).expect(&rt, "memory");
+    assert_text(&rt, alloc, Type::Atomic(inner), "atomic<u32>");
+    let inner = Box::new(alloc, Type::I32).expect(&rt, "memory");
     let pointer = Type::Ptr(AddressSpace::Function, inner, AccessMode::ReadWrite);
     assert_text(&rt, alloc, pointer, "ptr<function, i32, read_write>");
-    let readable = reference(alloc, Type::U32, AccessMode::Read)?;
+    let readable = reference(alloc, Type::U32, AccessMode::Read).expect(&rt, "memory");
     assert_text(&rt, alloc, readable, "ref<storage, u32, read>");
-    Ok(())
 }
 
 #[test]
-fn texts_of_words_and_operators(rt: HostRuntime) -> Result<(), AllocError> {
+fn texts_of_words_and_operators(rt: HostRuntime) {
     let alloc = rt.alloc();
     for (word, text) in [
         (Enumerant::AccessMode(AccessMode::ReadWrite), "read_write"),
@@ -82,14 +86,14 @@ fn texts_of_words_and_operators(rt: HostRuntime) -> Result<(), AllocError> {
             "bgra8unorm",
         ),
     ] {
-        assert_eq!(rt; format!(in alloc; "{word}")?.as_str(), text);
+        assert_text(&rt, alloc, word, text);
     }
     for (operator, text) in [
         (UnaryOperator::LogicalNegation, "!"),
         (UnaryOperator::BitwiseComplement, "~"),
         (UnaryOperator::Indirection, "*"),
     ] {
-        assert_eq!(rt; format!(in alloc; "{operator}")?.as_str(), text);
+        assert_text(&rt, alloc, operator, text);
     }
     for (operator, text) in [
         (BinaryOperator::ShortCircuitOr, "||"),
@@ -97,9 +101,8 @@ fn texts_of_words_and_operators(rt: HostRuntime) -> Result<(), AllocError> {
         (BinaryOperator::LessThanEqual, "<="),
         (BinaryOperator::ShiftLeft, "<<"),
     ] {
-        assert_eq!(rt; format!(in alloc; "{operator}")?.as_str(), text);
+        assert_text(&rt, alloc, operator, text);
     }
-    Ok(())
 }
 
 #[test]
@@ -129,33 +132,17 @@ fn texts_of_builtins(rt: HostRuntime) {
 fn values_print_as_their_constructors(rt: HostRuntime) {
     let alloc = rt.alloc();
     let number = value_of(&rt, alloc, &[7], &Type::U32);
-    assert_eq!(rt;
-        number.to_string(alloc).expect(&rt, "memory").as_str(),
-        "7u"
-    );
-    let vector_ty = vector(alloc, 3, Type::U32).expect(&rt, "memory");
-    let components = value_of(&rt, alloc, &[2, 3, 9], &vector_ty);
-    assert_eq!(rt;
-        components.to_string(alloc).expect(&rt, "memory").as_str(),
-        "vec3(2u, 3u, 9u)"
-    );
-    let a = member(alloc, "a", Type::U32, None).expect(&rt, "memory");
-    let b = member(alloc, "b", vector_ty, None).expect(&rt, "memory");
-    let c = member(
-        alloc,
-        "c",
-        vector(alloc, 2, Type::U32).expect(&rt, "memory"),
-        None,
-    )
-    .expect(&rt, "memory");
-    let light = structure(
-        alloc,
-        "Light",
-        vec![in alloc; a, b, c].expect(&rt, "memory"),
-    )
-    .expect(&rt, "memory");
-    let value = value_of(&rt, alloc, &[1, 0, 0, 0, 2, 3, 9, 0, 4, 5, 0, 0], &light);
+    fixtures::assert_text(&rt, alloc, &number, "7u");
+    let ty = vector(&rt, alloc, 3, Type::U32);
+    let components = value_of(&rt, alloc, &[2, 3, 9], &ty);
+    fixtures::assert_text(&rt, alloc, &components, "vec3(2u, 3u, 9u)");
+    let a = member(&rt, alloc, "a", Type::U32);
+    let b = member(&rt, alloc, "b", ty);
+    let c = member(&rt, alloc, "c", vector(&rt, alloc, 2, Type::U32));
+    let members = vec![in alloc; a, b, c].expect(&rt, "memory");
+    let ty = structure(alloc, "Light", members).expect(&rt, "memory");
+    let value = value_of(&rt, alloc, &[1, 0, 0, 0, 2, 3, 9, 0, 4, 5, 0, 0], &ty);
     let text = "Light(1u, vec3(2u, 3u, 9u), vec2(4u, 5u))";
-    assert_eq!(rt; value.to_string(alloc).expect(&rt, "memory").as_str(), text);
-    drop((number, components, light, value));
+    fixtures::assert_text(&rt, alloc, &value, text);
+    drop((number, components, ty, value));
 }

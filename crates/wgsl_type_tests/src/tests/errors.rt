@@ -60,8 +60,8 @@ fn errors_are_numbered_in_order(rt: HostRuntime) {
 
 /// Asserts that the copy of an error of that reason has it too.
 fn assert_reason_kept(rt: &impl Abort, alloc: Global, reason: BuiltinReason) {
-    let copy = Error::Builtin(reason).clone(alloc);
-    assert_gives(rt, copy, Error::Builtin(reason));
+    let error = Error::Builtin(reason);
+    assert_gives(rt, error.clone(alloc), error);
 }
 
 #[test]

@@ -1,6 +1,7 @@
 //! Operators on literals and numeric builtins, by worked rows.
 
 use crate::tests::asserts::assert_same;
+use std::fmt::Debug;
 use std::process::Abort;
 use wgsl_rules::ShaderStage::{Const, Exec, Override};
 use wgsl_rules::{BinaryOperator, ShaderStage, Type, UnaryOperator};
@@ -55,10 +56,10 @@ fn answer(
     }
 }
 
-fn assert_number(
+fn assert_number<E: PartialEq + Debug + Drop>(
     rt: &impl Abort,
     row: usize,
-    answer: Result<LiteralInstance, Error>,
+    answer: Result<LiteralInstance, E>,
     wanted: LiteralInstance,
 ) {
     assert_eq!(rt; answer, Ok(wanted), "row {row}");
@@ -78,6 +79,7 @@ fn assert_refused(
         Some(&wanted),
         "{call:?} {left:?} {right:?}"
     );
+    drop((got, wanted));
 }
 
 #[test]

@@ -2,57 +2,46 @@
 
 use crate::tests::samples::{light, pair_value, storable};
 use std::process::Abort;
-use std::test::Fail;
 use wgsl_rules::{Ty, Type};
-use wgsl_scalar::Error;
 use wgsl_store::Buffers;
 use wgsl_values::Instance;
 
-/// What the call answers; it is made again where it wants memory, since one growth alone is refused.
+/// What the call answers. One growth alone is refused: where the call wants memory, it is made again.
 macro_rules! answer_of {
-    ($call:expr) => {
+    ($rt:expr; $call:expr) => {
         match $call {
             Ok(answer) => answer,
-            Err(Error::Memory) => $call?,
-            Err(error) => return Err(Fail::from(error)),
+            Err(_) => $call.expect(&$rt, "memory"),
         }
     };
 }
 
 #[test]
-fn a_buffer_wants_memory_or_is_whole(rt: HostRuntime) -> Result<(), Fail> {
+fn a_buffer_wants_memory_or_is_whole(rt: HostRuntime) {
     let alloc = rt.alloc();
-    let Ok(pair) = pair_value(&rt, alloc) else {
-        return Ok(());
-    };
+    let pair = answer_of!(rt; pair_value(&rt, alloc));
     let pair = storable(&rt, Instance::from(pair));
     let mut wanted = [0u8; 32];
     for (i, word) in [1u8, 0, 0, 0, 2, 3, 4, 0].iter().enumerate() {
         wanted[i * 4] = *word;
     }
-    let buffer = answer_of!(pair.to_buffer(alloc));
+    let buffer = answer_of!(rt; pair.to_buffer(alloc));
     assert!(rt; buffer.is_some_and(|buffer| buffer.as_slice() == wanted.as_slice()));
-    Ok(())
+    drop(pair);
 }
 
 #[test]
-fn what_a_buffer_lays_out_wants_memory_or_is_whole(rt: HostRuntime) -> Result<(), Fail> {
+fn what_a_buffer_lays_out_wants_memory_or_is_whole(rt: HostRuntime) {
     let alloc = rt.alloc();
-    let Ok(light) = light(&rt, alloc) else {
-        return Ok(());
-    };
-    let Ok(ty) = light.ty(alloc) else {
-        return Ok(());
-    };
+    let light = answer_of!(rt; light(&rt, alloc));
+    let ty = answer_of!(rt; light.ty(alloc));
     let light = storable(&rt, light);
-    let Some(bytes) = answer_of!(light.to_buffer(alloc)) else {
-        assert!(rt; false, "{ty} has a layout");
-        return Ok(());
-    };
-    let read = answer_of!(Instance::from_buffer(alloc, &bytes, &ty));
-    assert!(rt; read.is_some_and(|read| read == light));
-    let few = [0u8; 4];
-    assert!(rt; answer_of!(Instance::from_buffer(alloc, &few, &ty)).is_none());
-    assert!(rt; answer_of!(Instance::from_buffer(alloc, &bytes, &Type::Bool)).is_none());
-    Ok(())
+    let bytes = answer_of!(rt; light.to_buffer(alloc)).expect(&rt, "bytes");
+    let read = answer_of!(rt; Instance::from_buffer(alloc, &bytes, &ty));
+    assert!(rt; read.as_ref() == Some(&light));
+    let none = answer_of!(rt; Instance::from_buffer(alloc, &[0u8; 4], &ty));
+    assert!(rt; none.is_none());
+    let no_bool = answer_of!(rt; Instance::from_buffer(alloc, &bytes, &Type::Bool));
+    assert!(rt; no_bool.is_none());
+    drop((light, ty, read, none, no_bool));
 }

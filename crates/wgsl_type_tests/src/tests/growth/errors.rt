@@ -1,5 +1,6 @@
 //! Copies of errors.
 
+use crate::tests::asserts::assert_same;
 use std::alloc::{AllocError, Global};
 use std::process::Abort;
 use wgsl_rules::{BinaryOperator, Type};
@@ -22,7 +23,7 @@ fn assert_copy(rt: &impl Abort, alloc: Global, error: Error) {
         Ok(copy) => copy,
         Err(_) => error.clone(alloc).expect(rt, "memory"),
     };
-    assert_eq!(rt; copy, error);
+    assert_same(rt, copy, error);
 }
 
 #[test]
