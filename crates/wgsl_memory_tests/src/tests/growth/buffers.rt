@@ -6,26 +6,16 @@ use wgsl_rules::{Ty, Type};
 use wgsl_store::Buffers;
 use wgsl_values::Instance;
 
-/// What the call answers. One growth alone is refused: where the call wants memory, it is made again.
-macro_rules! answer_of {
-    ($rt:expr; $call:expr) => {
-        match $call {
-            Ok(answer) => answer,
-            Err(_) => $call.expect(&$rt, "memory"),
-        }
-    };
-}
-
 #[test]
 fn a_buffer_wants_memory_or_is_whole(rt: HostRuntime) {
     let alloc = rt.alloc();
-    let pair = answer_of!(rt; pair_value(&rt, alloc));
+    let pair = answer_of!(&rt; pair_value(&rt, alloc));
     let pair = storable(&rt, Instance::from(pair));
     let mut wanted = [0u8; 32];
     for (i, word) in [1u8, 0, 0, 0, 2, 3, 4, 0].iter().enumerate() {
         wanted[i * 4] = *word;
     }
-    let buffer = answer_of!(rt; pair.to_buffer(alloc));
+    let buffer = answer_of!(&rt; pair.to_buffer(alloc));
     assert!(rt; buffer.is_some_and(|buffer| buffer.as_slice() == wanted.as_slice()));
     drop(pair);
 }
@@ -33,15 +23,15 @@ fn a_buffer_wants_memory_or_is_whole(rt: HostRuntime) {
 #[test]
 fn what_a_buffer_lays_out_wants_memory_or_is_whole(rt: HostRuntime) {
     let alloc = rt.alloc();
-    let light = answer_of!(rt; light(&rt, alloc));
-    let ty = answer_of!(rt; light.ty(alloc));
+    let light = answer_of!(&rt; light(&rt, alloc));
+    let ty = answer_of!(&rt; light.ty(alloc));
     let light = storable(&rt, light);
-    let bytes = answer_of!(rt; light.to_buffer(alloc)).expect(&rt, "bytes");
-    let read = answer_of!(rt; Instance::from_buffer(alloc, &bytes, &ty));
+    let bytes = answer_of!(&rt; light.to_buffer(alloc)).expect(&rt, "bytes");
+    let read = answer_of!(&rt; Instance::from_buffer(alloc, &bytes, &ty));
     assert!(rt; read.as_ref() == Some(&light));
-    let none = answer_of!(rt; Instance::from_buffer(alloc, &[0u8; 4], &ty));
+    let none = answer_of!(&rt; Instance::from_buffer(alloc, &[0u8; 4], &ty));
     assert!(rt; none.is_none());
-    let no_bool = answer_of!(rt; Instance::from_buffer(alloc, &bytes, &Type::Bool));
+    let no_bool = answer_of!(&rt; Instance::from_buffer(alloc, &bytes, &Type::Bool));
     assert!(rt; no_bool.is_none());
     drop((light, ty, read, none, no_bool));
 }

@@ -15,19 +15,6 @@ use wgsl_scalar::Error;
 use wgsl_store::Store;
 use wgsl_values::{Instance, RefInstance};
 
-/// What the call answers. One growth alone is refused: where the call wants memory, it is made again.
-macro_rules! answer_of {
-    ($rt:expr; $call:expr) => {
-        match $call {
-            Ok(answer) => answer,
-            Err(error) => {
-                assert_same($rt, Error::from(error), Error::Memory);
-                $call.expect($rt, "memory")
-            }
-        }
-    };
-}
-
 /// The reference to a new cell with the value, which is given twice: a call that wants memory takes it all the same.
 fn cell_with(
     rt: &impl Abort,

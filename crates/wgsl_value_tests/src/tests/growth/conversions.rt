@@ -12,16 +12,6 @@ use wgsl_rules::{
 use wgsl_samples::types::{array, pair, vector};
 use wgsl_values::Instance;
 
-/// What the call answers. One growth alone is refused: where the call wants memory, it is made again.
-macro_rules! answer_of {
-    ($rt:expr; $call:expr) => {
-        match $call {
-            Ok(answer) => answer,
-            Err(_) => $call.expect(&$rt, "memory"),
-        }
-    };
-}
-
 /// Whether the answer is the wanted value.
 fn is<T: PartialEq + Drop>(answer: Option<T>, wanted: &T) -> bool {
     answer.as_ref() == Some(wanted)
@@ -35,22 +25,22 @@ fn is_list<T: PartialEq + Drop>(answer: Option<Vec<T>>, wanted: &[T]) -> bool {
 #[test]
 fn a_converted_structure_wants_memory_or_is_equal(rt: HostRuntime) {
     let alloc = rt.alloc();
-    let value = answer_of!(rt; pair_value(&rt, alloc));
-    let own = answer_of!(rt; pair(alloc));
-    assert!(rt; is(answer_of!(rt; value.convert_to(alloc, &own)), &value));
+    let value = answer_of!(&rt; pair_value(&rt, alloc));
+    let own = answer_of!(&rt; pair(alloc));
+    assert!(rt; is(answer_of!(&rt; value.convert_to(alloc, &own)), &value));
     drop((value, own));
 }
 
 #[test]
 fn a_converted_array_wants_memory_or_is_whole(rt: HostRuntime) {
     let alloc = rt.alloc();
-    let value = answer_of!(rt; abstract_array(&rt, alloc, &[1, 2], false));
-    let wanted = answer_of!(rt; array_of(&rt, alloc, &[1, 2], false));
-    let ty = answer_of!(rt; array(alloc, Type::U32, Some(2)));
-    assert!(rt; is(answer_of!(rt; value.convert_to(alloc, &ty)), &wanted));
+    let value = answer_of!(&rt; abstract_array(&rt, alloc, &[1, 2], false));
+    let wanted = answer_of!(&rt; array_of(&rt, alloc, &[1, 2], false));
+    let ty = answer_of!(&rt; array(alloc, Type::U32, Some(2)));
+    assert!(rt; is(answer_of!(&rt; value.convert_to(alloc, &ty)), &wanted));
     assert!(rt;
         is(
-            answer_of!(rt; value.convert_inner_to(alloc, &Type::U32)),
+            answer_of!(&rt; value.convert_inner_to(alloc, &Type::U32)),
             &wanted
         )
     );
@@ -74,28 +64,33 @@ fn typed_vectors(rt: &impl Abort, alloc: Global) -> Result<(Instance, Instance),
 #[test]
 fn two_converted_values_want_memory_or_have_one_type(rt: HostRuntime) {
     let alloc = rt.alloc();
-    let (any, typed) = answer_of!(rt; vectors(&rt, alloc));
-    let wanted = answer_of!(rt; typed_vectors(&rt, alloc));
+    let (any, typed) = answer_of!(&rt; vectors(&rt, alloc));
+    let wanted = answer_of!(&rt; typed_vectors(&rt, alloc));
     let any = storable(&rt, any);
     let typed = storable(&rt, typed);
-    assert!(rt; is(answer_of!(rt; convert(alloc, &any, &typed)), &wanted));
-    assert!(rt; is(answer_of!(rt; convert_inner(alloc, &any, &typed)), &wanted));
+    assert!(rt; is(answer_of!(&rt; convert(alloc, &any, &typed)), &wanted));
+    assert!(rt; is(answer_of!(&rt; convert_inner(alloc, &any, &typed)), &wanted));
     drop((any, typed, wanted));
 }
 
 #[test]
 fn a_converted_list_of_values_wants_memory_or_is_whole(rt: HostRuntime) {
     let alloc = rt.alloc();
-    let (any, typed) = answer_of!(rt; vectors(&rt, alloc));
-    let (first, second) = answer_of!(rt; typed_vectors(&rt, alloc));
-    let ty = answer_of!(rt; vector(alloc, 2, Type::U32));
+    let (any, typed) = answer_of!(&rt; vectors(&rt, alloc));
+    let (first, second) = answer_of!(&rt; typed_vectors(&rt, alloc));
+    let ty = answer_of!(&rt; vector(alloc, 2, Type::U32));
     let values = [storable(&rt, any), storable(&rt, typed)];
     let wanted = [first, second];
-    assert!(rt; is_list(answer_of!(rt; convert_all(alloc, &values)), &wanted));
-    assert!(rt; is_list(answer_of!(rt; convert_all_to(alloc, &values, &ty)), &wanted));
+    assert!(rt; is_list(answer_of!(&rt; convert_all(alloc, &values)), &wanted));
     assert!(rt;
         is_list(
-            answer_of!(rt; convert_all_inner_to(alloc, &values, &Type::U32)),
+            answer_of!(&rt; convert_all_to(alloc, &values, &ty)),
+            &wanted
+        )
+    );
+    assert!(rt;
+        is_list(
+            answer_of!(&rt; convert_all_inner_to(alloc, &values, &Type::U32)),
             &wanted
         )
     );
@@ -119,30 +114,30 @@ fn typed_vector_types(alloc: Global) -> Result<(Type, Type), AllocError> {
 #[test]
 fn two_converted_types_want_memory_or_are_equal(rt: HostRuntime) {
     let alloc = rt.alloc();
-    let (any, typed) = answer_of!(rt; vector_types(alloc));
-    let wanted = answer_of!(rt; typed_vector_types(alloc));
-    assert!(rt; is(answer_of!(rt; convert(alloc, &any, &typed)), &wanted));
-    assert!(rt; is(answer_of!(rt; convert_inner(alloc, &any, &typed)), &wanted));
+    let (any, typed) = answer_of!(&rt; vector_types(alloc));
+    let wanted = answer_of!(&rt; typed_vector_types(alloc));
+    assert!(rt; is(answer_of!(&rt; convert(alloc, &any, &typed)), &wanted));
+    assert!(rt; is(answer_of!(&rt; convert_inner(alloc, &any, &typed)), &wanted));
     drop((any, typed, wanted));
 }
 
 #[test]
 fn a_converted_list_of_types_wants_memory_or_is_whole(rt: HostRuntime) {
     let alloc = rt.alloc();
-    let (any, typed) = answer_of!(rt; vector_types(alloc));
-    let (first, second) = answer_of!(rt; typed_vector_types(alloc));
+    let (any, typed) = answer_of!(&rt; vector_types(alloc));
+    let (first, second) = answer_of!(&rt; typed_vector_types(alloc));
     let types = [any, typed];
     let wanted = [first, second];
-    assert!(rt; is_list(answer_of!(rt; convert_all(alloc, &types)), &wanted));
+    assert!(rt; is_list(answer_of!(&rt; convert_all(alloc, &types)), &wanted));
     assert!(rt;
         is_list(
-            answer_of!(rt; convert_all_to(alloc, &types, &wanted[1])),
+            answer_of!(&rt; convert_all_to(alloc, &types, &wanted[1])),
             &wanted
         )
     );
     assert!(rt;
         is_list(
-            answer_of!(rt; convert_all_inner_to(alloc, &types, &Type::U32)),
+            answer_of!(&rt; convert_all_inner_to(alloc, &types, &Type::U32)),
             &wanted
         )
     );
@@ -152,8 +147,8 @@ fn a_converted_list_of_types_wants_memory_or_is_whole(rt: HostRuntime) {
 #[test]
 fn a_concrete_type_wants_memory_or_is_whole(rt: HostRuntime) {
     let alloc = rt.alloc();
-    let any = answer_of!(rt; vector(alloc, 2, Type::AbstractInt));
-    let wanted = answer_of!(rt; vector(alloc, 2, Type::I32));
-    assert_is(&rt, &wanted, answer_of!(rt; any.concretize(alloc)));
+    let any = answer_of!(&rt; vector(alloc, 2, Type::AbstractInt));
+    let wanted = answer_of!(&rt; vector(alloc, 2, Type::I32));
+    assert_is(&rt, &wanted, answer_of!(&rt; any.concretize(alloc)));
     drop((any, wanted));
 }

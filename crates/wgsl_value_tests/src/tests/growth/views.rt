@@ -11,29 +11,19 @@ use wgsl_samples::types::matrix;
 use wgsl_scalar::Error;
 use wgsl_values::{Instance, MemView};
 
-/// What the call answers. One growth alone is refused: where the call wants memory, it is made again.
-macro_rules! answer_of {
-    ($rt:expr; $call:expr) => {
-        match $call {
-            Ok(answer) => answer,
-            Err(_) => $call.expect(&$rt, "memory"),
-        }
-    };
-}
-
 #[test]
 fn a_copy_of_a_view_wants_memory_or_is_equal(rt: HostRuntime) {
     let alloc = rt.alloc();
-    let view = answer_of!(rt; to_member(alloc));
-    assert_is(&rt, &view, answer_of!(rt; view.clone(alloc)));
+    let view = answer_of!(&rt; to_member(alloc));
+    assert_is(&rt, &view, answer_of!(&rt; view.clone(alloc)));
     drop(view);
 }
 
 #[test]
 fn the_text_of_a_view_wants_memory_or_is_whole(rt: HostRuntime) {
     let alloc = rt.alloc();
-    let view = answer_of!(rt; to_member(alloc));
-    let text = answer_of!(rt; view.to_string(alloc));
+    let view = answer_of!(&rt; to_member(alloc));
+    let text = answer_of!(&rt; view.to_string(alloc));
     assert_eq!(rt; text.as_str(), ":pairs:0:b");
     drop(view);
 }
@@ -50,7 +40,7 @@ fn index_views(alloc: Global) -> Result<(MemView, MemView, MemView), AllocError>
 #[test]
 fn an_index_that_wants_memory_is_not_put_on(rt: HostRuntime) {
     let alloc = rt.alloc();
-    let (mut view, old, wanted) = answer_of!(rt; index_views(alloc));
+    let (mut view, old, wanted) = answer_of!(&rt; index_views(alloc));
     if view.append_index(alloc, 2).is_err() {
         assert_eq!(rt; view, old);
         view.append_index(alloc, 2).expect(&rt, "memory");
@@ -71,9 +61,9 @@ fn member_views(alloc: Global) -> Result<(MemView, MemView, MemView), AllocError
 #[test]
 fn a_member_that_wants_memory_is_not_put_on(rt: HostRuntime) {
     let alloc = rt.alloc();
-    let (mut view, old, wanted) = answer_of!(rt; member_views(alloc));
-    let name = answer_of!(rt; format!(in alloc; "b"));
-    let again = answer_of!(rt; name.clone());
+    let (mut view, old, wanted) = answer_of!(&rt; member_views(alloc));
+    let name = answer_of!(&rt; format!(in alloc; "b"));
+    let again = answer_of!(&rt; name.clone());
     if view.append_member(alloc, name).is_err() {
         assert_eq!(rt; view, old);
         view.append_member(alloc, again).expect(&rt, "memory");
@@ -84,12 +74,12 @@ fn a_member_that_wants_memory_is_not_put_on(rt: HostRuntime) {
 
 /// A matrix of two columns and three rows, a view into its third column, and the refusal.
 fn past_the_end(rt: &impl Abort, alloc: Global) -> (Instance, MemView, Error) {
-    let matrix_of_two = answer_of!(*rt; mat2x3(rt, alloc));
+    let matrix_of_two = answer_of!(rt; mat2x3(rt, alloc));
     let mut view = MemView::Whole;
     if view.append_index(alloc, 2).is_err() {
         view.append_index(alloc, 2).expect(rt, "memory");
     }
-    let ty = answer_of!(*rt; matrix(alloc, Type::U32));
+    let ty = answer_of!(rt; matrix(alloc, Type::U32));
     (
         Instance::from(matrix_of_two),
         view,
@@ -113,10 +103,10 @@ fn a_refused_view_wants_memory_or_is_told(rt: HostRuntime) {
 #[test]
 fn a_view_without_a_member_wants_memory_or_is_told(rt: HostRuntime) {
     let alloc = rt.alloc();
-    let value = answer_of!(rt; mat2x3(&rt, alloc));
-    let view = answer_of!(rt; to_component(alloc));
-    let ty = answer_of!(rt; matrix(alloc, Type::U32));
-    let name = answer_of!(rt; format!(in alloc; "m"));
+    let value = answer_of!(&rt; mat2x3(&rt, alloc));
+    let view = answer_of!(&rt; to_component(alloc));
+    let ty = answer_of!(&rt; matrix(alloc, Type::U32));
+    let name = answer_of!(&rt; format!(in alloc; "m"));
     let value = storable(&rt, Instance::from(value));
     let refusal = match value.view(alloc, &view).err() {
         Some(Error::Memory) => value.view(alloc, &view).err(),
@@ -130,7 +120,7 @@ fn a_view_without_a_member_wants_memory_or_is_told(rt: HostRuntime) {
 fn a_view_to_write_that_is_refused_changes_nothing(rt: HostRuntime) {
     let alloc = rt.alloc();
     let (value, view, error) = past_the_end(&rt, alloc);
-    let copy = answer_of!(rt; value.clone(alloc));
+    let copy = answer_of!(&rt; value.clone(alloc));
     let mut value = storable(&rt, value);
     let refusal = refusal_to_write(alloc, &mut value, &view);
     assert_eq!(rt; value, copy);
@@ -146,8 +136,8 @@ fn a_view_to_write_that_is_refused_changes_nothing(rt: HostRuntime) {
 #[test]
 fn a_view_that_leads_to_a_part_takes_no_memory(rt: HostRuntime) {
     let alloc = rt.alloc();
-    let value = answer_of!(rt; light(&rt, alloc));
-    let view = answer_of!(rt; to_component(alloc));
+    let value = answer_of!(&rt; light(&rt, alloc));
+    let view = answer_of!(&rt; to_component(alloc));
     let mut value = storable(&rt, value);
     assert_has(&rt, value.view(alloc, &view).ok(), Instance::from(6u32));
     let mut component = value.view_mut(alloc, &view).expect(&rt, "a part");
