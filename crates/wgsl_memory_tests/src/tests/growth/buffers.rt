@@ -1,7 +1,6 @@
 //! Buffers of values: want of memory is told as such, and never as no bytes or no value.
 
 use crate::tests::samples::{light, pair_value, storable};
-use std::process::Abort;
 use wgsl_rules::{Ty, Type};
 use wgsl_store::Buffers;
 use wgsl_values::Instance;
