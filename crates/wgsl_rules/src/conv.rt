@@ -83,7 +83,8 @@ fn struct_rank(from: &str, to: &str) -> Option<u32>
 }
 
 impl StructType {
-    /// Whether the [`conversion_rank`] of this structure type to the other type exists.
+    /// Whether the [`conversion_rank`] of this structure type to the other type exists (WGSL:
+    /// conversion rank).
     pub fn is_convertible_to(&self, other: &Type) -> bool
         ensures { result ≡ is_some (rank (struct_view self.now) (type_view other.now)) }
     {

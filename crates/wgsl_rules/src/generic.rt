@@ -18,7 +18,8 @@ use crate::traits::{Convert, Ty};
 use crate::ty::Type;
 use std::alloc::{AllocError, Global};
 
-/// Both values in their common type, as [`convert_ty`] finds it, where both convert to it.
+/// Both values in their common type, as [`convert_ty`] finds it, where both convert to it (WGSL:
+/// overload resolution algorithm).
 pub fn convert<T: Convert + Drop>(alloc: Global, a: &T, b: &T) -> Result<Option<(T, T)>, AllocError>
     requires first { IsWellFormed (T.value_of a.now) }
     requires second { IsWellFormed (T.value_of b.now) }
@@ -41,7 +42,7 @@ pub fn convert<T: Convert + Drop>(alloc: Global, a: &T, b: &T) -> Result<Option<
 }
 
 /// Both values with their inner types taken to the common one, as [`convert_ty`] finds it, where
-/// both convert so.
+/// both convert so (WGSL: overload resolution algorithm).
 pub fn convert_inner<A: Convert + Drop, B: Convert + Drop>(
     alloc: Global,
     a: &A,
@@ -66,8 +67,8 @@ pub fn convert_inner<A: Convert + Drop, B: Convert + Drop>(
     Ok(Some((x, y)))
 }
 
-/// All the values in their common type, as [`convert_all_ty`] finds it, where each converts to it.
-/// `None` for the empty list.
+/// All the values in their common type, as [`convert_all_ty`] finds it, where each converts to it
+/// (WGSL: overload resolution algorithm). `None` for the empty list.
 pub fn convert_all<T: Convert + Drop>(
     alloc: Global,
     values: &[T],
@@ -95,7 +96,8 @@ fn types_of<T: Ty>(alloc: Global, values: &[T]) -> Result<Vec<Type>, AllocError>
     Ok(types)
 }
 
-/// Each of the values in the type, where each converts to it.
+/// Each of the values in the type, where each converts to it (WGSL: feasible automatic
+/// conversions).
 #[tactic(auto, using(crate::proofs::Lists::all_in_steps))]
 pub fn convert_all_to<T: Convert + Drop>(
     alloc: Global,
@@ -116,7 +118,8 @@ pub fn convert_all_to<T: Convert + Drop>(
     Ok(Some(all))
 }
 
-/// Each of the values with its inner type taken to the type, where each converts so.
+/// Each of the values with its inner type taken to the type, where each converts so (WGSL: feasible
+/// automatic conversions).
 #[tactic(auto, using(crate::proofs::Lists::all_in_steps))]
 pub fn convert_all_inner_to<T: Convert + Drop>(
     alloc: Global,
@@ -137,12 +140,14 @@ pub fn convert_all_inner_to<T: Convert + Drop>(
     Ok(Some(all))
 }
 
-/// A law: [`convert`] of two values gives two, or nothing, in either order. The call does nothing.
+/// A law: [`convert`] of two values gives two, or nothing, in either order (WGSL: overload
+/// resolution algorithm). The call does nothing.
 pub fn convert_is_symmetric<T: Convert>()
     ensures { (a b x y : Val) → (in_common T.converted a b ≡ Some (x, y)) ↔ (in_common T.converted b a ≡ Some (y, x)) }
 {}
 
-/// A law: to convert again to the same type changes nothing. The call does nothing.
+/// A law: to convert again to the same type changes nothing (WGSL: feasible automatic conversions).
+/// The call does nothing.
 pub fn converting_again_changes_nothing<T: Convert>()
     ensures { (x y : T) (t : Ty) → IsWellFormed (T.value_of x) → T.converted (T.value_of x) t ≡ Some (T.value_of y)
         → T.converted (T.value_of y) t ≡ Some (T.value_of y) }

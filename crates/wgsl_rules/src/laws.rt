@@ -26,13 +26,14 @@ pub fn a_put_is_held()
     ensures { APutIsHeld }
 {}
 
-/// A law: a converted value has the paths that it had, and the numbers at them.
+/// A law: a converted value has the paths that it had, and the numbers at them (WGSL: feasible
+/// automatic conversions).
 pub fn conversions_keep_numbers()
     ensures { ConversionsKeepNumbers }
 {}
 
 /// A law: a literal, array, vector or matrix whose inner type was converted has the inner type that
-/// was asked.
+/// was asked (WGSL: feasible automatic conversions).
 pub fn inner_conversions_give_their_type()
     ensures { InnerConversionsGiveTheirType }
 {}

@@ -1,4 +1,5 @@
-//! What is known of a type: its size, its alignment and its layout, found in one walk down the type.
+//! What is known of a type: its size, its alignment and its layout, found in one walk down the type
+//! (WGSL: alignment and size; structure member layout).
 
 ghost use Rattle.std.specs.Prelude.{◌≡◌, ℕ, List, Some, false, is_some, max, ◌&&◌, ◌||◌};
 ghost use Rattle.wgsl_rules.specs.Layout.{
@@ -32,7 +33,8 @@ use crate::ty::{StructMemberType, StructType, Type};
 
 /// What is known of a type, or of a member with its attributes: how many bytes it takes and what its
 /// place is a multiple of, `None` where that is not known or passes 4294967295; whether it has a
-/// layout of a fixed size, and whether it is a runtime-sized array that has a layout.
+/// layout of a fixed size, and whether it is a runtime-sized array that has a layout (WGSL: alignment
+/// and size).
 #[derive(Clone, Copy)]
 pub struct Measures {
     pub size: Option<u32>,
@@ -43,7 +45,8 @@ pub struct Measures {
 
 /// What is known of the members of a structure, in their order: where the last ends and the greatest
 /// alignment, in bytes; whether each has a layout of a fixed size; and whether the last is a
-/// runtime-sized array that has a place, and each of the others has such a layout.
+/// runtime-sized array that has a place, and each of the others has such a layout (WGSL: structure
+/// member layout).
 #[derive(Clone, Copy)]
 pub struct MemberMeasures {
     pub end: Option<u32>,
@@ -75,14 +78,16 @@ impl Measures {
         }
     }
 
-    /// From one element of an array of these to the next, in bytes.
+    /// From one element of an array of these to the next, in bytes (WGSL: alignment and size);
+    /// `None` where it is not known or passes 4294967295.
     pub fn stride(self) -> Option<u32>
         ensures { result ≡ stride_of self.align self.size }
     {
         rounded_if_known(self.align, self.size)
     }
 
-    /// Of an array of n elements of these measures; of a runtime-sized one where n is `None`.
+    /// Of an array of n elements of these measures (WGSL: alignment and size); of a runtime-sized one
+    /// where n is `None`.
     pub fn of_array(self, n: Option<usize>) -> Self
         ensures { (t : Ty) → AreMeasuresOf t self → AreMeasuresOf (array t n) result }
     {
@@ -131,14 +136,15 @@ impl MemberMeasures {
         end_in_runtime_array: false,
     };
 
-    /// Where a member stands that comes after these, in bytes from the start of the structure.
+    /// Where a member stands that comes after these, in bytes from the start of the structure (WGSL:
+    /// structure member layout); `None` where that is not known or passes 4294967295.
     pub fn offset_of(self, member: Measures) -> Option<u32>
         ensures { result ≡ with_both round_up member.align self.end }
     {
         rounded_if_known(member.align, self.end)
     }
 
-    /// These and one member more.
+    /// These and one member more (WGSL: structure member layout).
     pub fn with(self, member: Measures) -> Self
         ensures end { result.end ≡ end_after self.end (record { size = member.size; align = member.align }) }
         ensures align { result.align ≡ align_after self.align (record { size = member.size; align = member.align }) }
@@ -155,7 +161,7 @@ impl MemberMeasures {
     }
 
     /// Of the structure of these members, whose size is the end of the last, rounded up to the
-    /// alignment.
+    /// alignment (WGSL: structure member layout).
     pub fn of_struct(self) -> Measures
         ensures size { result.size ≡ with_both round_up self.align self.end }
         ensures align { result.align ≡ self.align }
@@ -171,7 +177,7 @@ impl MemberMeasures {
         }
     }
 
-    /// Whether the structure of these members has a layout.
+    /// Whether the structure of these members has a layout (WGSL: host-shareable types).
     pub fn have_layout(self) -> bool
         ensures { result ≡ ((self.are_fixed && is_some (with_both round_up self.align self.end)) || self.end_in_runtime_array) }
     {
@@ -187,7 +193,8 @@ fn greater(a: Option<u32>, b: Option<u32>) -> Option<u32>
 }
 
 impl Type {
-    /// The size, the alignment and whether there is a layout, in one walk down the type.
+    /// The size, the alignment and whether there is a layout, in one walk down the type (WGSL:
+    /// alignment and size; host-shareable types).
     #[cycle(measures)]
     pub fn measures(&self) -> Measures
         ensures size { result.size ≡ size_of (type_view self.now) }

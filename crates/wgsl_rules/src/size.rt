@@ -78,7 +78,8 @@ impl StructType {
         self.measures().size
     }
 
-    /// As [`Type::align_of`] of the structure: the greatest alignment of a member. 0 without members.
+    /// As [`Type::align_of`] of the structure: the greatest alignment of a member (WGSL: structure
+    /// member layout). 0 without members.
     pub fn align_of(&self) -> Option<u32>
         ensures { result ≡ align_of (struct_view self.now) }
     {

@@ -10,7 +10,7 @@ ghost use Rattle.wgsl_rules.specs.View.{type_view};
 use crate::ty::Type;
 use std::alloc::{AllocError, Global};
 
-/// What has a type: values, and types themselves.
+/// What has a type: values, and types themselves (WGSL: types).
 ///
 /// [`Ty::has_ty`] holds of exactly the type that [`Ty::ty`] would answer.
 pub trait Ty {
@@ -23,13 +23,13 @@ pub trait Ty {
         ensures { IfOk result (λ t. type_view t ≡ type_of (value_of self.now)) };
 
     /// The type inside an array, vector, matrix (its scalar), atomic, pointer or reference; of any
-    /// other value its type. The condition: the value is well-formed.
+    /// other value its type (WGSL: types). The condition: the value is well-formed.
     fn inner_ty(&self, alloc: Global) -> Result<Type, AllocError>
         requires { IsWellFormed (value_of self.now) }
         ensures { IfOk result (λ t. type_view t ≡ inner_type (type_of (value_of self.now))) };
 
-    /// Whether this is the type, without the memory that making it takes. The condition: the value
-    /// is well-formed.
+    /// Whether this is the type (WGSL: types), without the memory that making it takes. The
+    /// condition: the value is well-formed.
     fn has_ty(&self, ty: &Type) -> bool
         requires { IsWellFormed (value_of self.now) }
         ensures { IsTrue result ↔ (type_of (value_of self.now) ≡ type_view ty.now) };
@@ -53,8 +53,8 @@ pub trait Convert: Sized + Ty {
         requires { IsWellFormed (Self.value_of self.now) }
         ensures { IfOk result (λ o. option_map Self.value_of o ≡ converted (Self.value_of self.now) (type_view ty.now)) };
 
-    /// The value with what is inside it in the type, `None` where that does not convert to it. The
-    /// condition: the value is well-formed.
+    /// The value with what is inside it in the type, `None` where that does not convert to it (WGSL:
+    /// feasible automatic conversions). The condition: the value is well-formed.
     fn convert_inner_to(&self, alloc: Global, ty: &Type) -> Result<Option<Self>, AllocError>
         requires { IsWellFormed (Self.value_of self.now) }
         ensures { IfOk result (λ o. option_map Self.value_of o ≡ converted_inner (Self.value_of self.now) (type_view ty.now)) };

@@ -114,7 +114,7 @@ impl Cell {
         ensures cell { IsCell self.new }
     {
         match self {
-            Cell::Flat(bytes) => replace_bytes(alloc, bytes, reference.view(), value),
+            Cell::Flat(bytes) => replace_bytes(alloc, bytes, reference.view(), &value),
             Cell::Tree(whole) => Ok(replace_tree(whole, reference.view(), value)),
         }
     }
@@ -160,11 +160,11 @@ fn replace_bytes(
     alloc: Global,
     bytes: &mut FlatCell,
     view: &MemView,
-    value: Instance,
+    value: &Instance,
 ) -> Result<Instance, AllocError>
-    requires fit { IsOkAnd (viewed (steps_of view.now) bytes.old) (λ v. IsTrue (fits (value_of value) v)) }
-    requires storable { IsStorable (value_of value) }
-    ensures put { OnOk result (bytes.new ≡ put_viewed (steps_of view.now) (value_of value) bytes.old) }
+    requires fit { IsOkAnd (viewed (steps_of view.now) bytes.old) (λ v. IsTrue (fits (value_of value.now) v)) }
+    requires storable { IsStorable (value_of value.now) }
+    ensures put { OnOk result (bytes.new ≡ put_viewed (steps_of view.now) (value_of value.now) bytes.old) }
     ensures old { IfOk result (λ v. viewed (steps_of view.now) bytes.old ≡ Ok (value_of v)) }
     ensures err { OnErr result (bytes.new ≡ bytes.old) }
 {
@@ -172,7 +172,7 @@ fn replace_bytes(
         unreachable!()
     };
     let old = part.value(alloc)?;
-    if !bytes.put(view, &value) {
+    if !bytes.put(view, value) {
         unreachable!();
     }
     Ok(old)

@@ -77,10 +77,19 @@ fn load<'a>(reference: &RefInstance, store: &'a Store) -> Result<Part<'a>, Error
     Ok(part)
 }
 
+// `load`, and a copy of what it gives.
+fn load_value(alloc: Global, reference: &RefInstance, store: &Store) -> Result<Instance, Error>
+    requires { IsKept store.now (reference_of reference.now) }
+    ensures outcome { let r = reference_of reference.now in Gives value_of result (load (held store.now) r.ty r) }
+    ensures content { IfOk result (λ v. IsContent store.now (value_of v)) }
+{
+    Ok(load(reference, store)?.value(alloc)?)
+}
+
 impl Loads for Instance {
     fn loaded(self, alloc: Global, store: &Store) -> Result<Instance, Error> {
         match as_reference(&self) {
-            Some(reference) => Ok(load(reference, store)?.value(alloc)?),
+            Some(reference) => load_value(alloc, reference, store),
             None => Ok(self),
         }
     }

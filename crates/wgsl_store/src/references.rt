@@ -7,13 +7,20 @@ ghost use Rattle.std.specs.Prelude.{
   [],
   IfOk,
   IfErr,
+  IfSome,
   IsOk,
+  IsOkAnd,
+  IsTrue,
   OnOk,
   OnErr,
+  Err,
   None,
   Some,
+  true,
   string_bytes,
 };
+ghost use Rattle.wgsl_rules.specs.Access.{can_write};
+ghost use Rattle.wgsl_rules.specs.Paths.{fits};
 ghost use Rattle.wgsl_rules.specs.Values.{
   Reference,
   IsStorable,
@@ -132,6 +139,29 @@ fn misfit(alloc: Global, reference: &RefInstance, value: &Instance) -> Result<Er
     Ok(Error::WriteRefType(value.ty(alloc)?, reference.target_ty().clone(alloc)?))
 }
 
+// Whether the value may be exchanged for that of the part; else why not, as `References::read_write`
+// says.
+fn check_exchange(
+    alloc: Global,
+    reference: &RefInstance,
+    store: &Store,
+    value: &Instance,
+) -> Result<(), Error>
+    requires kept { IsKept store.now (reference_of reference.now) }
+    requires storable { IsStorable (value_of value.now) }
+    ensures may_write { OnOk result (can_write (reference_of reference.now).access ≡ true) }
+    ensures fit { OnOk result (IsOkAnd (held store.now (reference_of reference.now)) (λ v. IsTrue (fits (value_of value.now) v))) }
+    ensures err { IfErr result (λ e. IfSome (refusal_of e) (λ f. read_written store.now (reference_of reference.now) (value_of value.now) ≡ Err f)) }
+{
+    if !reference.access().is_write() {
+        return Err(Error::NotReadWrite);
+    }
+    if !store.fits(reference, value) {
+        return Err(misfit(alloc, reference, value)?);
+    }
+    Ok(())
+}
+
 impl References for RefInstance {
     ghost use Rattle.wgsl_values.specs.View.{reference_of};
 
@@ -186,7 +216,7 @@ impl References for RefInstance {
         }
         match store.put(self, value) {
             Ok(()) => Ok(()),
-            Err(value) => Err(misfit(alloc, self, &value)?),
+            Err(value) => Err(misfit(alloc, self, &value).unwrap_or(Error::Memory)),
         }
     }
 
@@ -196,12 +226,7 @@ impl References for RefInstance {
         store: &mut Store,
         value: Instance,
     ) -> Result<Instance, Error> {
-        if !self.access().is_write() {
-            return Err(Error::NotReadWrite);
-        }
-        if !store.fits(self, &value) {
-            return Err(misfit(alloc, self, &value)?);
-        }
+        check_exchange(alloc, self, store, &value)?;
         Ok(store.replace(alloc, self, value)?)
     }
 }

@@ -25,13 +25,13 @@ pub trait Show: Ty {
 impl Show for RefInstance {
     fn show(&self, alloc: Global, store: &Store) -> Result<String, Error> {
         let value = self.read(alloc, store)?;
-        Ok(format!(in alloc; "{self}({value})")?)
+        format!(in alloc; "{self}({value})").map_err(Error::from)
     }
 }
 
 impl Show for PtrInstance {
     fn show(&self, alloc: Global, store: &Store) -> Result<String, Error> {
         let value = self.ptr().read(alloc, store)?;
-        Ok(format!(in alloc; "{self}({value})")?)
+        format!(in alloc; "{self}({value})").map_err(Error::from)
     }
 }
