@@ -1,10 +1,12 @@
 -- Where a view goes on from a value, or why it does not.
 use Rattle.std.proofs.Common.{◌≡◌, ℕ, zero, suc, List, ◌∷◌, Option, Some, None, Err, option_map, option_and_then, refl, sym, ap, ◌∙◌, subst}
+use Rattle.std.specs.Result.{result_ok}
 use Rattle.wgsl_rules.specs.Paths.{placed, index_in, member_named, within, part_at, viewed}
 use Rattle.wgsl_rules.specs.Refusals.{not_indexable, out_of_bounds}
 use Rattle.wgsl_rules.specs.Types.{Ty}
-use Rattle.wgsl_rules.specs.Values.{Step, index, Val, record_of, array_of, vector, matrix, deferred, Vals, no_vals, val, item, count, type_of, IsStorable, AreStorable, IsWellFormed}
+use Rattle.wgsl_rules.specs.Values.{Step, member, index, Val, record_of, array_of, vector, matrix, deferred, Vals, no_vals, val, item, count, type_of, IsStorable, AreStorable, IsWellFormed}
 use Rattle.wgsl_values.specs.Parts.{indexed_parts}
+use Rattle.wgsl_values.proofs.lemmas.Steps.{viewed-member}
 
 -- ---- parts of a well-formed value
 
@@ -55,3 +57,14 @@ viewed-past i rest v vs t n e f k c = rw (part_at-indexed i v vs e, ← f, k, c)
 
 pub viewed-no_parts : (i : ℕ) (rest : List Step) (v : Val) (t : Ty) → None ≡ indexed_parts v → t ≡ type_of v → viewed (index i ∷ rest) v ≡ Err (not_indexable t)
 viewed-no_parts i rest v t e k = rw (part_at-none i v e, k) refl
+
+-- ---- a view that leads nowhere leads nowhere from the part that its first step leads to
+
+pub member-nowhere : (n : List ℕ) (rest : List Step) (v x : Val) → Some x ≡ option_map (λ p. p.1) (member_named n v) → result_ok (viewed (member n ∷ rest) v) ≡ None → result_ok (viewed rest x) ≡ None
+member-nowhere n rest v x e h = ap result_ok (sym (viewed-member n rest v x e)) ∙ h
+
+viewed-indexed : (i : ℕ) (rest : List Step) (v x : Val) (vs : Vals) → Some vs ≡ indexed_parts v → Some x ≡ item i vs → viewed (index i ∷ rest) v ≡ viewed rest x
+viewed-indexed i rest v x vs e f = rw (part_at-indexed i v vs e, ← f) refl
+
+pub indexed-nowhere : (i : ℕ) (rest : List Step) (v x : Val) (vs : Vals) → Some vs ≡ indexed_parts v → Some x ≡ item i vs → result_ok (viewed (index i ∷ rest) v) ≡ None → result_ok (viewed rest x) ≡ None
+indexed-nowhere i rest v x vs e f h = ap result_ok (sym (viewed-indexed i rest v x vs e f)) ∙ h

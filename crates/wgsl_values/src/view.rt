@@ -1,13 +1,27 @@
 //! Views into values (WGSL: memory views).
 
-ghost use Rattle.std.specs.Prelude.{◌≡◌, [], ◌∷◌, ◌++◌, OnErr, OnOk, option_map, string_bytes};
+ghost use Rattle.std.specs.Prelude.{
+  ◌≡◌,
+  [],
+  ◌∷◌,
+  ◌++◌,
+  Err,
+  IfOk,
+  IsSomeAnd,
+  None,
+  OnErr,
+  OnOk,
+  option_map,
+  string_bytes,
+};
+ghost use Rattle.std.specs.Result.{result_ok};
 ghost use Rattle.wgsl_rules.specs.Paths.{member_named, viewed};
 ghost use Rattle.wgsl_rules.specs.Values.{
   IsWellFormed,
   index as index_step,
   member as member_step,
 };
-ghost use Rattle.wgsl_scalar.specs.Answers.{Gives};
+ghost use Rattle.wgsl_scalar.specs.Answers.{Gives, refusal_of};
 ghost use Rattle.wgsl_values.specs.View.{value_of, steps_of};
 
 use crate::inst::Instance;
@@ -67,6 +81,40 @@ impl Instance {
         self.as_struct()?.member(name)
     }
 
+    // The part that the view leads to; `None` where it leads nowhere.
+    fn part_viewed(&self, view: &MemView) -> Option<&Instance>
+        ensures { option_map (λ v. value_of v.now) result ≡ result_ok (viewed (steps_of view.now) (value_of self.now)) }
+    {
+        match view {
+            MemView::Whole => Some(self),
+            MemView::Member(name, rest) => self.member(name.as_str())?.part_viewed(rest),
+            MemView::Index(i, rest) => nth(self.indexed()?, *i)?.part_viewed(rest),
+        }
+    }
+
+    // Why the first step that leads nowhere does. The conditions: there is one, and the value is
+    // well-formed.
+    fn refusal(&self, alloc: Global, view: &MemView) -> Result<Error, AllocError>
+        requires well_formed { IsWellFormed (value_of self.now) }
+        requires nowhere { result_ok (viewed (steps_of view.now) (value_of self.now)) ≡ None }
+        ensures { IfOk result (λ e. IsSomeAnd (refusal_of e) (λ f. viewed (steps_of view.now) (value_of self.now) ≡ Err f)) }
+    {
+        match view {
+            MemView::Whole => unreachable!(),
+            MemView::Member(name, rest) => match self.member(name.as_str()) {
+                Some(member) => member.refusal(alloc, rest),
+                None => Ok(Error::Component(self.ty(alloc)?, name.clone()?)),
+            },
+            MemView::Index(i, rest) => match self.indexed() {
+                Some(parts) => match nth(parts, *i) {
+                    Some(part) => part.refusal(alloc, rest),
+                    None => Ok(Error::OutOfBounds(*i, self.ty(alloc)?, parts.len())),
+                },
+                None => Ok(Error::NotIndexable(self.ty(alloc)?)),
+            },
+        }
+    }
+
     /// The part that the view leads to (WGSL: memory views).
     ///
     /// The first step that leads nowhere is refused, with the type of the value that it was taken
@@ -76,19 +124,9 @@ impl Instance {
         requires { IsWellFormed (value_of self.now) }
         ensures { Gives (λ v. value_of v.now) result (viewed (steps_of view.now) (value_of self.now)) }
     {
-        match view {
-            MemView::Whole => Ok(self),
-            MemView::Member(name, rest) => match self.member(name.as_str()) {
-                Some(member) => member.view(alloc, rest),
-                None => Err(Error::Component(self.ty(alloc)?, name.clone()?)),
-            },
-            MemView::Index(i, rest) => match self.indexed() {
-                Some(parts) => match nth(parts, *i) {
-                    Some(part) => part.view(alloc, rest),
-                    None => Err(Error::OutOfBounds(*i, self.ty(alloc)?, parts.len())),
-                },
-                None => Err(Error::NotIndexable(self.ty(alloc)?)),
-            },
+        match self.part_viewed(view) {
+            Some(part) => Ok(part),
+            None => Err(self.refusal(alloc, view)?),
         }
     }
 }
