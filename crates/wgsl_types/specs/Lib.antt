@@ -1,0 +1,10 @@
+pub mod Atomics
+pub mod BitFields
+pub mod BitFunctions
+pub mod Bitcast
+pub mod Late
+pub mod Laws
+pub mod Lifts
+pub mod Logical
+pub mod Numeric
+pub mod Packing
