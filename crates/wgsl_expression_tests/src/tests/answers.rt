@@ -1,0 +1,142 @@
+//! What operators answer, and the texts of it: the value's own, or the case of the refusal with what it holds.
+
+ghost use Rattle.wgsl_rules.specs.Values.{IsWellFormed};
+ghost use Rattle.wgsl_values.specs.View.{value_of};
+
+use crate::tests::samples::{Sample, made};
+use std::alloc::{AllocError, Global};
+use std::fmt::Display;
+use std::process::Abort;
+use wgsl_ops::{InstanceOperators, Operators};
+use wgsl_rules::BinaryOperator::{
+    Addition, BitwiseAnd, BitwiseOr, BitwiseXor, Division, Equality, GreaterThan,
+    GreaterThanEqual, Inequality, LessThan, LessThanEqual, Multiplication, Remainder, ShiftLeft,
+    ShiftRight, ShortCircuitAnd, ShortCircuitOr, Subtraction,
+};
+use wgsl_rules::UnaryOperator::{
+    AddressOf, BitwiseComplement, Indirection, LogicalNegation, Negation,
+};
+use wgsl_rules::{BinaryOperator, ShaderStage, UnaryOperator};
+use wgsl_scalar::Error;
+use wgsl_values::Instance;
+
+/// What the operator gives for the two values.
+fn answer(
+    alloc: Global,
+    operator: BinaryOperator,
+    stage: ShaderStage,
+    left: &Instance,
+    right: &Instance,
+) -> Result<Instance, Error>
+    requires left { IsWellFormed (value_of left.now) }
+    requires right { IsWellFormed (value_of right.now) }
+{
+    match operator {
+        ShortCircuitOr => left.op_or(alloc, right),
+        ShortCircuitAnd => left.op_and(alloc, right),
+        Addition => left.op_add(alloc, right, stage),
+        Subtraction => left.op_sub(alloc, right, stage),
+        Multiplication => left.op_mul(alloc, right, stage),
+        Division => left.op_div(alloc, right, stage),
+        Remainder => left.op_rem(alloc, right, stage),
+        Equality => left.op_eq(alloc, right),
+        Inequality => left.op_ne(alloc, right),
+        LessThan => left.op_lt(alloc, right),
+        LessThanEqual => left.op_le(alloc, right),
+        GreaterThan => left.op_gt(alloc, right),
+        GreaterThanEqual => left.op_ge(alloc, right),
+        BitwiseOr => left.op_bitor(alloc, right),
+        BitwiseAnd => left.op_bitand(alloc, right),
+        BitwiseXor => left.op_bitxor(alloc, right),
+        ShiftLeft => left.op_shl(alloc, right, stage),
+        ShiftRight => left.op_shr(alloc, right, stage),
+    }
+}
+
+/// What the operator gives for the two values.
+pub(super) fn joined(
+    rt: &impl Abort,
+    alloc: Global,
+    operator: BinaryOperator,
+    stage: ShaderStage,
+    left: Sample,
+    right: Sample,
+) -> Result<Instance, Error> {
+    let left = made(rt, alloc, left);
+    let right = made(rt, alloc, right);
+    let answer = answered!(answer(alloc, operator, stage, &left, &right));
+    drop((left, right));
+    answer
+}
+
+/// What the operator gives for the value; `!`, `-`, `~` or `*`.
+fn answer_of_one(
+    rt: &impl Abort,
+    alloc: Global,
+    operator: UnaryOperator,
+    value: &Instance,
+) -> Result<Instance, Error>
+    requires { IsWellFormed (value_of value.now) }
+{
+    match operator {
+        LogicalNegation => value.op_not(alloc),
+        Negation => value.op_neg(alloc),
+        BitwiseComplement => value.op_bitnot(alloc),
+        Indirection => value.op_deref(alloc),
+        AddressOf => panic!(rt; "an address is taken in a store"),
+    }
+}
+
+/// What the operator gives for the value; `!`, `-`, `~` or `*`.
+pub(super) fn turned(
+    rt: &impl Abort,
+    alloc: Global,
+    operator: UnaryOperator,
+    value: Sample,
+) -> Result<Instance, Error> {
+    let value = made(rt, alloc, value);
+    let answer = answered!(answer_of_one(rt, alloc, operator, &value));
+    drop(value);
+    answer
+}
+
+/// The text of a refusal, without that of a builtin's reason.
+fn refusal_text(alloc: Global, error: &Error) -> Result<String, AllocError> {
+    match error {
+        Error::Unary(operator, ty) => format!(in alloc; "Unary {operator} {ty}"),
+        Error::Binary(operator, left, right) => {
+            format!(in alloc; "Binary {operator} {left}, {right}")
+        }
+        Error::CompwiseBinary(left, right) => format!(in alloc; "CompwiseBinary {left}, {right}"),
+        Error::ShlOverflow(count, number) => format!(in alloc; "ShlOverflow {count}, {number}"),
+        Error::ShrOverflow(count, number) => format!(in alloc; "ShrOverflow {count}, {number}"),
+        Error::AddOverflow => format!(in alloc; "AddOverflow"),
+        Error::SubOverflow => format!(in alloc; "SubOverflow"),
+        Error::MulOverflow => format!(in alloc; "MulOverflow"),
+        Error::DivByZero => format!(in alloc; "DivByZero"),
+        Error::RemZeroDiv => format!(in alloc; "RemZeroDiv"),
+        Error::PtrHandle => format!(in alloc; "PtrHandle"),
+        Error::PtrVecComp => format!(in alloc; "PtrVecComp"),
+        other => format!(in alloc; "error {}", other.number()),
+    }
+}
+
+fn text_of<T: Display>(alloc: Global, answer: &Result<T, Error>) -> Result<String, AllocError> {
+    match answer {
+        Ok(value) => value.to_string(alloc),
+        Err(error) => refusal_text(alloc, error),
+    }
+}
+
+/// Asserts the text of the answer.
+pub(super) fn assert_answer<T: Display + Drop>(
+    rt: &impl Abort,
+    alloc: Global,
+    row: usize,
+    answer: Result<T, Error>,
+    wanted: &str,
+) {
+    let text = again!(rt; text_of(alloc, &answer));
+    drop(answer);
+    assert_eq!(rt; text.as_str(), wanted, "row {row}");
+}
