@@ -1,13 +1,14 @@
 -- Operands of one type: nothing is converted.
-use Rattle.std.proofs.Common.{◌≡◌, ◌∙◌, Some, refl, sym, ap, cc}
+use Rattle.std.proofs.Common.{◌≡◌, ◌∙◌, Bool, IsTrue, List, Some, refl, sym, ap, ap₂}
 use Rattle.wgsl_rules.proofs.lemmas.Converted.{converted-own}
 use Rattle.wgsl_rules.specs.Conversion.{common_type}
 use Rattle.wgsl_rules.specs.Converted.{converted, inner_converted}
 use Rattle.wgsl_rules.specs.Equal.{same-Decides}
 use Rattle.wgsl_rules.specs.InCommon.{in_common, inner_in_common}
 use Rattle.wgsl_rules.specs.TypeParts.{inner_type}
-use Rattle.wgsl_rules.specs.Types.{Ty}
-use Rattle.wgsl_rules.specs.Values.{Val, vector, Vals, type_of, first_type, IsWellFormed}
+use Rattle.wgsl_rules.specs.Types.{Ty, vec}
+use Rattle.wgsl_rules.specs.Paths.{parts}
+use Rattle.wgsl_rules.specs.Values.{Val, vector, Vals, no_vals, val, count, item, type_of, first_type, IsWellFormed}
 use Rattle.wgsl_rules.specs.declared.syntax.ShaderStage.{ShaderStage}
 use Rattle.wgsl_rules.specs.declared.syntax.BinaryOperator.{BinaryOperator}
 use Rattle.wgsl_scalar.specs.Literals.{literal_of}
@@ -15,9 +16,36 @@ use Rattle.wgsl_scalar.specs.declared.literal.LiteralInstance.{LiteralInstance}
 use Rattle.wgsl_scalar.specs.declared.literal.LiteralInstance.TheVariants as literals
 use Rattle.wgsl_values.proofs.lemmas.Views.{vec_view-is}
 use Rattle.wgsl_values.specs.View.{vals_view, vec_view}
+use Rattle.wgsl_values.specs.declared.inst.Instance.{Instance}
 use Rattle.wgsl_values.specs.declared.inst.VecInstance.{VecInstance}
 use Rattle.wgsl_ops.proofs.Lifting.{of-components-is}
 use Rattle.wgsl_ops.specs.Vectors.{of_converted, of_components, of_vector_scalar, of_scalar_vector, of_each_and_scalar, of_scalar_and_each}
+
+-- ---- the type of the components
+
+first-typed : (vs : Vals) (x : Val) → Some x ≡ item 0 vs → type_of x ≡ first_type vs
+first-typed no_vals x h = cc
+first-typed (val v vs) x h = let e : x ≡ v = cc in ap type_of e
+
+component-type : (v : VecInstance) (vs : List Instance) (x : Val) → vals_view vs ≡ parts (vec_view v) → Some x ≡ item 0 (vals_view vs) → type_of x ≡ inner_type (type_of (vec_view v))
+component-type v vs x e h =
+    let k = vec_view-is v in
+    rw k (first-typed (vals_view v.components.items) x (h ∙ ap (item 0) (rw k at e)))
+
+-- the components of a vector are of the type of a literal
+pub of_one_type : (v : VecInstance) (vs : List Instance) (x y : Val) (b : Bool) → vals_view vs ≡ parts (vec_view v) → Some x ≡ item 0 (vals_view vs) → (IsTrue b → type_of x ≡ type_of y)
+    → IsTrue b → inner_type (type_of (vec_view v)) ≡ type_of y
+of_one_type v vs x y b e h one t = sym (component-type v vs x e h) ∙ one t
+
+vector-type : (v : VecInstance) → type_of (vec_view v) ≡ vec (count (parts (vec_view v))) (inner_type (type_of (vec_view v)))
+vector-type v = rw (vec_view-is v) refl
+
+-- two vectors are of one type where they have as many components, of one type
+pub one_type : (v w : VecInstance) (ws : List Instance) (y : Val) (b : Bool) → count (parts (vec_view v)) ≡ count (parts (vec_view w)) → vals_view ws ≡ parts (vec_view w) → Some y ≡ item 0 (vals_view ws)
+    → (IsTrue b → inner_type (type_of (vec_view v)) ≡ type_of y) → IsTrue b → type_of (vec_view v) ≡ type_of (vec_view w)
+one_type v w ws y b n e h one t = vector-type v ∙ ap₂ vec n (one t ∙ component-type w ws y e h) ∙ sym (vector-type w)
+
+-- ---- conversions that change nothing
 
 own-common : (t : Ty) → common_type t t ≡ Some t
 own-common t = rw ((same-Decides t t).1 refl) refl
