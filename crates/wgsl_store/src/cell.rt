@@ -236,7 +236,7 @@ impl<'a> Part<'a> {
     }
 
     /// Whether the part is a vector.
-    fn is_vector(self) -> bool
+    pub(crate) fn is_vector(self) -> bool
         ensures { result ≡ is_vector (part_value self.entry) }
     {
         match self {
@@ -252,24 +252,17 @@ impl<'a> Part<'a> {
     {
         match view {
             MemView::Whole => false,
-            MemView::Member(name, rest) => {
-                if !has_steps(rest) {
-                    return self.is_vector();
-                }
-                match self.member(name.as_str()) {
-                    Some(part) => part.leads_to_component(rest),
-                    None => false,
-                }
+            MemView::Member(_, rest) | MemView::Index(_, rest) if !has_steps(rest) => {
+                self.is_vector()
             }
-            MemView::Index(i, rest) => {
-                if !has_steps(rest) {
-                    return self.is_vector();
-                }
-                match self.index(*i) {
-                    Some(part) => part.leads_to_component(rest),
-                    None => false,
-                }
-            }
+            MemView::Member(name, rest) => match self.member(name.as_str()) {
+                Some(part) => part.leads_to_component(rest),
+                None => false,
+            },
+            MemView::Index(i, rest) => match self.index(*i) {
+                Some(part) => part.leads_to_component(rest),
+                None => false,
+            },
         }
     }
 
