@@ -1,5 +1,6 @@
 pub mod Buffers
 pub mod Cells
+pub mod Components
 pub mod FlatCells
 pub mod Laws
 pub mod Loaded

@@ -25,6 +25,7 @@ ghost use Rattle.wgsl_rules.specs.Values.{IsStorable, IsWellFormed, type_of};
 ghost use Rattle.wgsl_rules.specs.View.{type_view};
 ghost use Rattle.wgsl_scalar.specs.Answers.{refusal_of};
 ghost use Rattle.wgsl_store.specs.Cells.{IsCell, IsPart, LeadsIn, cell_value, part_value};
+ghost use Rattle.wgsl_store.specs.Components.{has_steps, is_vector, leads_to_component};
 ghost use Rattle.wgsl_values.specs.View.{reference_of, steps_of, value_of};
 
 use crate::flat::{FlatCell, FlatPart};
@@ -190,6 +191,13 @@ fn replace_tree(whole: &mut Instance, view: &MemView, value: Instance) -> Instan
     }
 }
 
+// Whether the view goes on to a part of the value.
+fn has_steps(view: &MemView) -> bool
+    ensures { result ≡ has_steps (steps_of view.now) }
+{
+    !matches!(view, MemView::Whole)
+}
+
 impl<'a> Part<'a> {
     /// The first member of the name: structures alone have members.
     pub(crate) fn member(self, name: &str) -> Option<Part<'a>>
@@ -224,6 +232,37 @@ impl<'a> Part<'a> {
         match self {
             Part::Flat(part) => Some(Part::Flat(part.viewed(view)?)),
             Part::Tree(value) => Some(Part::Tree(part_viewed(value, view)?)),
+        }
+    }
+
+    /// Whether the part is a vector.
+    pub(crate) fn is_vector(self) -> bool
+        ensures { result ≡ is_vector (part_value self.entry) }
+    {
+        match self {
+            Part::Flat(part) => part.is_vector(),
+            Part::Tree(value) => matches!(value, Instance::Vec(_)),
+        }
+    }
+
+    /// Whether the last step of the view is taken from a vector.
+    pub(crate) fn leads_to_component(self, view: &MemView) -> bool
+        requires { IsPart self }
+        ensures { result ≡ leads_to_component (λ steps. viewed steps (part_value self.entry)) (steps_of view.now) }
+    {
+        match view {
+            MemView::Whole => false,
+            MemView::Member(_, rest) | MemView::Index(_, rest) if !has_steps(rest) => {
+                self.is_vector()
+            }
+            MemView::Member(name, rest) => match self.member(name.as_str()) {
+                Some(part) => part.leads_to_component(rest),
+                None => false,
+            },
+            MemView::Index(i, rest) => match self.index(*i) {
+                Some(part) => part.leads_to_component(rest),
+                None => false,
+            },
         }
     }
 

@@ -136,6 +136,7 @@ impl<'a> FlatPart<'a> {
     ghost use Rattle.wgsl_rules.specs.Values.{IsStorable, type_of};
     ghost use Rattle.wgsl_rules.specs.View.{type_view};
     ghost use Rattle.wgsl_scalar.specs.Answers.{refusal_of};
+    ghost use Rattle.wgsl_store.specs.Components.{is_vector};
     ghost use Rattle.wgsl_store.specs.FlatCells.{IsFlatPart, part_value};
     ghost use Rattle.wgsl_values.specs.View.{value_of, steps_of};
 
@@ -192,6 +193,13 @@ impl<'a> FlatPart<'a> {
         ensures { IsTrue result ↔ (type_view ty.now ≡ type_of (part_value self.entry)) }
     {
         self.located.has_ty(ty)
+    }
+
+    /// Whether the part is a vector.
+    pub(crate) fn is_vector(self) -> bool
+        ensures { result ≡ is_vector (part_value self.entry) }
+    {
+        self.located.is_vector()
     }
 
     /// A copy of the value of the part.

@@ -11,11 +11,13 @@ ghost use Rattle.std.specs.Prelude.{
   IfSome,
   IsTrue,
   Some,
+  is_some,
   length,
   option_map,
 };
 ghost use Rattle.wgsl_rules.specs.Layout.{layout, member_parts, repeated};
 ghost use Rattle.wgsl_rules.specs.Paths.{index_named};
+ghost use Rattle.wgsl_rules.specs.TypeParts.{vec_part};
 ghost use Rattle.wgsl_rules.specs.Types.{array, mat, vec};
 ghost use Rattle.wgsl_rules.specs.Values.{index as index_step, member as member_step};
 ghost use Rattle.wgsl_rules.specs.View.{type_view, struct_view, members_view};
@@ -267,6 +269,16 @@ impl<'a> Located<'a> {
             Shape::Whole(own, _) => *ty == *own,
             Shape::Component(own) => *ty == *own,
             Shape::Column(n, component, _) => is_vector_of(ty, n, component),
+        }
+    }
+
+    /// Whether the part is a vector.
+    pub(crate) fn is_vector(self) -> bool
+        ensures { result ≡ is_some (vec_part (shape_ty self.entry.shape)) }
+    {
+        match self.shape {
+            Shape::Whole(ty, _) | Shape::Component(ty) => ty.as_vec().is_some(),
+            Shape::Column(_, _, _) => true,
         }
     }
 

@@ -30,6 +30,7 @@ ghost use Rattle.wgsl_rules.specs.Values.{
 };
 ghost use Rattle.wgsl_rules.specs.Refusals.{write_ref_type};
 ghost use Rattle.wgsl_scalar.specs.Answers.{Gives, refusal_of};
+ghost use Rattle.wgsl_store.specs.Components.{names_component};
 ghost use Rattle.wgsl_store.specs.Memory.{HoldsValue, IsContent, IsKept, IsSound, held};
 ghost use Rattle.wgsl_store.specs.ReferenceCalls.{
   deeper,
@@ -90,6 +91,13 @@ pub trait References: Sized {
         requires { IsKept store.now (reference_of self.now) }
         ensures outcome { Gives reference_of result (deeper (held store.now) (reference_of self.now) (index_step i)) }
         ensures kept { IfOk result (λ r. IsKept store.now (reference_of r)) };
+
+    /// Whether the part is a component of a vector, wherever the vector stands: it may be a whole cell, a
+    /// member, an element or a column of a matrix (WGSL: vector access expression). Read access is not
+    /// needed, and no memory is taken.
+    fn names_component(&self, store: &Store) -> bool
+        requires { IsKept store.now (reference_of self.now) }
+        ensures { result ≡ names_component store.now (reference_of self.now) };
 
     /// A copy of the value of the part. Refused with `NotRead` without read access.
     fn read(&self, alloc: Global, store: &Store) -> Result<Instance, Error>
@@ -204,6 +212,10 @@ impl References for RefInstance {
         let mut view = self.view().clone(alloc)?;
         view.append_index(alloc, i)?;
         Ok(RefInstance::from_parts(self.cell(), view, ty, self.space(), self.access()))
+    }
+
+    fn names_component(&self, store: &Store) -> bool {
+        store.names_component(self)
     }
 
     fn read(&self, alloc: Global, store: &Store) -> Result<Instance, Error> {

@@ -58,6 +58,7 @@ impl Store {
     ghost use Rattle.wgsl_rules.specs.Paths.{fits, parts};
     ghost use Rattle.wgsl_rules.specs.Values.{Reference, IsStorable};
     ghost use Rattle.wgsl_store.specs.Cells.{IsPart, part_value};
+    ghost use Rattle.wgsl_store.specs.Components.{names_component};
     ghost use Rattle.wgsl_store.specs.Memory.{
       AllKept,
       HoldsValue,
@@ -174,6 +175,17 @@ impl Store {
             Ok(self.part(reference))
         } else {
             Err(Error::NotRead)
+        }
+    }
+
+    /// Whether the reference names a component of a vector: the last step of its view is taken from a
+    /// vector. It takes no memory.
+    pub(crate) fn names_component(&self, reference: &RefInstance) -> bool
+        ensures { result ≡ names_component self.now (reference_of reference.now) }
+    {
+        match self.cell(reference.cell()) {
+            Some(cell) => cell.leads_to_component(reference.view()),
+            None => false,
         }
     }
 

@@ -276,7 +276,10 @@ impl From<LiteralInstance> for Instance {
 
     ghost from_gives = { λ l v. value_of v ≡ literal_of l };
 
-    fn from(literal: LiteralInstance) -> Instance {
+    fn from(literal: LiteralInstance) -> Instance
+        ensures value { value_of result ≡ literal_of literal }
+        ensures storable { IsStorable (value_of result) }
+    {
         Instance::Literal(literal)
     }
 }
@@ -378,7 +381,10 @@ impl From<bool> for Instance {
 
     ghost from_gives = { λ b v. value_of v ≡ truth b };
 
-    fn from(b: bool) -> Instance {
+    fn from(b: bool) -> Instance
+        ensures value { value_of result ≡ truth b }
+        ensures storable { IsStorable (value_of result) }
+    {
         Instance::Literal(LiteralInstance::Bool(b))
     }
 }
@@ -392,7 +398,10 @@ impl From<i64> for Instance {
 
     ghost from_gives = { λ n v. value_of v ≡ number kinds.abstract_int n };
 
-    fn from(n: i64) -> Instance {
+    fn from(n: i64) -> Instance
+        ensures value { value_of result ≡ number kinds.abstract_int n }
+        ensures storable { IsStorable (value_of result) }
+    {
         Instance::Literal(LiteralInstance::AbstractInt(n))
     }
 }
@@ -405,7 +414,10 @@ impl From<i32> for Instance {
 
     ghost from_gives = { λ n v. value_of v ≡ number kinds.i32 n };
 
-    fn from(n: i32) -> Instance {
+    fn from(n: i32) -> Instance
+        ensures value { value_of result ≡ number kinds.i32 n }
+        ensures storable { IsStorable (value_of result) }
+    {
         Instance::Literal(LiteralInstance::I32(n))
     }
 }
@@ -418,7 +430,10 @@ impl From<u32> for Instance {
 
     ghost from_gives = { λ n v. value_of v ≡ number kinds.u32 (pos n) };
 
-    fn from(n: u32) -> Instance {
+    fn from(n: u32) -> Instance
+        ensures value { value_of result ≡ number kinds.u32 (pos n) }
+        ensures storable { IsStorable (value_of result) }
+    {
         Instance::Literal(LiteralInstance::U32(n))
     }
 }

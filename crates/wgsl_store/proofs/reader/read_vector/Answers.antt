@@ -15,7 +15,7 @@ loop-i-init c =
 pub loop-i-preserved : goal.loop-i-preserved
 loop-i-preserved c = record {
   inside = c.loop-i.invariant.inside;
-  rest = rw c.in_ok-push.ensures.items (row-step c.loop-i.components.items c.from.result c.args.bytes.now c.args.base c.in-Components.far c.loop-i.i c.from-len.result _ _ c.loop-i-test.true (c.from.ensures ∙ c.read_literal-literal.ensures) c.loop-i.invariant.rest);
+  rest = rw c.in_ok-push.ensures.items (row-step c.loop-i.components.items c.from.result c.args.bytes.now c.args.base c.in-Components.far c.loop-i.i c.from-len.result _ _ c.loop-i-test.true (c.from.ensures.value ∙ c.read_literal-literal.ensures) c.loop-i.invariant.rest);
 }
 
 pub new-requires : goal.new-requires
