@@ -52,9 +52,9 @@ leaf_kind t = scalar_kind t
 abbrev pub is_from_2_to_4 : ℕ → Bool
 is_from_2_to_4 n = nat_le 2 n && nat_le n 4
 
--- of an alignment, where that is known
+-- of an alignment that is known
 abbrev pub is_multiple_of : ℕ → Option ℕ → Bool
-is_multiple_of a None = true
+is_multiple_of a None = false
 is_multiple_of a (Some align) = a % align == 0
 
 -- an align attribute is a power of two, and a multiple of the alignment of the type; without the attribute that

@@ -37,12 +37,15 @@ stride_of align size = with_both round_up align size
 
 -- ---- vectors
 
--- of a vector of three components of the type; not known for 64 bits
+-- of a vector of three components of the type; WGSL says it of 32 bits and fewer, and that of 64-bit integers
+-- is chosen here as that of four of them
 abbrev pub vec3_align : Ty → Option ℕ
 vec3_align i32 = Some 16
 vec3_align u32 = Some 16
 vec3_align f32 = Some 16
 vec3_align f16 = Some 8
+vec3_align i64 = Some 32
+vec3_align u64 = Some 32
 vec3_align t = None
 
 -- of a vector of n components of the type t, which has this size

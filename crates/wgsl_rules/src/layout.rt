@@ -29,7 +29,7 @@ fn is_multiple_of(attribute: u32, align: Option<u32>) -> bool
 {
     match align {
         Some(align) => attribute.is_multiple_of(align),
-        None => true,
+        None => false,
     }
 }
 

@@ -54,14 +54,15 @@ impl Type {
         }
     }
 
+    // WGSL has no vectors of 64-bit integers: theirs is chosen as that of four of them.
     fn vec3_align(&self) -> Option<u32>
         ensures { result ≡ vec3_align (type_view self.now) }
     {
         match self {
             Type::I32 | Type::U32 | Type::F32 => Some(16),
             Type::F16 => Some(8),
-            Type::Bool | Type::AbstractInt | Type::AbstractFloat => None,
-            Type::I64 | Type::U64 | Type::F64 => None,
+            Type::I64 | Type::U64 => Some(32),
+            Type::Bool | Type::AbstractInt | Type::AbstractFloat | Type::F64 => None,
             Type::Struct(_) | Type::Array(_, _) | Type::Vec(_, _) | Type::Mat(_, _, _) => None,
             Type::Atomic(_) | Type::Ptr(_, _, _) | Type::Ref(_, _, _) => None,
             Type::Texture(_) | Type::Sampler(_) => None,

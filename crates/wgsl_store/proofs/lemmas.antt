@@ -1,3 +1,4 @@
+pub mod Aligned
 pub mod Alike
 pub mod Back
 pub mod Compose

@@ -1,10 +1,10 @@
 -- The laws of layouts and of buffers. Each is proved of the definitions alone.
-use Rattle.std.specs.Prelude.{◌≡◌, ℕ, ◌+◌, ◌<◌, ◌≤◌, List, [], ◌∷◌, ◌++◌, length, Some, IsTrue, IfOk, MatchOption, ⊤}
+use Rattle.std.specs.Prelude.{◌≡◌, ℕ, ◌+◌, ◌%◌, ◌<◌, ◌≤◌, List, [], ◌∷◌, ◌++◌, length, Some, IsTrue, IfOk, IsSomeAnd, MatchOption, ⊤}
 use Rattle.wgsl_rules.specs.Kinds.{bytes_of}
 use Rattle.wgsl_rules.specs.Types.{Ty}
 use Rattle.wgsl_rules.specs.Values.{Step, Val, type_of, IsStorable}
 use Rattle.wgsl_rules.specs.Paths.{value_at, path_of, put_tree, FitsPlace}
-use Rattle.wgsl_rules.specs.Size.{size_of}
+use Rattle.wgsl_rules.specs.Size.{size_of, align_of}
 use Rattle.wgsl_rules.specs.Layout.{has_fixed_layout, HasLayout, tail_of, stride, layout_len, layout, layout_of, runtime_count, length_in, Leaf, leaves}
 use Rattle.wgsl_store.specs.Buffers.{buffer, IsReadOf, decode, without_padding}
 use Rattle.wgsl_store.specs.Ranges.{Range, range, view_range, bytes_in, overwritten}
@@ -24,7 +24,12 @@ LeavesAreInOrder = (t : Ty) (n : ℕ) → HasLayout t → AreInOrder 0 (leaves (
 abbrev pub AFixedLayoutHasTheSize : Type 0
 AFixedLayoutHasTheSize = (t : Ty) (n : ℕ) → IsTrue (has_fixed_layout t) → (size_of t ≡ Some (layout_len n t)) × (length_in (layout n t) ≡ layout_len n t)
 
--- the part x at the path p of v: its range has its layout, its length and its bytes, which are its own buffer
+-- a multiple of the alignment of the type, which is known and is no less than 1
+abbrev pub IsPlaceOf : Ty → ℕ → Type 0
+IsPlaceOf t place = IsSomeAnd (align_of t) (λ a. (1 ≤ a) × (place % a ≡ 0))
+
+-- the part x at the path p of v: its range has its layout, its length and its bytes, which are its own buffer,
+-- and begins at a place of its type
 pub record IsPartAt (v : Val) (p : List ℕ) (x : Val) : Type 0 where
   pub range_of : Range
   pub there : range (runtime_count v) (type_of v) p ≡ Some range_of
@@ -32,6 +37,7 @@ pub record IsPartAt (v : Val) (p : List ℕ) (x : Val) : Type 0 where
   pub its_length : length_in range_of.layout ≡ length (buffer x)
   pub inside : range_of.start + length (buffer x) ≤ length (buffer v)
   pub its_bytes : bytes_in (buffer v) range_of ≡ buffer x
+  pub its_place : IsPlaceOf (type_of x) range_of.start
 
 -- paths and bytes compose
 abbrev pub PathsAndBytesCompose : Type 0

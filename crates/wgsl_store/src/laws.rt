@@ -36,7 +36,8 @@ pub fn a_fixed_layout_has_the_size()
 {}
 
 /// A law: each part of a value has a layout, and the bytes of its range in the buffer of the whole are its own
-/// buffer; also where the whole ends in a runtime-sized array.
+/// buffer; the range begins at a multiple of the alignment of the part's type, counted from the start of that
+/// buffer. So it is too where the whole ends in a runtime-sized array.
 pub fn paths_and_bytes_compose()
     ensures { PathsAndBytesCompose }
 {}

@@ -7,7 +7,7 @@ use crate::tests::asserts::{assert_none, assert_some};
 use crate::tests::fixtures::{
     aligned, array, array_of, bytes_of, member, pair_value, structure, two, vector, vector_of,
 };
-use crate::tests::samples::{array_from, atomic_from, mat2x3, storable, vector_from};
+use crate::tests::samples::{array_from, atomic_from, mat2x3, matrix_from, storable, vector_from};
 use std::alloc::Global;
 use std::process::Abort;
 use wgsl_rules::{Ty, Type};
@@ -124,29 +124,83 @@ fn elements_and_columns_stand_a_stride_apart(rt: HostRuntime) {
     drop((elements, matrix));
 }
 
-/// The vector of the numbers, each an i64.
-fn wide_vector(rt: &impl Abort, alloc: Global, numbers: [i64; 3]) -> Instance {
-    let [x, y, z] = numbers.map(|n| Instance::from(I64(n)));
+/// The vector of the numbers.
+fn wide_vector(rt: &impl Abort, alloc: Global, numbers: [LiteralInstance; 3]) -> Instance {
+    let [x, y, z] = numbers.map(|n| Instance::from(n));
     let components = vec![in alloc; x, y, z].expect(rt, "memory");
     Instance::from(vector_from(rt, components))
 }
 
+/// The vectors of 1, 2, 3 and of 4, 5, 6.
+fn wide_vectors(rt: &impl Abort, alloc: Global) -> Vec<Instance> {
+    let first = wide_vector(rt, alloc, [I64(1), I64(2), I64(3)]);
+    let second = wide_vector(rt, alloc, [I64(4), I64(5), I64(6)]);
+    vec![in alloc; first, second].expect(rt, "memory")
+}
+
 #[test]
-fn three_components_of_64_bits(rt: HostRuntime) {
+fn three_64_bit_integers_have_no_padding(rt: HostRuntime) {
     let alloc = rt.alloc();
-    let wide = storable(&rt, wide_vector(&rt, alloc, [1, 2, 3]));
+    let wide = wide_vector(&rt, alloc, [I64(1), I64(2), I64(3)]);
+    let wide = storable(&rt, wide);
     assert_words(&rt, alloc, &wide, &[1, 0, 2, 0, 3, 0]);
-    let other = wide_vector(&rt, alloc, [4, 5, 6]);
-    let vectors = vec![in alloc; wide, other].expect(&rt, "memory");
-    let elements = Instance::from(array_from(&rt, vectors, false));
-    let elements = storable(&rt, elements);
-    assert_no_bytes(&rt, alloc, &elements);
-    let a = aligned(&rt, alloc, "a", vector(&rt, alloc, 3, Type::I64), 8);
-    let first = (a, wide_vector(&rt, alloc, [1, 2, 3]));
+    drop(wide);
+}
+
+#[test]
+fn three_64_bit_integers_are_elements_and_columns(rt: HostRuntime) {
+    let alloc = rt.alloc();
+    let words = [1, 0, 2, 0, 3, 0, 0, 0, 4, 0, 5, 0, 6, 0, 0, 0];
+    let elements = array_from(&rt, wide_vectors(&rt, alloc), false);
+    let elements = storable(&rt, Instance::from(elements));
+    assert_words(&rt, alloc, &elements, &words);
+    let matrix = matrix_from(&rt, wide_vectors(&rt, alloc));
+    let matrix = storable(&rt, Instance::from(matrix));
+    assert_words(&rt, alloc, &matrix, &words);
+    drop((elements, matrix));
+}
+
+#[test]
+fn three_64_bit_integers_stand_at_multiples_of_32(rt: HostRuntime) {
+    let alloc = rt.alloc();
+    let first = (member(&rt, alloc, "a", Type::U32), Instance::from(1u32));
+    let b = member(&rt, alloc, "b", vector(&rt, alloc, 3, Type::I64));
+    let second = (b, wide_vector(&rt, alloc, [I64(2), I64(3), I64(4)]));
+    let value = two(&rt, alloc, first, second);
+    let words = [1, 0, 0, 0, 0, 0, 0, 0, 2, 0, 3, 0, 4, 0, 0, 0];
+    assert_words(&rt, alloc, &value, &words);
+    drop(value);
+}
+
+#[test]
+fn a_word_stands_behind_three_64_bit_integers(rt: HostRuntime) {
+    let alloc = rt.alloc();
+    let a = member(&rt, alloc, "a", vector(&rt, alloc, 3, Type::U64));
+    let first = (a, wide_vector(&rt, alloc, [U64(1), U64(2), U64(3)]));
     let second = (member(&rt, alloc, "b", Type::U32), Instance::from(4u32));
     let value = two(&rt, alloc, first, second);
     assert_words(&rt, alloc, &value, &[1, 0, 2, 0, 3, 0, 4, 0]);
-    drop((elements, value));
+    drop(value);
+}
+
+/// A structure of the vector of 1, 2, 3 with this alignment, and of the word 4.
+fn aligned_vector(rt: &impl Abort, alloc: Global, align: u32) -> Instance
+    ensures { IsWellFormed (value_of result) }
+{
+    let a = aligned(rt, alloc, "a", vector(rt, alloc, 3, Type::I64), align);
+    let first = (a, wide_vector(rt, alloc, [I64(1), I64(2), I64(3)]));
+    let second = (member(rt, alloc, "b", Type::U32), Instance::from(4u32));
+    two(rt, alloc, first, second)
+}
+
+#[test]
+fn an_alignment_of_three_64_bit_integers_is_a_multiple_of_32(rt: HostRuntime) {
+    let alloc = rt.alloc();
+    let refused = aligned_vector(&rt, alloc, 8);
+    assert_no_bytes(&rt, alloc, &refused);
+    let value = aligned_vector(&rt, alloc, 32);
+    assert_words(&rt, alloc, &value, &[1, 0, 2, 0, 3, 0, 4, 0]);
+    drop((refused, value));
 }
 
 #[test]

@@ -108,3 +108,22 @@ read &0
     }
     Ok(())
 }
+
+#[test]
+fn an_element_of_wide_vectors_is_read_or_refused_memory(rt: HostRuntime) -> Result<(), Fail> {
+    let script = b"new array<vec3<i64>> storage read_write 01000000000000000200000000000000030000000000000000000000000000000400000000000000050000000000000006000000000000000000000000000000
+index &0 1
+read &1
+";
+    let Ok((lines, _)) = lines_of(rt.alloc(), script) else {
+        return Ok(());
+    };
+    assert!(rt; is_or_refused(&lines, 0, b"&0"));
+    if is_line(&lines, 0, b"&0") {
+        assert!(rt; is_or_refused(&lines, 1, b"&1"));
+    }
+    if is_line(&lines, 1, b"&1") {
+        assert!(rt; is_or_refused(&lines, 2, b"vec3(4li, 5li, 6li)"));
+    }
+    Ok(())
+}

@@ -292,6 +292,19 @@ fn numbers_of_64_bits_are_signed_and_unsigned(rt: HostRuntime) {
 }
 
 #[test]
+fn elements_of_three_64_bit_integers_stand_32_bytes_apart(rt: HostRuntime) {
+    let lines = [
+        (
+            "new array<vec3<i64>> storage read_write 01000000000000000200000000000000030000000000000000000000000000000400000000000000050000000000000006000000000000000000000000000000",
+            "&0",
+        ),
+        ("index &0 1", "&1"),
+        ("read &1", "vec3(4li, 5li, 6li)"),
+    ];
+    assert_answers(&rt, rt.alloc(), &lines);
+}
+
+#[test]
 fn a_structure_may_end_in_a_runtime_sized_array(rt: HostRuntime) {
     let lines = [
         ("struct S a:atomic<i32> b:array<u32>", "done"),

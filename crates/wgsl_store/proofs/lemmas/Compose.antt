@@ -8,6 +8,7 @@ use Rattle.wgsl_rules.specs.Paths.{parts, value_at}
 use Rattle.wgsl_rules.specs.Layout.{has_layout, Layout, scalar, composite, Parts, no_parts, part, length_in, layout, layout_of, runtime_count, count_in, Leaf, under, leaves, part_leaves}
 use Rattle.wgsl_store.specs.Buffers.{number_of, number_at, bytes_with, read_number, Reads, Lays, made_of_number, made_of_parts, decoded, decoded_parts, decode}
 use Rattle.wgsl_store.specs.Laws.{AreInOrder, LeavesAreInOrder, AFixedLayoutHasTheSize, PathsAndBytesCompose}
+use Rattle.wgsl_store.proofs.lemmas.Aligned.{placed}
 use Rattle.wgsl_store.proofs.lemmas.Ranges.{leaves-order, range-is, bytes-of-part, length-bytes}
 use Rattle.wgsl_store.proofs.lemmas.Tidy.{tidy, fixed-sized}
 use Rattle.wgsl_store.proofs.lemmas.Follows.{Follows, FollowAll, follows, path-leads}
@@ -50,6 +51,7 @@ compose v x p s h e =
         its_length = same_length ∙ sym own_length;
         inside = omega (arith, at_path.inside, own_length, whole_length, same_length);
         its_bytes = bytes-of-part (number_at v) p l r is.0 leads.there ∙ ap (λ (f : List ℕ → ℤ). bytes_with f r.layout) (numbers-below p v x e) ∙ ap (λ (k : Layout). bytes_with (number_at x) k) leads.own.0;
+        its_place = placed (type_of v) (type_of x) (runtime_count v) (runtime_count x) p r h leads.own.1 leads.there leads.own.0;
       },
     )
 

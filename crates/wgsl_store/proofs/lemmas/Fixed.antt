@@ -31,22 +31,24 @@ fixed-array n t h =
     record { count = one.0; element = two.0; sized = two.1 }
 
 -- of a member of the type with these attributes, and of what follows it
-pub record IsFixedFirst (t : Ty) (s : Option ℕ) (follows : Bool) : Type 0 where
+pub record IsFixedFirst (t : Ty) (s a : Option ℕ) (follows : Bool) : Type 0 where
   pub fixed : has_fixed_layout t ≡ true
   pub attribute : is_size_valid s (size_of t) ≡ true
+  pub aligned : is_align_valid a (align_of t) ≡ true
   pub rest : follows ≡ true
 
-pub first-fixed : (t : Ty) (s a : Option ℕ) (follows : Bool) → ((has_fixed_layout t && are_attributes_valid t s a) && follows) ≡ true → IsFixedFirst t s follows
+pub first-fixed : (t : Ty) (s a : Option ℕ) (follows : Bool) → ((has_fixed_layout t && are_attributes_valid t s a) && follows) ≡ true → IsFixedFirst t s a follows
 first-fixed t s a follows h =
     let one = and-both (has_fixed_layout t && are_attributes_valid t s a) follows h in
     let two = and-both (has_fixed_layout t) (are_attributes_valid t s a) one.0 in
     let three = and-both (is_size_valid s (size_of t)) (is_align_valid a (align_of t)) two.1 in
-    record { fixed = two.0; attribute = three.0; rest = one.1 }
+    record { fixed = two.0; attribute = three.0; aligned = three.1; rest = one.1 }
 
 -- a last member that is a runtime-sized array
 pub last-runtime : (t : Ty) (s a from : Option ℕ) → (is_runtime_array t && (is_none s && is_align_valid a (align_of t)) && is_some (offset_after from (extent_in t s a))) ≡ true
-    → (is_runtime_array t ≡ true) × (is_some (offset_after from (extent_in t s a)) ≡ true)
+    → (is_runtime_array t ≡ true) × (is_some (offset_after from (extent_in t s a)) ≡ true) × (is_align_valid a (align_of t) ≡ true)
 last-runtime t s a from h =
     let one = and-both (is_runtime_array t && (is_none s && is_align_valid a (align_of t))) (is_some (offset_after from (extent_in t s a))) h in
     let two = and-both (is_runtime_array t) (is_none s && is_align_valid a (align_of t)) one.0 in
-    (two.0, one.1)
+    let three = and-both (is_none s) (is_align_valid a (align_of t)) two.1 in
+    (two.0, one.1, three.1)

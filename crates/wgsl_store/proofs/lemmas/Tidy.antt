@@ -242,7 +242,7 @@ open-known (field name t s a (field m u z b fs)) h =
     let made = first-fixed t s a (end_in_runtime_array (end_after None (extent_in t s a)) (field m u z b fs)) h in
     open-known (field m u z b fs) (ap (λ (o : Option ℕ). end_in_runtime_array o (field m u z b fs)) (sym (end-none (extent_in t s a))) ∙ made.rest)
 
-open-from : (o : Option ℕ) (fs : Fields) → end_in_runtime_array o fs ≡ true → (x : ℕ) × (o ≡ Some x)
+pub open-from : (o : Option ℕ) (fs : Fields) → end_in_runtime_array o fs ≡ true → (x : ℕ) × (o ≡ Some x)
 open-from None fs h = absurd (open-known fs h)
 open-from (Some x) fs h = (x, refl)
 

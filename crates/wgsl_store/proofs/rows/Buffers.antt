@@ -1,7 +1,7 @@
 -- The buffers of the worked values, and what the worked bytes lay out, by computation.
-use Rattle.std.proofs.Common.{◌≡◌, ℕ, negsuc, List, [], ◌∷◌, ◌++◌, Some, None, true, false, refl}
+use Rattle.std.proofs.Common.{◌≡◌, ℕ, pos, negsuc, List, [], ◌∷◌, ◌++◌, Some, None, true, false, refl}
 use Rattle.wgsl_rules.specs.Kinds as kinds
-use Rattle.wgsl_rules.specs.Types.{Ty, u32, i32, i64, struct, array, vec, atomic, no_fields, field}
+use Rattle.wgsl_rules.specs.Types.{Ty, u32, i32, i64, u64, struct, array, vec, atomic, no_fields, field}
 use Rattle.wgsl_rules.specs.Values.{Val, number, record_of, array_of, vector, matrix, atomic_of, deferred, Vals}
 use Rattle.wgsl_rules.specs.Paths.{fits}
 use Rattle.wgsl_rules.specs.Layout.{count_in, layout}
@@ -70,8 +70,28 @@ sized = struct [] (field (0 ∷ []) u32 (Some 16) None (field (1 ∷ []) u32 Non
 sized_member : buffer_of (record_of sized (all (word 1 ∷ word 2 ∷ []))) ≡ Some (words (1 ∷ 0 ∷ 0 ∷ 0 ∷ 2 ∷ []))
 sized_member = refl
 
-vec3_of_i64 : (buffer_of (longs3 1 2 3) ≡ Some (longs (1 ∷ 2 ∷ 3 ∷ []))) × (buffer_of (array_of false (all (longs3 1 2 3 ∷ longs3 4 5 6 ∷ []))) ≡ None)
-vec3_of_i64 = (refl, refl)
+vec3_of_i64 : buffer_of (longs3 1 2 3) ≡ Some (longs (1 ∷ 2 ∷ 3 ∷ []))
+vec3_of_i64 = refl
+
+array_of_vec3_of_i64 : buffer_of (array_of false (all (longs3 1 2 3 ∷ longs3 4 5 6 ∷ []))) ≡ Some (longs (1 ∷ 2 ∷ 3 ∷ 0 ∷ 4 ∷ 5 ∷ 6 ∷ 0 ∷ []))
+array_of_vec3_of_i64 = refl
+
+columns_of_vec3_of_i64 : buffer_of (matrix (all (longs3 1 2 3 ∷ longs3 4 5 6 ∷ []))) ≡ Some (longs (1 ∷ 2 ∷ 3 ∷ 0 ∷ 4 ∷ 5 ∷ 6 ∷ 0 ∷ []))
+columns_of_vec3_of_i64 = refl
+
+-- the elements of a runtime-sized array
+vec3_of_i64_from_64 : decode (longs (1 ∷ 2 ∷ 3 ∷ 0 ∷ 4 ∷ 5 ∷ 6 ∷ 0 ∷ [])) (array (vec 3 i64) None) ≡ Some (array_of true (all (longs3 1 2 3 ∷ longs3 4 5 6 ∷ [])))
+vec3_of_i64_from_64 = refl
+
+vec3_of_i64_behind_u32 : buffer_of (record_of (plain (u32 ∷ vec 3 i64 ∷ [])) (all (word 1 ∷ longs3 2 3 4 ∷ []))) ≡ Some (longs (1 ∷ 0 ∷ 0 ∷ 0 ∷ 2 ∷ 3 ∷ 4 ∷ 0 ∷ []))
+vec3_of_i64_behind_u32 = refl
+
+-- three numbers of kind u64
+abbrev naturals3 : ℕ → ℕ → ℕ → Val
+naturals3 a b c = vector (all (number kinds.u64 (pos a) ∷ number kinds.u64 (pos b) ∷ number kinds.u64 (pos c) ∷ []))
+
+u32_behind_vec3_of_u64 : buffer_of (record_of (plain (vec 3 u64 ∷ u32 ∷ [])) (all (naturals3 1 2 3 ∷ word 4 ∷ []))) ≡ Some (longs (1 ∷ 2 ∷ 3 ∷ 4 ∷ []))
+u32_behind_vec3_of_u64 = refl
 
 -- u32, @align(16) u32
 abbrev aligned : Ty
@@ -84,13 +104,17 @@ aligned_member = refl
 u32_behind_vec3 : buffer_of (record_of (plain (vec 3 u32 ∷ u32 ∷ [])) (all (words3 1 2 3 ∷ word 4 ∷ []))) ≡ Some (words (1 ∷ 2 ∷ 3 ∷ 4 ∷ []))
 u32_behind_vec3 = refl
 
--- @align(8) vec3<i64>, u32
-abbrev aligned_longs : Ty
-aligned_longs = struct [] (field (0 ∷ []) (vec 3 i64) None (Some 8) (field (1 ∷ []) u32 None None no_fields))
+-- vec3<i64> with an align attribute, u32
+abbrev aligned_longs : ℕ → Ty
+aligned_longs a = struct [] (field (0 ∷ []) (vec 3 i64) None (Some a) (field (1 ∷ []) u32 None None no_fields))
 
-aligned_vec3_of_i64 : buffer_of (record_of aligned_longs (all (longs3 1 2 3 ∷ word 4 ∷ []))) ≡ Some (longs (1 ∷ 2 ∷ 3 ∷ 4 ∷ []))
+vec3_of_i64_at_8 : buffer_of (record_of (aligned_longs 8) (all (longs3 1 2 3 ∷ word 4 ∷ []))) ≡ None
 unfolding lib.Count.ones
-aligned_vec3_of_i64 = refl
+vec3_of_i64_at_8 = refl
+
+vec3_of_i64_at_32 : buffer_of (record_of (aligned_longs 32) (all (longs3 1 2 3 ∷ word 4 ∷ []))) ≡ Some (longs (1 ∷ 2 ∷ 3 ∷ 4 ∷ []))
+unfolding lib.Count.ones
+vec3_of_i64_at_32 = refl
 
 -- atomic<i32>, array<u32>
 abbrev counter : Ty

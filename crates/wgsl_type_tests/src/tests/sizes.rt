@@ -139,7 +139,13 @@ fn matrices(rt: HostRuntime) {
         Some(32),
         true,
     );
-    assert_measures(&rt, matrix(&rt, alloc, 2, 3, Type::I64), None, None, false);
+    assert_measures(
+        &rt,
+        matrix(&rt, alloc, 2, 3, Type::I64),
+        Some(64),
+        Some(32),
+        true,
+    );
     assert_measures(
         &rt,
         matrix(&rt, alloc, 5, 2, Type::U32),
@@ -150,15 +156,35 @@ fn matrices(rt: HostRuntime) {
 }
 
 #[test]
-fn three_components_of_64_bits_have_no_alignment(rt: HostRuntime) {
+fn three_components_of_64_bit_integers_stand_at_multiples_of_32(rt: HostRuntime) {
     let alloc = rt.alloc();
-    assert_measures(&rt, vector(&rt, alloc, 3, Type::I64), Some(24), None, true);
+    let three = vector(&rt, alloc, 3, Type::I64);
+    assert_measures(&rt, three, Some(24), Some(32), true);
     let pair = array(&rt, alloc, vector(&rt, alloc, 3, Type::I64), Some(2));
-    assert_measures(&rt, pair, None, None, false);
-    let aligned = attributed(&rt, alloc, vector(&rt, alloc, 3, Type::I64), None, Some(8));
-    let last = plain(&rt, alloc, Type::U32);
-    let ty = of_both(&rt, alloc, aligned, last);
-    assert_measures(&rt, ty, Some(32), Some(8), true);
+    assert_measures(&rt, pair, Some(64), Some(32), true);
+    let padded = two(&rt, alloc, Type::U32, vector(&rt, alloc, 3, Type::I64));
+    assert_measures(&rt, padded, Some(64), Some(32), true);
+    let filled = two(&rt, alloc, vector(&rt, alloc, 3, Type::U64), Type::U32);
+    assert_measures(&rt, filled, Some(32), Some(32), true);
+    let floats = array(&rt, alloc, vector(&rt, alloc, 3, Type::F64), Some(2));
+    assert_measures(&rt, floats, None, None, false);
+}
+
+// A structure of three components of 64 bits with this alignment, and of a word.
+fn aligned_three(rt: &impl Abort, alloc: Global, align: u32) -> Type {
+    let three = vector(rt, alloc, 3, Type::I64);
+    let first = attributed(rt, alloc, three, None, Some(align));
+    let last = plain(rt, alloc, Type::U32);
+    of_both(rt, alloc, first, last)
+}
+
+#[test]
+fn an_alignment_of_three_64_bit_integers_is_a_multiple_of_32(rt: HostRuntime) {
+    let alloc = rt.alloc();
+    let ty = aligned_three(&rt, alloc, 8);
+    assert_measures(&rt, ty, Some(32), Some(8), false);
+    let ty = aligned_three(&rt, alloc, 32);
+    assert_measures(&rt, ty, Some(32), Some(32), true);
 }
 
 #[test]

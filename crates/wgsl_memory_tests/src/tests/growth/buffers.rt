@@ -1,7 +1,9 @@
 //! Buffers of values: want of memory is told as such, and never as no bytes or no value.
 
 use crate::tests::samples::{light, pair_value, storable};
+use std::alloc::{AllocError, Global};
 use wgsl_rules::{Ty, Type};
+use wgsl_samples::types;
 use wgsl_store::Buffers;
 use wgsl_values::Instance;
 
@@ -33,4 +35,23 @@ fn what_a_buffer_lays_out_wants_memory_or_is_whole(rt: HostRuntime) {
     let no_bool = answer_of!(&rt; Instance::from_buffer(alloc, &bytes, &Type::Bool));
     assert!(rt; no_bool.is_none());
     drop((light, ty, read, none, no_bool));
+}
+
+fn wide_array(alloc: Global) -> Result<Type, AllocError> {
+    types::array(alloc, types::vector(alloc, 3, Type::I64)?, Some(2))
+}
+
+#[test]
+fn a_buffer_of_wide_vectors_wants_memory_or_is_whole(rt: HostRuntime) {
+    let alloc = rt.alloc();
+    let ty = answer_of!(&rt; wide_array(alloc));
+    let mut bytes = [0u8; 64];
+    for (i, number) in [1u8, 2, 3, 0, 4, 5, 6, 0].iter().enumerate() {
+        bytes[i * 8] = *number;
+    }
+    let read = answer_of!(&rt; Instance::from_buffer(alloc, &bytes, &ty));
+    let read = storable(&rt, read.expect(&rt, "a value"));
+    let buffer = answer_of!(&rt; read.to_buffer(alloc));
+    assert!(rt; buffer.is_some_and(|buffer| buffer.as_slice() == bytes.as_slice()));
+    drop((ty, read));
 }
