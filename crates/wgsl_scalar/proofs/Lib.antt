@@ -1,6 +1,7 @@
-pub mod BitLaws
-pub mod CommonKinds
+pub mod FieldBits
+pub mod FieldLaws
 pub mod Quotients
-pub mod Ranges
 pub mod Words
 pub mod Wraps
+pub mod lemmas
+pub mod rows

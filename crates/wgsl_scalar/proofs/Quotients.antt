@@ -6,7 +6,7 @@ use Rattle.std.proofs.Math.Nat.{mul-suc}
 use Rattle.std.proofs.lemmas.Int.{ints, rem_below, unsigned_abs-mul}
 use Rattle.wgsl_scalar.specs.Arith.{cut_quotient, cut_remainder}
 use Rattle.wgsl_scalar.specs.Laws.{HasSignOf, Divides}
-use Rattle.wgsl_scalar.proofs.Ranges.{cut_remainder-is}
+use Rattle.wgsl_scalar.proofs.lemmas.Ranges.{cut_remainder-is}
 
 whole : (a p q : ℤ) → p ≡ q → a ≡ p +ℤ (a -ℤ q)
 whole a p q e = omega (arith, ints)

@@ -1,11 +1,14 @@
--- The laws of the definitions: the kind that two numbers have in common, the ring of a kind, and what
--- quotients and remainders are.
-use Rattle.std.specs.Prelude.{◌≡◌, ◌⊎◌, ◌<◌, ℤ, pos, ◌+ℤ◌, ◌*ℤ◌, int_lt, unsigned_abs, Ok, option_map}
+-- The laws of the definitions: the kind that two numbers have in common, the ring of a kind, what
+-- quotients and remainders are, bits in reverse, fields of bits and the first bit.
+use Rattle.std.specs.Prelude.{◌≡◌, ◌≢◌, ◌⊎◌, ◌<◌, ℕ, ℤ, pos, ◌+ℤ◌, ◌*ℤ◌, int_lt, unsigned_abs, Ok, option_map}
 use Rattle.wgsl_rules.specs.Conversion.{common_type}
-use Rattle.wgsl_rules.specs.Kinds.{Kind, wrap}
-use Rattle.wgsl_rules.specs.Values.{number, type_of_kind}
+use Rattle.wgsl_rules.specs.Kinds as kinds
+use Rattle.wgsl_rules.specs.Kinds.{Kind, InKind, wrap}
+use Rattle.wgsl_rules.specs.Values.{Val, number, type_of_kind, IsStorable}
 use Rattle.wgsl_scalar.specs.Arith.{sum_in, product_in}
+use Rattle.wgsl_scalar.specs.BitFields.{reversed, first_leading, extracted, inserted}
 use Rattle.wgsl_scalar.specs.Conversions.{common_kind}
+use Rattle.wgsl_scalar.specs.Counts.{leading_zeros}
 
 -- the kind that numbers of two kinds have in common is the common type of the two
 abbrev pub CommonKindsAreCommonTypes : Type 0
@@ -33,3 +36,20 @@ pub record Divides (a b q r : ℤ) : Type 0 where
   pub whole : a ≡ b *ℤ q +ℤ r
   pub nearer : unsigned_abs r < unsigned_abs b
   pub signed : HasSignOf r a
+
+-- ---- bits of an i32 or a u32
+
+-- bits that are reversed twice are as before
+abbrev pub ReversingTwiceChangesNothing : Type 0
+ReversingTwiceChangesNothing = (v w : Val) → IsStorable v → reversed v ≡ Ok w → reversed w ≡ Ok v
+
+-- a field that was extracted is inserted where it was
+abbrev pub InsertingBackChangesNothing : Type 0
+InsertingBackChangesNothing = (offset count : ℕ) (v w : Val) → IsStorable v → extracted offset count v ≡ Ok w → inserted offset count v w ≡ Ok v
+
+-- the place of the first 1 of a u32 and the count of zeros above it make 31
+abbrev pub LeadingBitAndZerosAddUp : Type 0
+LeadingBitAndZerosAddUp =
+    (z a b : ℤ) → InKind kinds.u32 z → z ≢ pos 0
+    → first_leading (number kinds.u32 z) ≡ Ok (number kinds.u32 a) → leading_zeros (number kinds.u32 z) ≡ Ok (number kinds.u32 b)
+    → a +ℤ b ≡ pos 31

@@ -1,5 +1,6 @@
 pub mod Answers
 pub mod Arith
+pub mod BitFields
 pub mod Bits
 pub mod Builtins
 pub mod Conversions

@@ -39,7 +39,7 @@ impl Kind {
         self == Kind::AbstractInt && !self.contains(n)
     }
 
-    #[tactic(auto, using(crate::proofs::Ranges::narrow))]
+    #[tactic(auto, using(crate::proofs::lemmas::Ranges::narrow))]
     fn sum(self, left: i128, right: i128) -> Result<LiteralInstance, Error>
         requires left { InKind (kind_of self) left }
         requires right { InKind (kind_of self) right }
@@ -52,7 +52,7 @@ impl Kind {
         Ok(self.wrap(sum))
     }
 
-    #[tactic(auto, using(crate::proofs::Ranges::narrow))]
+    #[tactic(auto, using(crate::proofs::lemmas::Ranges::narrow))]
     fn difference(self, left: i128, right: i128) -> Result<LiteralInstance, Error>
         requires left { InKind (kind_of self) left }
         requires right { InKind (kind_of self) right }
@@ -77,7 +77,7 @@ impl Kind {
     }
 
     /// The product in a kind whose products have at most 127 bits.
-    #[tactic(auto, using(crate::proofs::Ranges::product_fits))]
+    #[tactic(auto, using(crate::proofs::lemmas::Ranges::product_fits))]
     fn narrow_product(self, left: i128, right: i128) -> Result<LiteralInstance, Error>
         requires left { InKind (kind_of self) left }
         requires right { InKind (kind_of self) right }
@@ -106,7 +106,7 @@ impl Kind {
     }
 
     /// The quotient, where the divisor is not 0 and the quotient is of this kind or wraps.
-    #[tactic(auto, using(crate::proofs::Ranges::narrow))]
+    #[tactic(auto, using(crate::proofs::lemmas::Ranges::narrow))]
     fn known_quotient(self, left: i128, right: i128) -> Option<i128>
         requires left { InKind (kind_of self) left }
         requires right { InKind (kind_of self) right }
@@ -126,7 +126,7 @@ impl Kind {
 
     /// The quotient cut toward zero. Two numbers of 64 bits are divided as such, which is quicker.
     #[inline]
-    #[tactic(auto, using(crate::proofs::Ranges::narrow))]
+    #[tactic(auto, using(crate::proofs::lemmas::Ranges::narrow))]
     fn cut_quotient(self, left: i128, right: i128) -> i128
         requires left { InKind (kind_of self) left }
         requires right { InKind (kind_of self) right }
@@ -141,7 +141,7 @@ impl Kind {
 
     /// What the quotient cut toward zero leaves, found as that quotient is.
     #[inline]
-    #[tactic(auto, using(crate::proofs::Ranges::narrow))]
+    #[tactic(auto, using(crate::proofs::lemmas::Ranges::narrow))]
     fn cut_remainder(self, left: i128, right: i128) -> i128
         requires left { InKind (kind_of self) left }
         requires right { InKind (kind_of self) right }
@@ -161,7 +161,7 @@ impl Kind {
         self == Kind::I64 || self.contains(quotient)
     }
 
-    #[tactic(auto, using(crate::proofs::Ranges::narrow, crate::proofs::Ranges::remainder_in_kind))]
+    #[tactic(auto, using(crate::proofs::lemmas::Ranges::narrow, crate::proofs::lemmas::Ranges::remainder_in_kind))]
     fn remainder(
         self,
         left: i128,
@@ -182,7 +182,7 @@ impl Kind {
     }
 
     /// Whether the divisor is not 0, and the quotient is of this kind.
-    #[tactic(auto, using(crate::proofs::Ranges::narrow))]
+    #[tactic(auto, using(crate::proofs::lemmas::Ranges::narrow))]
     fn has_remainder(self, left: i128, right: i128) -> bool
         requires left { InKind (kind_of self) left }
         requires right { InKind (kind_of self) right }
@@ -227,7 +227,7 @@ fn unsigned_product(left: i128, right: i128) -> LiteralInstance
 impl LiteralInstance {
     /// The negative, which wraps; an unsigned number and a bool are refused by `Unary`
     /// (WGSL: arithmetic expressions, unary `-`).
-    #[tactic(auto, using(crate::proofs::Ranges::narrow))]
+    #[tactic(auto, using(crate::proofs::lemmas::Ranges::narrow))]
     pub fn op_neg(&self) -> Result<LiteralInstance, Error>
         ensures { Answers literal_of result (negation (literal_of self.now)) }
     {

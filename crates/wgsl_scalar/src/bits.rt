@@ -40,7 +40,7 @@ impl Kind {
 
 impl LiteralInstance {
     /// The number with each bit turned; a bool is refused by `Unary` (WGSL: bit expressions, `~`).
-    #[tactic(auto, using(crate::proofs::Ranges::narrow))]
+    #[tactic(auto, using(crate::proofs::lemmas::Ranges::narrow))]
     pub fn op_bitnot(&self) -> Result<LiteralInstance, Error>
         ensures { Answers literal_of result (complement (literal_of self.now)) }
     {

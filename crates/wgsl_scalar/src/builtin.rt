@@ -37,6 +37,8 @@ impl BuiltinName {
 pub enum BuiltinReason {
     /// An argument has to be a number, or a vector of numbers.
     NotNumber,
+    /// An argument has to be an `i32` or a `u32`, or a vector of them.
+    NotI32OrU32,
     /// An argument has to be a bool, or a vector of bools.
     NotBool,
     /// An argument has to be a vector.
@@ -64,6 +66,7 @@ impl BuiltinReason {
     pub fn as_str(self) -> &'static str {
         match self {
             BuiltinReason::NotNumber => "a number is expected",
+            BuiltinReason::NotI32OrU32 => "an i32 or a u32 is expected",
             BuiltinReason::NotBool => "a bool is expected",
             BuiltinReason::NotVector => "a vector is expected",
             BuiltinReason::NotMatrix => "a matrix is expected",

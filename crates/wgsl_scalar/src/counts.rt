@@ -21,7 +21,7 @@ use crate::kind::{Kind, low_32, low_64};
 use crate::literal::LiteralInstance;
 
 impl Kind {
-    fn leading_zeros(self, n: i128) -> u32
+    pub(crate) fn leading_zeros(self, n: i128) -> u32
         ensures value { pos result ≡ leading_zeros_in (kind_of self) n }
         ensures in_kind { InKind (kind_of self) (pos result) }
     {
@@ -41,7 +41,7 @@ impl Kind {
         }
     }
 
-    fn trailing_zeros(self, n: i128) -> u32
+    pub(crate) fn trailing_zeros(self, n: i128) -> u32
         ensures value { pos result ≡ trailing_zeros_in (kind_of self) n }
         ensures in_kind { InKind (kind_of self) (pos result) }
     {
@@ -55,7 +55,7 @@ impl Kind {
 impl LiteralInstance {
     /// The magnitude of a number, which wraps; a bool is refused by `Builtin`
     /// (WGSL: numeric builtin functions, `abs`).
-    #[tactic(auto, using(crate::proofs::Ranges::narrow))]
+    #[tactic(auto, using(crate::proofs::lemmas::Ranges::narrow))]
     pub fn abs(&self) -> Result<LiteralInstance, Error>
         ensures { Answers literal_of result (magnitude (literal_of self.now)) }
     {

@@ -94,7 +94,7 @@ impl Kind {
 
     /// The literal of this kind and number.
     #[inline(always)]
-    #[tactic(auto, using(crate::proofs::Ranges::wrap_same))]
+    #[tactic(auto, using(crate::proofs::lemmas::Ranges::wrap_same))]
     pub(crate) fn literal(self, n: i128) -> LiteralInstance
         requires { InKind (kind_of self) n }
         ensures { literal_of result ≡ number (kind_of self) n }

@@ -5,7 +5,15 @@ ghost use Rattle.std.specs.Prelude.{◌≡◌, ◌≢◌, ℤ, pos};
 ghost use Rattle.wgsl_rules.specs.Kinds as kinds;
 ghost use Rattle.wgsl_rules.specs.Kinds.{Kind};
 ghost use Rattle.wgsl_scalar.specs.Arith.{cut_quotient, cut_remainder};
-ghost use Rattle.wgsl_scalar.specs.Laws.{CommonKindsAreCommonTypes, Divides, GivesWrapped, IsRing};
+ghost use Rattle.wgsl_scalar.specs.Laws.{
+  CommonKindsAreCommonTypes,
+  Divides,
+  GivesWrapped,
+  InsertingBackChangesNothing,
+  IsRing,
+  LeadingBitAndZerosAddUp,
+  ReversingTwiceChangesNothing,
+};
 
 /// The kind that an operator takes both of its numbers to is the common type of the two, as
 /// `convert_ty` finds it (WGSL: conversion rank).
@@ -31,4 +39,23 @@ pub fn sums_and_products_wrap()
 pub fn quotients_and_remainders_divide()
     ensures divides { (a b : ℤ) → b ≢ pos 0 → Divides a b (cut_quotient a b) (cut_remainder a b) }
     ensures alone { (a b q r : ℤ) → b ≢ pos 0 → Divides a b q r → (q ≡ cut_quotient a b) × (r ≡ cut_remainder a b) }
+{}
+
+/// The bits of an `i32` or a `u32` that `reverse_bits` turns round twice are as before
+/// (WGSL: numeric builtin functions, `reverseBits`).
+pub fn reversing_twice_changes_nothing()
+    ensures { ReversingTwiceChangesNothing }
+{}
+
+/// A field that `extract_bits` gives of an `i32` or a `u32`, and that `insert_bits` puts back with the
+/// same offset and count, changes nothing (WGSL: numeric builtin functions, `extractBits` and
+/// `insertBits`).
+pub fn inserting_back_changes_nothing()
+    ensures { InsertingBackChangesNothing }
+{}
+
+/// What `first_leading_bit` and `count_leading_zeros` give of a `u32` other than 0 adds up to 31
+/// (WGSL: numeric builtin functions, `firstLeadingBit` and `countLeadingZeros`).
+pub fn leading_bit_and_zeros_add_up()
+    ensures { LeadingBitAndZerosAddUp }
 {}

@@ -7,6 +7,7 @@ mod builtin;
 mod conv;
 mod counts;
 mod error;
+mod fields;
 mod kind;
 mod laws;
 mod literal;
@@ -19,7 +20,8 @@ mod text;
 pub use builtin::{BuiltinName, BuiltinReason};
 pub use error::Error;
 pub use laws::{
-    common_kinds_are_common_types, kinds_are_rings, quotients_and_remainders_divide,
+    common_kinds_are_common_types, inserting_back_changes_nothing, kinds_are_rings,
+    leading_bit_and_zeros_add_up, quotients_and_remainders_divide, reversing_twice_changes_nothing,
     sums_and_products_wrap,
 };
 pub use literal::LiteralInstance;

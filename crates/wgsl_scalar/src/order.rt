@@ -93,7 +93,7 @@ impl LiteralInstance {
     }
 
     /// Why neither of both is the lesser, where they are no two numbers of one type.
-    fn why_unordered(&self, rhs: &LiteralInstance) -> BuiltinReason
+    pub(crate) fn why_unordered(&self, rhs: &LiteralInstance) -> BuiltinReason
         ensures { result ≡ why_unordered (literal_of self.now) (literal_of rhs.now) }
     {
         match self.both_bools(rhs) {
@@ -105,7 +105,7 @@ impl LiteralInstance {
     /// The lesser number, in the common type. Two bools are refused by `Builtin` with `NotNumber`; two
     /// that have no common type, and a number that does not fit it, with `NoCommonType`
     /// (WGSL: numeric builtin functions, `min`).
-    #[tactic(auto, using(crate::proofs::Ranges::lesser_in))]
+    #[tactic(auto, using(crate::proofs::lemmas::Ranges::lesser_in))]
     pub fn min(&self, rhs: &LiteralInstance) -> Result<LiteralInstance, Error>
         ensures value { Answers literal_of result (minimum (literal_of self.now) (literal_of rhs.now)) }
         ensures reason { IfErr result (λ e. builtin_reason_of e ≡ Some (why_unordered (literal_of self.now) (literal_of rhs.now))) }
@@ -118,7 +118,7 @@ impl LiteralInstance {
 
     /// The greater number, in the common type; refused as `min` is
     /// (WGSL: numeric builtin functions, `max`).
-    #[tactic(auto, using(crate::proofs::Ranges::greater_in))]
+    #[tactic(auto, using(crate::proofs::lemmas::Ranges::greater_in))]
     pub fn max(&self, rhs: &LiteralInstance) -> Result<LiteralInstance, Error>
         ensures value { Answers literal_of result (maximum (literal_of self.now) (literal_of rhs.now)) }
         ensures reason { IfErr result (λ e. builtin_reason_of e ≡ Some (why_unordered (literal_of self.now) (literal_of rhs.now))) }

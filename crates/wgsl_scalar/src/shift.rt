@@ -84,7 +84,7 @@ impl Kind {
         self.literal(self.floor(n, places))
     }
 
-    #[tactic(auto, using(crate::proofs::Ranges::floor_in, crate::proofs::Ranges::floor_far))]
+    #[tactic(auto, using(crate::proofs::lemmas::Ranges::floor_in, crate::proofs::lemmas::Ranges::floor_far))]
     fn floor(self, n: i128, places: u32) -> i128
         requires { InKind (kind_of self) n }
         ensures value { result ≡ floor_div n (2 ^ places) }

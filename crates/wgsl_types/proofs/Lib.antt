@@ -5,7 +5,6 @@ pub mod Atoms
 pub mod BitAnswers
 pub mod BitRows
 pub mod Bytes
-pub mod InKind
 pub mod Known
 pub mod Lifted
 pub mod LogicalAnswers

@@ -1,5 +1,4 @@
 pub mod Atomics
-pub mod BitFields
 pub mod BitFunctions
 pub mod Bitcast
 pub mod Late

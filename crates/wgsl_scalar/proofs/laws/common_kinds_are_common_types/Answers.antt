@@ -1,4 +1,4 @@
-use Rattle.wgsl_scalar.proofs.CommonKinds.{common_types}
+use Rattle.wgsl_scalar.proofs.lemmas.CommonKinds.{common_types}
 use Rattle.wgsl_scalar.proofs.laws.common_kinds_are_common_types.Goals as goal
 
 pub returns : goal.returns

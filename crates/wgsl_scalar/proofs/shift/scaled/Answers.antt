@@ -1,7 +1,7 @@
 use Rattle.std.specs.Int.{w128}
 use Rattle.std.proofs.lemmas.Int.{to_z-of_z}
 use Rattle.wgsl_scalar.specs.Literals.{kind_of}
-use Rattle.wgsl_scalar.proofs.Ranges.{scaled_fits, pow_is}
+use Rattle.wgsl_scalar.proofs.lemmas.Ranges.{scaled_fits, pow_is}
 use Rattle.wgsl_scalar.proofs.shift.scaled.Goals as goal
 
 pub strict_mul-requires : goal.strict_mul-requires

@@ -1,7 +1,7 @@
 use Rattle.std.proofs.Common.{rules}
 use Rattle.std.proofs.lemmas.Int.{to_z-of_z}
 use Rattle.wgsl_scalar.specs.Literals.{kind_of}
-use Rattle.wgsl_scalar.proofs.Ranges.{floor_far}
+use Rattle.wgsl_scalar.proofs.lemmas.Ranges.{floor_far}
 use Rattle.wgsl_scalar.proofs.kind.Kind.floor.Goals as goal
 
 pub returns-else-places-lt64-clause-value : goal.returns-else-places-lt64-clause-value

@@ -1,7 +1,7 @@
 use Rattle.std.proofs.Common.{rules}
 use Rattle.std.specs.Int.{w32, w64}
 use Rattle.std.proofs.lemmas.Int.{to_z-of_z}
-use Rattle.wgsl_scalar.proofs.BitLaws.{leading-bits}
+use Rattle.wgsl_scalar.proofs.lemmas.BitLaws.{leading-bits}
 use Rattle.wgsl_scalar.proofs.kind.Kind.leading_zeros.Goals as goal
 
 pub returns-in-32-clause-value : goal.returns-in-32-clause-value

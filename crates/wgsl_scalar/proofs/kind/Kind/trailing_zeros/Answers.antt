@@ -1,7 +1,7 @@
 use Rattle.std.proofs.Common.{rules}
 use Rattle.std.specs.Int.{w32, w64}
 use Rattle.std.proofs.lemmas.Int.{to_z-of_z}
-use Rattle.wgsl_scalar.proofs.BitLaws.{trailing-bits}
+use Rattle.wgsl_scalar.proofs.lemmas.BitLaws.{trailing-bits}
 use Rattle.wgsl_scalar.proofs.kind.Kind.trailing_zeros.Goals as goal
 
 pub returns-in-32-clause-value : goal.returns-in-32-clause-value

@@ -17,11 +17,11 @@ use Rattle.wgsl_scalar.specs.Bits.{bit, from_bits}
 use Rattle.wgsl_scalar.specs.Counts.{bit_length, bit_count, lowest_place}
 
 -- the low bits of a number are those of what is left of it
-bit_at-mod : (n m i : ℕ) → i < m → bit_at (n % 2 ^ m) i ≡ bit_at n i
+pub bit_at-mod : (n m i : ℕ) → i < m → bit_at (n % 2 ^ m) i ≡ bit_at n i
 bit_at-mod n m i h = sym (bit_at_cat_low (n / 2 ^ m) m (n % 2 ^ m) i h) ∙ ap (λ x. bit_at x i) (shr_split n m)
 
 -- a word of a number has its low bits
-bit_at-modulo : (w : Width) (z : ℤ) (i : ℕ) → i < bits w → bit_at (modulo z (2 ^ bits w)) i ≡ bit z i
+pub bit_at-modulo : (w : Width) (z : ℤ) (i : ℕ) → i < bits w → bit_at (modulo z (2 ^ bits w)) i ≡ bit z i
 bit_at-modulo w (pos a) i h = bit_at-mod a (bits w) i h
 bit_at-modulo w (negsuc a) i h =
     bit_at_not w (a % 2 ^ bits w) i (mod-lt a (pow_pos (bits w))) h ∙ ap (λ x. 1 - x) (bit_at-mod a (bits w) i h)
@@ -33,7 +33,7 @@ modulo_lt w (negsuc a) = omega (arith, mod-lt a (pow_pos (bits w)), pow_pos (bit
 -- ---- a number from its bits
 
 -- the number with the bits of n is what is left of n
-from_bits-bit_at : (w n : ℕ) → from_bits w (bit_at n) ≡ n % 2 ^ w
+pub from_bits-bit_at : (w n : ℕ) → from_bits w (bit_at n) ≡ n % 2 ^ w
 unfolding from_bits
 from_bits-bit_at zero n = sym (mod-one n)
 from_bits-bit_at (suc w) n =
@@ -43,7 +43,7 @@ from_bits-bit_at (suc w) n =
     ∙ sym (mod-pow-add n 1 w)
     ∙ ap (λ x. n % 2 ^ x) s
 
-from_bits-same : (w : ℕ) (f g : ℕ → ℕ) → ((i : ℕ) → i < w → f i ≡ g i) → from_bits w f ≡ from_bits w g
+pub from_bits-same : (w : ℕ) (f g : ℕ → ℕ) → ((i : ℕ) → i < w → f i ≡ g i) → from_bits w f ≡ from_bits w g
 unfolding from_bits
 from_bits-same zero f g h = refl
 from_bits-same (suc w) f g h =
@@ -55,7 +55,7 @@ mod-from_bits w n f h =
     sym (mod-mod n (2 ^ w)) ∙ ap (λ x. x % 2 ^ w) (sym (from_bits-bit_at w n) ∙ from_bits-same w (bit_at n) f h)
 
 -- a word whose low bits are these wraps to the number of the kind with these bits
-wrap-bits : (k : Kind) (n : ℕ) (f : ℕ → ℕ) → ((i : ℕ) → i < width k → bit_at n i ≡ f i) → wrap k (pos n) ≡ wrap k (pos (from_bits (width k) f))
+pub wrap-bits : (k : Kind) (n : ℕ) (f : ℕ → ℕ) → ((i : ℕ) → i < width k → bit_at n i ≡ f i) → wrap k (pos n) ≡ wrap k (pos (from_bits (width k) f))
 wrap-bits k n f h = ap (λ x. if is_signed k then as_signed (width k) x else pos x) (mod-from_bits (width k) n f h)
 
 width_le : (k : Kind) → width k ≤ 64
@@ -117,7 +117,7 @@ ones-bits w z =
     ∙ ones-mod (bits w) (modulo z (2 ^ bits w))
     ∙ bit_count-same (bits w) (bit_at (modulo z (2 ^ bits w))) (bit z) (λ i h. bit_at-modulo w z i h)
 
-bit_length-same : (w : ℕ) (f g : ℕ → ℕ) → ((i : ℕ) → i < w → f i ≡ g i) → bit_length w f ≡ bit_length w g
+pub bit_length-same : (w : ℕ) (f g : ℕ → ℕ) → ((i : ℕ) → i < w → f i ≡ g i) → bit_length w f ≡ bit_length w g
 unfolding bit_length
 bit_length-same zero f g h = refl
 bit_length-same (suc w) f g h =
@@ -147,7 +147,7 @@ all_bits w n m big b e =
     ]
 
 -- the length in bits, from the powers that the number lies between
-bit_length-is : (w n m : ℕ) → n < 2 ^ w → n < 2 ^ m → 2 ^ m ≤ 2 * n + 1 → m ≤ w → bit_length w (bit_at n) ≡ m
+pub bit_length-is : (w n m : ℕ) → n < 2 ^ w → n < 2 ^ m → 2 ^ m ≤ 2 * n + 1 → m ≤ w → bit_length w (bit_at n) ≡ m
 unfolding bit_length
 bit_length-is zero n m a b d e = omega arith
 bit_length-is (suc w) n m a b d e =
@@ -193,12 +193,17 @@ trailing-bits w z =
 
 -- ---- a count is at most the width
 
-bit_lt : (z : ℤ) (i : ℕ) → bit z i < 2
+pub bit_lt : (z : ℤ) (i : ℕ) → bit z i < 2
 bit_lt z i = modulo_two (floor_div z (2 ^ i))
   where
     modulo_two : (y : ℤ) → modulo y 2 < 2
     modulo_two (pos a) = mod-lt a (omega arith)
     modulo_two (negsuc a) = omega arith
+
+pub bit_length_le : (w : ℕ) (f : ℕ → ℕ) → bit_length w f ≤ w
+unfolding bit_length
+bit_length_le zero f = omega arith
+bit_length_le (suc w) f = grind (arith, bit_length_le w f)
 
 bit_count_le : (w : ℕ) (z : ℤ) → bit_count w (bit z) ≤ w
 unfolding bit_count
