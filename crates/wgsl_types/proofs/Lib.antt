@@ -5,6 +5,7 @@ pub mod Atoms
 pub mod BitAnswers
 pub mod BitRows
 pub mod Bytes
+pub mod Exchanges
 pub mod Known
 pub mod Lifted
 pub mod LogicalAnswers
@@ -13,6 +14,7 @@ pub mod MemoryAnswers
 pub mod NumericAnswers
 pub mod NumericRows
 pub mod Outcomes
+pub mod Overwrites
 pub mod PackingAnswers
 pub mod PackingRows
 pub mod Reversed
