@@ -5,6 +5,7 @@ pub mod Atoms
 pub mod BitAnswers
 pub mod BitRows
 pub mod Bytes
+pub mod Functions
 pub mod InKind
 pub mod Known
 pub mod Lifted
@@ -18,4 +19,5 @@ pub mod PackingAnswers
 pub mod PackingRows
 pub mod Reversed
 pub mod Stored
+pub mod Symmetric
 pub mod Words

@@ -2,6 +2,7 @@ pub mod Atomics
 pub mod BitFields
 pub mod BitFunctions
 pub mod Bitcast
+pub mod Functions
 pub mod Late
 pub mod Laws
 pub mod Lifts
