@@ -6,6 +6,7 @@ pub mod BitAnswers
 pub mod BitRows
 pub mod Bytes
 pub mod Exchanges
+pub mod Functions
 pub mod Known
 pub mod Lifted
 pub mod LogicalAnswers
@@ -19,4 +20,5 @@ pub mod PackingAnswers
 pub mod PackingRows
 pub mod Reversed
 pub mod Stored
+pub mod Symmetric
 pub mod Words
