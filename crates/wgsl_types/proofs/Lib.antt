@@ -5,6 +5,8 @@ pub mod Atoms
 pub mod BitAnswers
 pub mod BitRows
 pub mod Bytes
+pub mod Casts
+pub mod ComponentLemmas
 pub mod InKind
 pub mod Known
 pub mod Lifted
@@ -14,8 +16,12 @@ pub mod MemoryAnswers
 pub mod NumericAnswers
 pub mod NumericRows
 pub mod Outcomes
+pub mod PackedBytes
 pub mod PackingAnswers
 pub mod PackingRows
+pub mod Picked
 pub mod Reversed
+pub mod SoFar
 pub mod Stored
+pub mod Taken
 pub mod Words

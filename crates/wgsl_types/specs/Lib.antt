@@ -2,6 +2,7 @@ pub mod Atomics
 pub mod BitFields
 pub mod BitFunctions
 pub mod Bitcast
+pub mod Components
 pub mod Late
 pub mod Laws
 pub mod Lifts
