@@ -5,6 +5,8 @@ pub mod Atoms
 pub mod BitAnswers
 pub mod BitRows
 pub mod Bytes
+pub mod Casts
+pub mod ComponentLemmas
 pub mod Exchanges
 pub mod Functions
 pub mod Known
@@ -16,9 +18,13 @@ pub mod NumericAnswers
 pub mod NumericRows
 pub mod Outcomes
 pub mod Overwrites
+pub mod PackedBytes
 pub mod PackingAnswers
 pub mod PackingRows
+pub mod Picked
 pub mod Reversed
+pub mod SoFar
 pub mod Stored
 pub mod Symmetric
+pub mod Taken
 pub mod Words
