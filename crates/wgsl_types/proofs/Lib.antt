@@ -5,6 +5,10 @@ pub mod Atoms
 pub mod BitAnswers
 pub mod BitRows
 pub mod Bytes
+pub mod Casts
+pub mod ComponentLemmas
+pub mod Exchanges
+pub mod Functions
 pub mod Known
 pub mod Lifted
 pub mod LogicalAnswers
@@ -13,8 +17,14 @@ pub mod MemoryAnswers
 pub mod NumericAnswers
 pub mod NumericRows
 pub mod Outcomes
+pub mod Overwrites
+pub mod PackedBytes
 pub mod PackingAnswers
 pub mod PackingRows
+pub mod Picked
 pub mod Reversed
+pub mod SoFar
 pub mod Stored
+pub mod Symmetric
+pub mod Taken
 pub mod Words

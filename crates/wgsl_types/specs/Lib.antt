@@ -1,6 +1,9 @@
 pub mod Atomics
 pub mod BitFunctions
 pub mod Bitcast
+pub mod Changes
+pub mod Components
+pub mod Functions
 pub mod Late
 pub mod Laws
 pub mod Lifts

@@ -1,0 +1,20 @@
+-- The functions on literals that builtin functions take to values (WGSL: numeric builtin functions).
+use Rattle.wgsl_rules.specs.Refusals.{Outcome}
+use Rattle.wgsl_rules.specs.Values.{Val}
+use Rattle.wgsl_scalar.specs.Counts.{magnitude, sign, leading_zeros, one_bits, trailing_zeros}
+use Rattle.wgsl_scalar.specs.Order.{minimum, maximum}
+use Rattle.wgsl_types.specs.declared.lifts.BinaryFunction.{BinaryFunction}
+use Rattle.wgsl_types.specs.declared.lifts.BinaryFunction.TheVariants as between
+use Rattle.wgsl_types.specs.declared.lifts.UnaryFunction.{UnaryFunction}
+use Rattle.wgsl_types.specs.declared.lifts.UnaryFunction.TheVariants as before
+
+abbrev pub unary_value : UnaryFunction → Val → Outcome Val
+unary_value before.Abs = magnitude
+unary_value before.Sign = sign
+unary_value before.CountLeadingZeros = leading_zeros
+unary_value before.CountOneBits = one_bits
+unary_value before.CountTrailingZeros = trailing_zeros
+
+abbrev pub binary_value : BinaryFunction → Val → Val → Outcome Val
+binary_value between.Min = minimum
+binary_value between.Max = maximum
