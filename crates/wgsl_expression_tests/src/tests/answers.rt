@@ -9,9 +9,9 @@ use std::fmt::Display;
 use std::process::Abort;
 use wgsl_ops::{InstanceOperators, Operators};
 use wgsl_rules::BinaryOperator::{
-    Addition, BitwiseAnd, BitwiseOr, BitwiseXor, Division, Equality, GreaterThan,
-    GreaterThanEqual, Inequality, LessThan, LessThanEqual, Multiplication, Remainder, ShiftLeft,
-    ShiftRight, ShortCircuitAnd, ShortCircuitOr, Subtraction,
+    Addition, BitwiseAnd, BitwiseOr, BitwiseXor, Division, Equality, GreaterThan, GreaterThanEqual,
+    Inequality, LessThan, LessThanEqual, Multiplication, Remainder, ShiftLeft, ShiftRight,
+    ShortCircuitAnd, ShortCircuitOr, Subtraction,
 };
 use wgsl_rules::UnaryOperator::{
     AddressOf, BitwiseComplement, Indirection, LogicalNegation, Negation,

@@ -144,11 +144,7 @@ fn reference() -> RefInstance {
 }
 
 /// The value.
-pub(super) fn make(
-    rt: &impl Abort,
-    alloc: Global,
-    sample: Sample,
-) -> Result<Instance, AllocError> {
+pub(super) fn make(rt: &impl Abort, alloc: Global, sample: Sample) -> Result<Instance, AllocError> {
     match sample {
         Sample::One(literal) => Ok(Instance::from(literal)),
         Sample::Two(literals) => Ok(Instance::from(vector(rt, alloc, &literals)?)),

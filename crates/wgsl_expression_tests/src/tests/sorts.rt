@@ -4,14 +4,14 @@ use crate::tests::answers::{assert_answer, joined, turned};
 use crate::tests::samples::Sample;
 use std::alloc::Global;
 use std::process::Abort;
+use wgsl_rules::BinaryOperator;
 use wgsl_rules::BinaryOperator::{
-    Addition, BitwiseAnd, BitwiseOr, BitwiseXor, Division, Equality, GreaterThan,
-    GreaterThanEqual, Inequality, LessThan, LessThanEqual, Multiplication, Remainder, ShiftLeft,
-    ShiftRight, ShortCircuitAnd, ShortCircuitOr, Subtraction,
+    Addition, BitwiseAnd, BitwiseOr, BitwiseXor, Division, Equality, GreaterThan, GreaterThanEqual,
+    Inequality, LessThan, LessThanEqual, Multiplication, Remainder, ShiftLeft, ShiftRight,
+    ShortCircuitAnd, ShortCircuitOr, Subtraction,
 };
 use wgsl_rules::ShaderStage::{Const, Exec, Override};
 use wgsl_rules::UnaryOperator::{BitwiseComplement, LogicalNegation, Negation};
-use wgsl_rules::BinaryOperator;
 use wgsl_scalar::LiteralInstance::U32;
 
 const OPERATORS: [BinaryOperator; 18] = [

@@ -69,24 +69,120 @@ fn address(
 
 /// A reference of u32 or of a vector of them: the cell, the name of a member, indices, the count of components, the
 /// space and the access; and the text of the answer.
-type Row = (Sample, &'static str, &'static [usize], u8, AddressSpace, AccessMode, &'static str);
+type Row = (
+    Sample,
+    &'static str,
+    &'static [usize],
+    u8,
+    AddressSpace,
+    AccessMode,
+    &'static str,
+);
 
 #[test]
 fn components_of_vectors_have_no_address(rt: HostRuntime) {
     let alloc = rt.alloc();
     let rows: [Row; 12] = [
-        (Sample::Structure, "b", &[0], 0, Storage, ReadWrite, "PtrVecComp"),
-        (Sample::Structure, "b", &[0], 0, Storage, Write, "PtrVecComp"),
-        (Sample::Structure, "b", &[], 3, Storage, ReadWrite, "ptr<storage, vec3<u32>, read_write>"),
-        (Sample::Structure, "b", &[], 3, Storage, Write, "ptr<storage, vec3<u32>, write>"),
-        (Sample::Structure, "a", &[], 0, Storage, ReadWrite, "ptr<storage, u32, read_write>"),
-        (Sample::Structure, "b", &[0], 0, Handle, ReadWrite, "PtrHandle"),
-        (Sample::Structure, "b", &[], 3, Handle, ReadWrite, "PtrHandle"),
-        (Sample::Matrix, "", &[1, 0], 0, Storage, ReadWrite, "PtrVecComp"),
-        (Sample::Matrix, "", &[1], 2, Storage, ReadWrite, "ptr<storage, vec2<u32>, read_write>"),
-        (Sample::Array, "", &[1], 0, Storage, ReadWrite, "ptr<storage, u32, read_write>"),
+        (
+            Sample::Structure,
+            "b",
+            &[0],
+            0,
+            Storage,
+            ReadWrite,
+            "PtrVecComp",
+        ),
+        (
+            Sample::Structure,
+            "b",
+            &[0],
+            0,
+            Storage,
+            Write,
+            "PtrVecComp",
+        ),
+        (
+            Sample::Structure,
+            "b",
+            &[],
+            3,
+            Storage,
+            ReadWrite,
+            "ptr<storage, vec3<u32>, read_write>",
+        ),
+        (
+            Sample::Structure,
+            "b",
+            &[],
+            3,
+            Storage,
+            Write,
+            "ptr<storage, vec3<u32>, write>",
+        ),
+        (
+            Sample::Structure,
+            "a",
+            &[],
+            0,
+            Storage,
+            ReadWrite,
+            "ptr<storage, u32, read_write>",
+        ),
+        (
+            Sample::Structure,
+            "b",
+            &[0],
+            0,
+            Handle,
+            ReadWrite,
+            "PtrHandle",
+        ),
+        (
+            Sample::Structure,
+            "b",
+            &[],
+            3,
+            Handle,
+            ReadWrite,
+            "PtrHandle",
+        ),
+        (
+            Sample::Matrix,
+            "",
+            &[1, 0],
+            0,
+            Storage,
+            ReadWrite,
+            "PtrVecComp",
+        ),
+        (
+            Sample::Matrix,
+            "",
+            &[1],
+            2,
+            Storage,
+            ReadWrite,
+            "ptr<storage, vec2<u32>, read_write>",
+        ),
+        (
+            Sample::Array,
+            "",
+            &[1],
+            0,
+            Storage,
+            ReadWrite,
+            "ptr<storage, u32, read_write>",
+        ),
         (u2(1, 2), "", &[1], 0, Storage, Write, "PtrVecComp"),
-        (u2(1, 2), "", &[], 2, Storage, Write, "ptr<storage, vec2<u32>, write>"),
+        (
+            u2(1, 2),
+            "",
+            &[],
+            2,
+            Storage,
+            Write,
+            "ptr<storage, vec2<u32>, write>",
+        ),
     ];
     for (row, (cell, name, indices, components, space, access, wanted)) in rows.iter().enumerate() {
         let view = again!(&rt; view(alloc, name, indices));
@@ -107,7 +203,13 @@ fn components_of_a_vector_that_has_no_bytes_have_no_address(rt: HostRuntime) {
     let ty = again!(&rt; ty(alloc, 2, Type::Bool));
     let whole = RefInstance::from_parts(0, MemView::Whole, ty, Storage, ReadWrite);
     let answer = address(&rt, alloc, b2(true, false), whole);
-    assert_answer(&rt, alloc, 1, answer, "ptr<storage, vec2<bool>, read_write>");
+    assert_answer(
+        &rt,
+        alloc,
+        1,
+        answer,
+        "ptr<storage, vec2<bool>, read_write>",
+    );
 }
 
 #[test]

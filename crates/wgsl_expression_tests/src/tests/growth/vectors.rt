@@ -63,7 +63,13 @@ fn a_vector_and_a_scalar_have_a_common_type_first(rt: HostRuntime) {
         (Addition, Const, n2(1, 2), U32(3), "vec2(4u, 5u)"),
         (Addition, Const, i2(1, 2), U32(3), "Binary + vec2<i32>, u32"),
         (Subtraction, Const, i2(1, 5), I32(3), "vec2(-2i, 2i)"),
-        (Subtraction, Const, i2(1, 5), AbstractInt(3), "vec2(-2i, 2i)"),
+        (
+            Subtraction,
+            Const,
+            i2(1, 5),
+            AbstractInt(3),
+            "vec2(-2i, 2i)",
+        ),
         (Multiplication, Const, u2(1, 5), U32(3), "vec2(3u, 15u)"),
         (Division, Const, i2(7, -7), I32(2), "vec2(3i, -3i)"),
         (Division, Exec, n2(7, 8), I32(0), "vec2(7i, 8i)"),
@@ -72,7 +78,13 @@ fn a_vector_and_a_scalar_have_a_common_type_first(rt: HostRuntime) {
         (Remainder, Const, n2(7, 8), I32(3), "vec2(1i, 2i)"),
         (Remainder, Const, i2(7, 8), I32(0), "RemZeroDiv"),
         (Remainder, Override, i2(7, 8), I32(0), "vec2(0i, 0i)"),
-        (Addition, Const, i2(7, 8), AbstractInt(4294967295), "Binary + vec2<i32>, AbstractInt"),
+        (
+            Addition,
+            Const,
+            i2(7, 8),
+            AbstractInt(4294967295),
+            "Binary + vec2<i32>, AbstractInt",
+        ),
     ];
     let alloc = rt.alloc();
     for (row, (operator, stage, vector, scalar, wanted)) in rows.iter().enumerate() {
@@ -89,10 +101,28 @@ fn a_scalar_and_a_vector_have_a_common_type_first(rt: HostRuntime) {
         (Addition, Const, U32(3), n2(1, 2), "vec2(4u, 5u)"),
         // a sum and a product are those of the vector and the scalar
         (Addition, Const, U32(2), i2(1, 2), "Binary + vec2<i32>, u32"),
-        (Multiplication, Const, U32(2), i2(1, 2), "Binary * vec2<i32>, u32"),
-        (Subtraction, Const, U32(2), i2(1, 2), "Binary - u32, vec2<i32>"),
+        (
+            Multiplication,
+            Const,
+            U32(2),
+            i2(1, 2),
+            "Binary * vec2<i32>, u32",
+        ),
+        (
+            Subtraction,
+            Const,
+            U32(2),
+            i2(1, 2),
+            "Binary - u32, vec2<i32>",
+        ),
         (Division, Const, U32(2), i2(1, 2), "Binary / u32, vec2<i32>"),
-        (Remainder, Const, U32(2), i2(1, 2), "Binary % u32, vec2<i32>"),
+        (
+            Remainder,
+            Const,
+            U32(2),
+            i2(1, 2),
+            "Binary % u32, vec2<i32>",
+        ),
         (Subtraction, Const, I32(3), i2(1, 5), "vec2(2i, -2i)"),
         (Multiplication, Const, I32(3), n2(1, 5), "vec2(3i, 15i)"),
         (Division, Const, I32(7), i2(2, -2), "vec2(3i, -3i)"),
@@ -132,7 +162,12 @@ fn dot_products(rt: HostRuntime) {
         (Const, u3(1, 2, 3), u3(4, 5, 6), "32u"),
         (Const, n2(9223372036854775807, 1), n2(1, 1), "AddOverflow"),
         (Const, n2(9223372036854775807, 1), n2(2, 1), "MulOverflow"),
-        (Const, u2(1, 2), u3(1, 2, 3), "CompwiseBinary vec2<u32>, vec3<u32>"),
+        (
+            Const,
+            u2(1, 2),
+            u3(1, 2, 3),
+            "CompwiseBinary vec2<u32>, vec3<u32>",
+        ),
         (Const, i2(1, 2), u2(1, 2), "Binary * i32, u32"),
         (Const, b2(true, true), b2(true, true), "Binary * bool, bool"),
     ];
@@ -149,9 +184,15 @@ fn operators_of_two_vectors(rt: HostRuntime) {
     let left = made_vector(&rt, alloc, i2(12, 10));
     let right = made_vector(&rt, alloc, i2(10, 5));
     let answers = [
-        (answered!(left.op_add(alloc, &right, Const)), "vec2(22i, 15i)"),
+        (
+            answered!(left.op_add(alloc, &right, Const)),
+            "vec2(22i, 15i)",
+        ),
         (answered!(left.op_sub(alloc, &right, Const)), "vec2(2i, 5i)"),
-        (answered!(left.op_mul(alloc, &right, Const)), "vec2(120i, 50i)"),
+        (
+            answered!(left.op_mul(alloc, &right, Const)),
+            "vec2(120i, 50i)",
+        ),
         (answered!(left.op_div(alloc, &right, Const)), "vec2(1i, 2i)"),
         (answered!(left.op_rem(alloc, &right, Const)), "vec2(2i, 0i)"),
         (answered!(left.op_eq(alloc, &right)), "vec2(false, false)"),
@@ -166,8 +207,14 @@ fn operators_of_two_vectors(rt: HostRuntime) {
         (answered!(left.op_neg(alloc)), "vec2(-12i, -10i)"),
         (answered!(left.op_bitnot(alloc)), "vec2(-13i, -11i)"),
         (answered!(left.op_not(alloc)), "Unary ! i32"),
-        (answered!(left.op_shl(alloc, &right, Const)), "Binary << i32, i32"),
-        (answered!(left.op_shr(alloc, &right, Const)), "Binary >> i32, i32"),
+        (
+            answered!(left.op_shl(alloc, &right, Const)),
+            "Binary << i32, i32",
+        ),
+        (
+            answered!(left.op_shr(alloc, &right, Const)),
+            "Binary >> i32, i32",
+        ),
     ];
     drop((left, right));
     for (row, (answer, wanted)) in answers.into_iter().enumerate() {
