@@ -24,6 +24,7 @@ macro_rules! answered {
 }
 
 mod answers;
+mod atomics;
 mod builtins;
 mod counters;
 mod growth;

@@ -4,7 +4,7 @@ ghost use Rattle.std.specs.Prelude.{IfOk};
 ghost use Rattle.wgsl_rules.specs.Values.{IsStorable, IsWellFormed};
 ghost use Rattle.wgsl_values.specs.View.{value_of, mat_view, vec_view};
 
-use crate::tests::counters::{counters, flagged};
+use crate::tests::counters::{counters, flagged, totals};
 use std::alloc::{AllocError, Global};
 use std::process::Abort;
 use wgsl_rules::{AccessMode, AddressSpace, Type};
@@ -40,6 +40,8 @@ pub(super) enum Sample {
     Reference,
     /// The atomic of the number, which is an i32 or a u32.
     Atomic(LiteralInstance),
+    /// array(atomic<i32>(1i), atomic<i32>(-2i), atomic<i32>(3i)), which is runtime-sized where that is true.
+    Totals(bool),
     /// A structure of atomics, the second member a runtime-sized array:
     /// Counters(atomic<u32>(7u), array(atomic<i32>(1i), atomic<i32>(-2i), atomic<i32>(3i)))
     Counters,
@@ -218,6 +220,9 @@ pub(super) fn make(rt: &impl Abort, alloc: Global, sample: Sample) -> Result<Ins
         Sample::Pointer => Ok(Instance::from(PtrInstance::from(reference()))),
         Sample::Reference => Ok(Instance::from(reference())),
         Sample::Atomic(number) => Ok(Instance::from(atomic(rt, alloc, number)?)),
+        Sample::Totals(runtime_sized) => {
+            Ok(Instance::from(totals(rt, alloc, &[1, -2, 3], runtime_sized)?))
+        }
         Sample::Counters => counters(rt, alloc, 7, &[1, -2, 3]),
         Sample::Flagged => flagged(rt, alloc, 7, &[1, -2, 3]),
         Sample::Deferred => Ok(Instance::from(Type::U32)),
