@@ -21,6 +21,9 @@ use wgsl_types::{
 };
 use wgsl_values::{Instance, MemView, PtrInstance, RefInstance};
 
+mod lists;
+mod memory;
+mod plain;
 mod sorts;
 
 /// A change of an atomic.
