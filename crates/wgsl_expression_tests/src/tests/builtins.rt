@@ -5,9 +5,10 @@ ghost use Rattle.wgsl_values.specs.View.{value_of};
 
 use crate::tests::answers::assert_answer;
 use crate::tests::samples::{Sample, made};
-use std::alloc::Global;
+use std::alloc::{AllocError, Global};
 use std::process::Abort;
 use wgsl_rules::{ShaderStage, Type};
+use wgsl_samples::types::vector;
 use wgsl_scalar::Error;
 use wgsl_types::{
     abs, all, any, bitcast_t, clamp, countLeadingZeros, countOneBits, countTrailingZeros, dot,
@@ -210,18 +211,54 @@ pub(super) fn assert_inserted(
     assert_answer(rt, alloc, row, answer, wanted);
 }
 
-/// Asserts the text of the value of the type with the bytes of the other; the type is taken as a template.
+/// The scalar of a cast's template.
+#[derive(Clone, Copy, Debug, PartialEq, Eq)]
+pub(super) enum Word {
+    Signed,
+    Unsigned,
+}
+
+fn scalar_type(word: Word) -> Type {
+    match word {
+        Word::Signed => Type::I32,
+        Word::Unsigned => Type::U32,
+    }
+}
+
+/// The type of vectors of so many of the scalar; the scalar itself for 0.
+fn template(alloc: Global, count: u8, word: Word) -> Result<Type, AllocError> {
+    if count == 0 {
+        Ok(scalar_type(word))
+    } else {
+        vector(alloc, count, scalar_type(word))
+    }
+}
+
+/// Asserts the text of the value with the bytes of the other: of the scalar, or of a vector of so many where that is
+/// not 0.
 pub(super) fn assert_cast(
     rt: &impl Abort,
     alloc: Global,
     row: usize,
-    template: &Type,
+    (count, word): (u8, Word),
     e: Sample,
     wanted: &str,
 ) {
-    assert!(rt; is_bitcast_target(template));
+    let template = again!(rt; template(alloc, count, word));
+    assert!(rt; is_bitcast_target(&template));
     let e = made(rt, alloc, e);
-    let answer = answered!(bitcast_t(alloc, template, &e));
-    drop(e);
+    let answer = answered!(bitcast_t(alloc, &template, &e));
+    drop((template, e));
     assert_answer(rt, alloc, row, answer, wanted);
+}
+
+pub(super) fn assert_casts(
+    rt: &impl Abort,
+    alloc: Global,
+    word: Word,
+    rows: &[(u8, Sample, &str)],
+) {
+    for (row, (count, e, wanted)) in rows.iter().enumerate() {
+        assert_cast(rt, alloc, row, (*count, word), *e, wanted);
+    }
 }

@@ -1,9 +1,10 @@
 //! Long lists of atomics, writes and reads through overlapping references, against a plain memory of words: in a cell
 //! of bytes, and in one whose type has no layout.
 
+use crate::tests::atomics::Change;
+use crate::tests::atomics::calls::{changed, compared, loaded, stored};
 use crate::tests::atomics::memory::{Memory, at, pointer};
 use crate::tests::atomics::plain::{Given, Numbers, Plain, number};
-use crate::tests::atomics::{Change, changed, compared, loaded, stored};
 use crate::tests::counters::{counters, flagged, totals};
 use crate::tests::samples::{Sample, atomic, made};
 use std::alloc::Global;

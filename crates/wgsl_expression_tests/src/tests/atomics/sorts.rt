@@ -1,7 +1,8 @@
 //! Values that are no pointers: each builtin function of memory refuses them, and changes nothing.
 
 use crate::tests::atomics::OnMemory::{CompareExchange, Length, Load, Store};
-use crate::tests::atomics::{Change, OnMemory, assert_no_pointer};
+use crate::tests::atomics::steps::assert_no_pointer;
+use crate::tests::atomics::{Change, OnMemory};
 use crate::tests::samples::{Sample, b, i2, n, u};
 use wgsl_scalar::LiteralInstance::I32;
 

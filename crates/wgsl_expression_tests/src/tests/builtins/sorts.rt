@@ -1,11 +1,13 @@
 //! Arguments of the sorts that builtin functions do not take: each is refused, at each place.
 
+use crate::tests::builtins::Word::{Signed, Unsigned};
 use crate::tests::builtins::{
     One, Three, Two, assert_cast, assert_inserted, assert_one, assert_three, assert_two,
 };
 use crate::tests::samples::{Sample, u};
+use std::alloc::Global;
+use std::process::Abort;
 use wgsl_rules::ShaderStage::{Const, Exec};
-use wgsl_rules::Type;
 use wgsl_scalar::LiteralInstance::I32;
 
 const EACH_OF_ONE: [One; 17] = [
@@ -37,7 +39,9 @@ const EACH_OF_TWO: [Two; 6] = [
     Two::Dot4I8Packed,
 ];
 
-/// A value of each sort that has neither numbers nor bools as its components, but for matrices.
+const MATRICES: [Sample; 2] = [Sample::Matrix, Sample::Tall];
+
+/// A value of each sort beside numbers, bools, vectors and matrices.
 const OTHERS: [Sample; 6] = [
     Sample::Array,
     Sample::Structure,
@@ -51,12 +55,22 @@ const OTHERS: [Sample; 6] = [
 fn functions_of_one_value_refuse_other_sorts(rt: HostRuntime) {
     let alloc = rt.alloc();
     for function in EACH_OF_ONE {
-        for other in OTHERS {
-            assert_one(&rt, alloc, 0, function, other, "Builtin");
+        for (row, other) in OTHERS.iter().enumerate() {
+            assert_one(&rt, alloc, row, function, *other, "Builtin");
         }
         if function != One::Transpose {
-            assert_one(&rt, alloc, 1, function, Sample::Matrix, "Builtin");
+            assert_one(&rt, alloc, 6, function, Sample::Matrix, "Builtin");
         }
+    }
+}
+
+/// Asserts that the function refuses the value at each place.
+fn assert_refused_by_two(rt: &impl Abort, alloc: Global, function: Two, other: Sample) {
+    for (row, arguments) in [(other, u(1)), (u(1), other), (other, other)]
+        .iter()
+        .enumerate()
+    {
+        assert_two(rt, alloc, row, function, *arguments, "Builtin");
     }
 }
 
@@ -64,10 +78,11 @@ fn functions_of_one_value_refuse_other_sorts(rt: HostRuntime) {
 fn functions_of_two_values_refuse_other_sorts(rt: HostRuntime) {
     let alloc = rt.alloc();
     for function in EACH_OF_TWO {
-        for other in [Sample::Matrix, Sample::Tall].iter().chain(&OTHERS) {
-            assert_two(&rt, alloc, 0, function, (*other, u(1)), "Builtin");
-            assert_two(&rt, alloc, 1, function, (u(1), *other), "Builtin");
-            assert_two(&rt, alloc, 2, function, (*other, *other), "Builtin");
+        for other in OTHERS {
+            assert_refused_by_two(&rt, alloc, function, other);
+        }
+        for other in MATRICES {
+            assert_refused_by_two(&rt, alloc, function, other);
         }
     }
 }
@@ -77,9 +92,14 @@ fn functions_of_three_values_refuse_other_sorts(rt: HostRuntime) {
     let alloc = rt.alloc();
     for function in [Three::Clamp, Three::ExtractBits, Three::Select] {
         for other in OTHERS {
-            assert_three(&rt, alloc, 0, function, (other, u(1), u(1)), "Builtin");
-            assert_three(&rt, alloc, 1, function, (u(1), other, u(1)), "Builtin");
-            assert_three(&rt, alloc, 2, function, (u(1), u(1), other), "Builtin");
+            let places = [
+                (other, u(1), u(1)),
+                (u(1), other, u(1)),
+                (u(1), u(1), other),
+            ];
+            for (row, arguments) in places.iter().enumerate() {
+                assert_three(&rt, alloc, row, function, *arguments, "Builtin");
+            }
         }
     }
 }
@@ -88,19 +108,25 @@ fn functions_of_three_values_refuse_other_sorts(rt: HostRuntime) {
 fn inserted_bits_are_of_no_other_sort(rt: HostRuntime) {
     let alloc = rt.alloc();
     for other in OTHERS {
-        assert_inserted(&rt, alloc, 0, (other, u(1)), (u(1), u(1)), "Builtin");
-        assert_inserted(&rt, alloc, 1, (u(1), other), (u(1), u(1)), "Builtin");
-        assert_inserted(&rt, alloc, 2, (other, other), (u(1), u(1)), "Builtin");
-        assert_inserted(&rt, alloc, 3, (u(1), u(1)), (other, u(1)), "Builtin");
-        assert_inserted(&rt, alloc, 4, (u(1), u(1)), (u(1), other), "Builtin");
+        let places = [
+            ((other, u(1)), (u(1), u(1))),
+            ((u(1), other), (u(1), u(1))),
+            ((other, other), (u(1), u(1))),
+            ((u(1), u(1)), (other, u(1))),
+            ((u(1), u(1)), (u(1), other)),
+        ];
+        for (row, (values, field)) in places.iter().enumerate() {
+            assert_inserted(&rt, alloc, row, *values, *field, "Builtin");
+        }
     }
 }
 
 #[test]
 fn other_sorts_have_no_bytes_of_a_number(rt: HostRuntime) {
     let alloc = rt.alloc();
-    for other in OTHERS {
-        assert_cast(&rt, alloc, 0, &Type::U32, other, "Builtin");
-        assert_cast(&rt, alloc, 1, &Type::I32, other, "Builtin");
+    for (row, other) in OTHERS.iter().enumerate() {
+        for template in [(0, Signed), (0, Unsigned), (2, Signed), (4, Unsigned)] {
+            assert_cast(&rt, alloc, row, template, *other, "Builtin");
+        }
     }
 }

@@ -5,4 +5,5 @@ mod changes;
 mod exchange;
 mod loads;
 mod places;
+mod sequences;
 mod stores;

@@ -1,51 +1,38 @@
 //! Values with the bytes of others.
 
-use crate::tests::builtins::assert_cast;
+use crate::tests::builtins::Word::{Signed, Unsigned};
+use crate::tests::builtins::assert_casts;
 use crate::tests::samples::{Sample, b, b2, i, i2, i3, l, l2, n, n2, n3, u, u2, u4};
-use std::alloc::Global;
-use std::process::Abort;
-use wgsl_rules::Type;
-use wgsl_samples::types::vector;
 use wgsl_scalar::LiteralInstance::U64;
 
 #[test]
-fn values_with_the_bytes_of_scalars(rt: HostRuntime) {
-    let alloc = rt.alloc();
+fn signed_numbers_with_the_bytes_of_others(rt: HostRuntime) {
     let rows = [
-        (Type::U32, i(-1), "4294967295u"),
-        (Type::I32, u(4294967295), "-1i"),
-        (Type::I32, i(-1), "-1i"),
-        (Type::U32, n(4294967295), "4294967295u"),
-        (Type::I32, n(-1), "-1i"),
-        (Type::I32, n(4294967295), "ConvOverflow 4294967295, i32"),
-        (Type::U32, n(-1), "ConvOverflow -1, u32"),
+        (0, u(4294967295), "-1i"),
+        (0, i(-1), "-1i"),
+        (0, n(-1), "-1i"),
+        (0, n(4294967295), "ConvOverflow 4294967295, i32"),
         // out of range before unequal lengths
-        (Type::I32, n2(1, 4294967295), "ConvOverflow 4294967295, i32"),
-        (Type::I32, n2(1, 2), "Builtin"),
-        (Type::I32, u2(1, 2), "Builtin"),
-        (Type::U32, l(-1), "Builtin"),
-        (Type::U32, Sample::One(U64(1)), "Builtin"),
-        (Type::U32, b(true), "Builtin"),
-        (Type::U32, Sample::Matrix, "Builtin"),
+        (0, n2(1, 4294967295), "ConvOverflow 4294967295, i32"),
+        (0, n2(1, 2), "Builtin"),
+        (0, u2(1, 2), "Builtin"),
+        (0, b(true), "Builtin"),
     ];
-    for (row, (template, e, wanted)) in rows.iter().enumerate() {
-        assert_cast(&rt, alloc, row, template, *e, wanted);
-    }
+    assert_casts(&rt, rt.alloc(), Signed, &rows);
 }
 
-/// Asserts casts to vectors of so many i32, or u32.
-fn assert_casts_to_vectors(
-    rt: &impl Abort,
-    alloc: Global,
-    signed: bool,
-    rows: &[(u8, Sample, &str)],
-) {
-    for (row, (count, e, wanted)) in rows.iter().enumerate() {
-        let scalar = || if signed { Type::I32 } else { Type::U32 };
-        let template = again!(rt; vector(alloc, *count, scalar()));
-        assert_cast(rt, alloc, row, &template, *e, wanted);
-        drop(template);
-    }
+#[test]
+fn unsigned_numbers_with_the_bytes_of_others(rt: HostRuntime) {
+    let rows = [
+        (0, i(-1), "4294967295u"),
+        (0, n(4294967295), "4294967295u"),
+        (0, n(-1), "ConvOverflow -1, u32"),
+        (0, n(4294967296), "ConvOverflow 4294967296, u32"),
+        (0, l(-1), "Builtin"),
+        (0, Sample::One(U64(1)), "Builtin"),
+        (0, Sample::Matrix, "Builtin"),
+    ];
+    assert_casts(&rt, rt.alloc(), Unsigned, &rows);
 }
 
 #[test]
@@ -74,7 +61,7 @@ fn vectors_of_signed_numbers_with_the_bytes_of_others(rt: HostRuntime) {
         (2, b2(true, true), "Builtin"),
         (2, Sample::Deferred, "Builtin"),
     ];
-    assert_casts_to_vectors(&rt, rt.alloc(), true, &rows);
+    assert_casts(&rt, rt.alloc(), Signed, &rows);
 }
 
 #[test]
@@ -89,5 +76,5 @@ fn vectors_of_unsigned_numbers_with_the_bytes_of_others(rt: HostRuntime) {
         (4, u2(1, 2), "Builtin"),
         (3, Sample::Structure, "Builtin"),
     ];
-    assert_casts_to_vectors(&rt, rt.alloc(), false, &rows);
+    assert_casts(&rt, rt.alloc(), Unsigned, &rows);
 }
