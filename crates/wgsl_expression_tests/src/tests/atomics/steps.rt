@@ -58,9 +58,10 @@ struct Held {
 }
 
 /// What the store has in the cell.
-fn held(rt: &impl Abort, alloc: Global, store: &Store, cell: &RefInstance) -> Held {
+fn held_by(rt: &impl Abort, alloc: Global, store: &Store, cell: &RefInstance) -> Held {
     assert!(rt; store.holds(cell));
     let value = again!(rt; cell.read(alloc, store));
+    assert!(rt; value.is_storable());
     let text = again!(rt; value.to_string(alloc));
     let bytes = again!(rt; value.to_buffer(alloc));
     drop(value);
@@ -90,7 +91,7 @@ fn assert_unchanged(
     cell: &RefInstance,
     before: Held,
 ) {
-    let after = held(rt, alloc, store, cell);
+    let after = held_by(rt, alloc, store, cell);
     assert!(rt; !refused || after == before, "{before:?} became {after:?}");
     drop((after, before));
 }
@@ -104,7 +105,7 @@ fn called_again(
     cell: &RefInstance,
     p: &Instance,
 ) -> Result<Option<Instance>, Error> {
-    let before = held(rt, alloc, store, cell);
+    let before = held_by(rt, alloc, store, cell);
     let answer = called(rt, alloc, function, store, p);
     assert_unchanged(rt, alloc, answer.is_err(), store, cell, before);
     match answer {
@@ -129,7 +130,7 @@ fn assert_outcome(
 }
 
 /// Asserts what the function answers at the place, and hands out what the store then has.
-fn step(
+fn called_at(
     rt: &impl Abort,
     alloc: Global,
     row: usize,
@@ -141,7 +142,7 @@ fn step(
     let answer = called_again(rt, alloc, function, store, cell, &p);
     drop(p);
     assert_outcome(rt, alloc, row, answer, wanted);
-    held(rt, alloc, store, cell)
+    held_by(rt, alloc, store, cell)
 }
 
 /// Asserts what the function answers at the place of a store with one cell, and hands out what the store then has.
@@ -155,7 +156,7 @@ fn outcome(
 ) -> Held {
     let mut store = Store::new(alloc);
     let cell = again!(rt; new_cell(rt, alloc, &mut store, cell));
-    let held = step(
+    let held = called_at(
         rt,
         alloc,
         row,
@@ -203,7 +204,7 @@ pub(crate) fn assert_steps(rt: &impl Abort, alloc: Global, cell: Sample, steps: 
     let cell = again!(rt; new_cell(rt, alloc, &mut store, cell));
     for (row, (place, function, wanted, text, words)) in steps.iter().enumerate() {
         let call = (*place, *function);
-        let held = step(rt, alloc, row, (&mut store, &cell), call, wanted);
+        let held = called_at(rt, alloc, row, (&mut store, &cell), call, wanted);
         assert_held(rt, alloc, row, held, text, words);
     }
     drop((store, cell));
