@@ -1,9 +1,9 @@
 //! The numeric builtin functions on fields of bits, and on the places of bits (WGSL: numeric builtin
 //! functions).
 
-ghost use Rattle.std.specs.Prelude.{pos, IfOk};
+ghost use Rattle.std.specs.Prelude.{IfOk};
 ghost use Rattle.wgsl_rules.specs.Values.{IsStorable, IsWellFormed};
-ghost use Rattle.wgsl_scalar.specs.Answers.{Answers, Gives};
+ghost use Rattle.wgsl_scalar.specs.Answers.{Gives};
 ghost use Rattle.wgsl_types.specs.BitFunctions.{
   extracted_bits,
   first_leading_bits,
@@ -11,32 +11,13 @@ ghost use Rattle.wgsl_types.specs.BitFunctions.{
   inserted_bits,
   reversed_bits,
 };
-ghost use Rattle.wgsl_types.specs.Packing.{word_in};
 ghost use Rattle.wgsl_values.specs.View.{value_of};
 
 use crate::lifts::{BinaryFunction, UnaryFunction, in_common_type, on_components};
+use crate::packing::word_in;
 use std::alloc::Global;
-use wgsl_rules::Type;
-use wgsl_scalar::{BuiltinReason, Error};
+use wgsl_scalar::Error;
 use wgsl_values::Instance;
-
-// The number of the value as a `u32`; refused by `Builtin` where it is none.
-fn word_in(value: &Instance) -> Result<u32, Error>
-    ensures { Answers pos result (word_in (value_of value.now)) }
-{
-    match value {
-        Instance::Literal(literal) => match literal.to_kind(&Type::U32) {
-            Some(word) => Ok(word.unwrap_u32()),
-            None => Err(Error::Builtin(BuiltinReason::NotConverted)),
-        },
-        Instance::Struct(_) | Instance::Array(_) | Instance::Vec(_) | Instance::Mat(_) => {
-            Err(Error::Builtin(BuiltinReason::NotConverted))
-        }
-        Instance::Ptr(_) | Instance::Ref(_) | Instance::Atomic(_) | Instance::Deferred(_) => {
-            Err(Error::Builtin(BuiltinReason::NotConverted))
-        }
-    }
-}
 
 /// The field of `count` bits from `offset` on of an `i32` or a `u32`, or of each component of a vector of
 /// them, as a number of its type: an `i32` has the sign of the field's highest bit, and without bits the

@@ -180,8 +180,8 @@ pub fn pack4xU8Clamp(alloc: Global, e: &Instance) -> Result<Instance, Error>
     Ok(word_of(components.map(|n| n.min(255) as u8)))
 }
 
-// The number of the value as a `u32`; refused by `Builtin` where it is none.
-fn word_in(e: &Instance) -> Result<u32, Error>
+/// The number of the value as a `u32`; refused by `Builtin` where it is none.
+pub(crate) fn word_in(e: &Instance) -> Result<u32, Error>
     ensures { Answers pos result (word_in (value_of e.now)) }
 {
     match e {
