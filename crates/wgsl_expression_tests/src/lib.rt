@@ -1,5 +1,6 @@
-//! Tests of the operators on vectors and on values of every kind, which stand in a crate of their own: a crate
-//! is proved a second time with its tests, and tests of several crates are proved side by side.
+//! Tests of the operators and of the builtin functions, atomics included, on values of every kind, which stand in a
+//! crate of their own: a crate is proved a second time with its tests, and tests of several crates are proved side by
+//! side.
 #![tactic(auto)]
 
 #[cfg(test)]

@@ -1,4 +1,4 @@
-//! What operators answer, and the texts of it: the value's own, or the case of the refusal with what it holds.
+//! What operators and builtin functions answer, and the texts of it: the value's own, or the case of the refusal with what it holds.
 
 ghost use Rattle.wgsl_rules.specs.Values.{IsWellFormed};
 ghost use Rattle.wgsl_values.specs.View.{value_of};
@@ -115,6 +115,12 @@ fn refusal_text(alloc: Global, error: &Error) -> Result<String, AllocError> {
         Error::MulOverflow => format!(in alloc; "MulOverflow"),
         Error::DivByZero => format!(in alloc; "DivByZero"),
         Error::RemZeroDiv => format!(in alloc; "RemZeroDiv"),
+        Error::ConvOverflow(literal, ty) => format!(in alloc; "ConvOverflow {literal}, {ty}"),
+        Error::ParamType(asked, given) => format!(in alloc; "ParamType {asked}, {given}"),
+        Error::Builtin(_) => format!(in alloc; "Builtin"),
+        Error::NotRead => format!(in alloc; "NotRead"),
+        Error::NotWrite => format!(in alloc; "NotWrite"),
+        Error::NotReadWrite => format!(in alloc; "NotReadWrite"),
         Error::PtrHandle => format!(in alloc; "PtrHandle"),
         Error::PtrVecComp => format!(in alloc; "PtrVecComp"),
         other => format!(in alloc; "error {}", other.number()),

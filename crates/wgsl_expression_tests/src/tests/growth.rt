@@ -1,6 +1,8 @@
 //! Worked rows, also with each growth of memory refused in turn: what wants memory is asked again, and every other
 //! answer is compared.
 
+mod atomics;
+mod builtins;
 mod compwise;
 mod references;
 mod rows;

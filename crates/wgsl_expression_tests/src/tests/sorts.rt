@@ -12,7 +12,7 @@ use wgsl_rules::BinaryOperator::{
 };
 use wgsl_rules::ShaderStage::{Const, Exec, Override};
 use wgsl_rules::UnaryOperator::{BitwiseComplement, LogicalNegation, Negation};
-use wgsl_scalar::LiteralInstance::U32;
+use wgsl_scalar::LiteralInstance::{I32, U32};
 
 const OPERATORS: [BinaryOperator; 18] = [
     ShortCircuitOr,
@@ -48,7 +48,7 @@ const OTHERS: [(Sample, &str); 7] = [
     (Sample::Structure, "Pair"),
     (Sample::Pointer, "ptr<storage, i32, read_write>"),
     (Sample::Reference, "ref<storage, i32, read_write>"),
-    (Sample::Atomic, "atomic<i32>"),
+    (Sample::Atomic(I32(5)), "atomic<i32>"),
     (Sample::Deferred, "u32"),
 ];
 

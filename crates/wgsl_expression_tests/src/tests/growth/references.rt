@@ -11,6 +11,7 @@ use wgsl_rules::UnaryOperator::Indirection;
 use wgsl_rules::{AccessMode, AddressSpace, Type};
 use wgsl_samples::types;
 use wgsl_scalar::Error;
+use wgsl_scalar::LiteralInstance::I32;
 use wgsl_store::{References, Store};
 use wgsl_values::{Instance, MemView, RefInstance};
 
@@ -218,7 +219,7 @@ fn a_pointer_leads_to_its_reference(rt: HostRuntime) {
     let rows = [
         (Sample::Pointer, "ref<storage, i32, read_write>"),
         (Sample::Reference, "Unary * ref<storage, i32, read_write>"),
-        (Sample::Atomic, "Unary * atomic<i32>"),
+        (Sample::Atomic(I32(5)), "Unary * atomic<i32>"),
         (Sample::Matrix, "Unary * mat2x2<u32>"),
         (Sample::Structure, "Unary * Pair"),
         (u2(1, 2), "Unary * vec2<u32>"),
