@@ -22,7 +22,7 @@ struct Types {
     component: Type,
 }
 
-fn types(rt: &impl Abort, alloc: Global) -> Types {
+fn types_of_parts(rt: &impl Abort, alloc: Global) -> Types {
     let scalar = Box::new(alloc, Type::U32).expect(rt, "memory");
     Types {
         matrix: Type::Mat(4, 4, scalar),
@@ -158,7 +158,7 @@ fn write(
 #[test]
 fn what_is_written_through_one_of_a_thousand_handles_is_read_through_each(rt: HostRuntime) {
     let alloc = rt.alloc();
-    let types = types(&rt, alloc);
+    let types = types_of_parts(&rt, alloc);
     let bytes = bytes_for(&rt, alloc, HANDLES, MATRIX);
     let matrix = value_of(&rt, alloc, &types, &bytes);
     let mut session = Session::new(alloc);
@@ -224,7 +224,7 @@ fn content_of(
 }
 
 /// What a session holds of whose cells each has a handle.
-fn held(rt: &impl Abort, alloc: Global, session: &mut Session) -> Held {
+fn held_by(rt: &impl Abort, alloc: Global, session: &mut Session) -> Held {
     let mut held = Held {
         cells: Vec::new(alloc),
         references: Vec::new(alloc),
@@ -245,11 +245,11 @@ fn held(rt: &impl Abort, alloc: Global, session: &mut Session) -> Held {
 /// Asserts how the last reference of the chain is loaded, and that this changes nothing.
 fn assert_loads(rt: &impl Abort, alloc: Global, middle: AccessMode, wanted: Result<Reply, Fault>) {
     let mut session = chain(rt, alloc, middle);
-    let before = held(rt, alloc, &mut session);
+    let before = held_by(rt, alloc, &mut session);
     assert_same(rt, call(rt, &mut session, Call::Load(LINKS)), wanted);
     assert_eq!(rt; session.store().len(), LINKS + 1);
     assert!(rt; session.reference(LINKS + 1).is_none());
-    let after = held(rt, alloc, &mut session);
+    let after = held_by(rt, alloc, &mut session);
     assert_same(rt, before, after);
     drop(session);
 }
