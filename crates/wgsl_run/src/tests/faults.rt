@@ -141,7 +141,7 @@ fn a_read_that_fails_at_any_call_runs_nothing(rt: HostRuntime) {
 }
 
 /// A writer of at most so many bytes a call that fails in this way behind so many calls.
-fn choppy(alloc: Global, most: usize, before: usize, failure: Failure) -> Choppy {
+fn failing(alloc: Global, most: usize, before: usize, failure: Failure) -> Choppy {
     let taken = Vec::new(alloc);
     Choppy {
         taken,
@@ -168,7 +168,7 @@ fn a_write_that_fails_at_any_call_ends_the_run(rt: HostRuntime) {
         // Each byte takes a call.
         for before in 0..WANTED.len() + 1 {
             let mut script = SCRIPT;
-            let mut writer = choppy(rt.alloc(), 1, before, failure);
+            let mut writer = failing(rt.alloc(), 1, before, failure);
             let outcome = run_script(rt.alloc(), &mut script, &mut writer);
             let wanted = outcome_of(before, WANTED.len());
             assert_eq!(rt; outcome, wanted, "after {before} writes");
@@ -187,7 +187,7 @@ fn a_line_is_written_at_once_where_it_is_taken(rt: HostRuntime) {
     for failure in FAILURES {
         for before in 0..8 {
             let mut script = SCRIPT;
-            let mut writer = choppy(rt.alloc(), usize::MAX, before, failure);
+            let mut writer = failing(rt.alloc(), usize::MAX, before, failure);
             let outcome = run_script(rt.alloc(), &mut script, &mut writer);
             let lines = writer.taken.iter().filter(|byte| **byte == b'\n').count();
             assert_eq!(rt; lines, before.min(7));
@@ -206,7 +206,7 @@ fn assert_buffered(
     failure: Failure,
 ) {
     let mut script = SCRIPT;
-    let writer = choppy(alloc, 3, before, failure);
+    let writer = failing(alloc, 3, before, failure);
     let mut output = Buffered::new(alloc, capacity, writer).expect(rt, "memory");
     let outcome = run_buffered(alloc, &mut script, &mut output);
     let taken = output.writer.taken.as_slice();
