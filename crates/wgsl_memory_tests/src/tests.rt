@@ -6,6 +6,7 @@ mod calls;
 mod cells;
 mod fixtures;
 mod growth;
+mod handles;
 mod plain_memory;
 mod readme;
 mod references;

@@ -1,5 +1,6 @@
--- The words for types that hold neither arrays nor structures.
-use Rattle.std.specs.Prelude.{◌≡◌, ◌≢◌, ℕ, List, ◌++◌, EachIndex, slice_index, codes}
+-- The words for types that hold neither arrays nor structures, and the types that they name.
+use Rattle.std.specs.Prelude.{◌≡◌, ◌≢◌, ℕ, List, [], ◌∷◌, Option, ◌++◌, EachIndex, slice_index, codes}
+use Rattle.wgsl_rules.specs.Types.{Ty, i32, u32, i64, u64, array, vec, mat, atomic}
 use Rattle.wgsl_run.specs.declared.type_words.Scalar.{Scalar}
 use Rattle.wgsl_run.specs.declared.type_words.Scalar.TheVariants as scalars
 use Rattle.wgsl_run.specs.declared.type_words.Dimension.{Dimension}
@@ -8,6 +9,8 @@ use Rattle.wgsl_run.specs.declared.type_words.Template.{Template}
 use Rattle.wgsl_run.specs.declared.type_words.Template.TheVariants as templates
 use Rattle.wgsl_run.specs.declared.type_words.Plain.{Plain}
 use Rattle.wgsl_run.specs.declared.type_words.Plain.TheVariants as plains
+use Rattle.wgsl_run.specs.declared.structs.Element.{Element}
+use Rattle.wgsl_run.specs.declared.structs.Element.TheVariants as elements
 
 -- `name<inner>`, where no `<` (60) stands in the name
 pub record IsTemplate (word name inner : List ℕ) : Type 0 where
@@ -54,3 +57,31 @@ IsPlain (plains.Scalar s) = Unit {0}
 IsPlain (plains.Of templates.Atomic s) = IsIn32Bits s
 IsPlain (plains.Of (templates.Vec n) s) = Unit {0}
 IsPlain (plains.Of (templates.Mat c r) s) = Unit {0}
+
+-- ---- the types
+
+abbrev pub scalar_type : Scalar → Ty
+scalar_type scalars.I32 = i32
+scalar_type scalars.U32 = u32
+scalar_type scalars.I64 = i64
+scalar_type scalars.U64 = u64
+
+-- of a matrix the columns, then the rows
+abbrev pub template_type : Template → Ty → Ty
+template_type templates.Atomic t = atomic t
+template_type (templates.Vec n) t = vec (number_of n) t
+template_type (templates.Mat c r) t = mat (number_of c) (number_of r) t
+
+abbrev pub plain_type : Plain → Ty
+plain_type (plains.Scalar s) = scalar_type s
+plain_type (plains.Of t s) = template_type t (scalar_type s)
+
+-- arrays of these counts, the outermost first, of a type; no count is a runtime-sized array's
+abbrev pub arrays_type : List (Option ℕ) → Ty → Ty
+arrays_type [] t = t
+arrays_type (n ∷ counts) t = array (arrays_type counts t) n
+
+-- the type is that of the arrays of the element; of a structure nothing is said
+abbrev pub IsOf : Element → List (Option ℕ) → Ty → Type 0
+IsOf (elements.Plain p) counts t = t ≡ arrays_type counts (plain_type p)
+IsOf (elements.Struct n) counts t = Unit {0}

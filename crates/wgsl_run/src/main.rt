@@ -16,10 +16,15 @@ mod tests;
 mod type_words;
 
 pub use fault::RunFault;
+use output::Buffered;
 pub use script::run_script;
+use std::alloc::Global;
 use std::io;
-use std::io::{BufWriter, Write};
+use std::io::{Read, Write};
 use std::process::ExitCode;
+
+/// How many bytes of output may wait.
+const BUFFER: usize = 8192;
 
 fn main(rt: HostRuntime) -> ExitCode {
     match run(&rt) {
@@ -32,11 +37,20 @@ fn main(rt: HostRuntime) -> ExitCode {
     }
 }
 
-/// Runs the script of standard input. What is printed waits in a buffer, and is written at the
-/// latest when the run ends.
+/// Runs the script of standard input.
 fn run<R: AllocGlobal + Input + Print>(rt: &R) -> Result<(), RunFault> {
-    let mut writer = BufWriter::new(rt.alloc(), io::writer(rt)).map_err(|_| RunFault::Memory)?;
-    let outcome = run_script(rt.alloc(), &mut rt.reader(), &mut writer);
-    let flushed = writer.flush().map_err(|_| RunFault::Write);
+    let mut output = Buffered::new(rt.alloc(), BUFFER, io::writer(rt))?;
+    run_buffered(rt.alloc(), &mut rt.reader(), &mut output)
+}
+
+/// Runs the script. What is printed waits in the buffer, and is written at the latest when the run
+/// ends; a fault of the run before that is the one that is told.
+fn run_buffered<R: Read, W: Write + Drop>(
+    alloc: Global,
+    reader: &mut R,
+    output: &mut Buffered<W>,
+) -> Result<(), RunFault> {
+    let outcome = run_script(alloc, reader, output);
+    let flushed = output.flush().map_err(|_| RunFault::Write);
     outcome.and(flushed)
 }

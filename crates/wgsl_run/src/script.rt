@@ -36,7 +36,7 @@ pub fn run_script<R: Read, W: Write>(
     for line in input.split_inclusive(|byte| *byte == b'\n') {
         text.clear();
         script.answer_line(without_end(line), &mut text)?;
-        write_bytes(writer, text.as_bytes())?;
+        write_bytes(writer, text.as_bytes()).map_err(|_| RunFault::Write)?;
     }
     Ok(())
 }

@@ -1,5 +1,9 @@
 //! The structures that a script defines, and the types that its words name.
 
+ghost use Rattle.std.specs.Prelude.{◌≡◌, IfOk, IfSome};
+ghost use Rattle.wgsl_rules.specs.View.{type_view};
+ghost use Rattle.wgsl_run.specs.TypeWords.{IsOf, arrays_type};
+
 use crate::attributes::{Attributes, split_attributes};
 use crate::grammar::{count_of, is_name};
 use crate::stop::Stop;
@@ -167,24 +171,38 @@ impl Structs {
     }
 }
 
+/// Arrays of these counts, one inside the other, the outermost first, of the element.
+fn arrays_of(alloc: Global, counts: &[Option<u32>], element: Type) -> Result<Type, AllocError>
+    ensures { IfOk result (λ ty. type_view ty ≡ arrays_type counts.now (type_view element)) }
+{
+    let [count, inner @ ..] = counts else {
+        return Ok(element);
+    };
+    let inner = arrays_of(alloc, inner, element)?;
+    let count = match count {
+        Some(count) => Some(*count as usize),
+        None => None,
+    };
+    Ok(Type::Array(Box::new(alloc, inner)?, count))
+}
+
 /// The type of the name among the structures that stand before it; `None` where there are fewer.
 #[cycle(build)]
 fn type_in(
     alloc: Global,
     earlier: &[Declaration],
     name: &TypeName,
-) -> Result<Option<Type>, AllocError> {
+) -> Result<Option<Type>, AllocError>
+    ensures { IfOk result (λ found. IfSome found (λ ty. IsOf name.now.element name.now.arrays.items (type_view ty))) }
+{
     let element = match name.element {
         Element::Plain(plain) => Some(plain.ty(alloc)?),
         Element::Struct(n) => struct_in(alloc, earlier, n)?,
     };
-    let Some(mut ty) = element else {
+    let Some(element) = element else {
         return Ok(None);
     };
-    for count in name.arrays.iter().rev() {
-        ty = Type::Array(Box::new(alloc, ty)?, count.map(|n| n as usize));
-    }
-    Ok(Some(ty))
+    Ok(Some(arrays_of(alloc, name.arrays.as_slice(), element)?))
 }
 
 #[cycle(build)]

@@ -4,7 +4,9 @@ mod faults;
 mod grammar;
 mod growth;
 mod limits;
+mod reading;
 mod rows;
+mod seeds;
 
 use crate::{RunFault, run_script};
 use std::alloc::Global;

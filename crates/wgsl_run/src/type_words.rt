@@ -1,6 +1,7 @@
 //! The words for types: scalars, atomics, vectors and matrices, and what arrays are of.
 
-ghost use Rattle.std.specs.Prelude.{◌≡◌, ◌≢◌, ◌<◌, ℕ, List, length, IfSome, IsNone};
+ghost use Rattle.std.specs.Prelude.{◌≡◌, ◌≢◌, ◌<◌, ℕ, List, length, IfOk, IfSome, IsNone};
+ghost use Rattle.wgsl_rules.specs.View.{type_view};
 ghost use Rattle.wgsl_run.specs.TypeWords.{IsTemplate, IsPlain, plain_text, scalar_text, template_text, number_of};
 
 use std::alloc::{AllocError, Global};
@@ -43,7 +44,11 @@ pub(crate) enum Plain {
 }
 
 impl Scalar {
-    fn ty(self) -> Type {
+    ghost use Rattle.wgsl_run.specs.TypeWords.{scalar_type};
+
+    fn ty(self) -> Type
+        ensures { type_view result ≡ scalar_type self }
+    {
         match self {
             Scalar::I32 => Type::I32,
             Scalar::U32 => Type::U32,
@@ -66,6 +71,8 @@ impl Dimension {
 }
 
 impl Plain {
+    ghost use Rattle.wgsl_run.specs.TypeWords.{plain_type};
+
     /// How many types are in it, itself too.
     pub(crate) fn nodes(self) -> usize {
         match self {
@@ -75,7 +82,9 @@ impl Plain {
     }
 
     /// The type that it names.
-    pub(crate) fn ty(self, alloc: Global) -> Result<Type, AllocError> {
+    pub(crate) fn ty(self, alloc: Global) -> Result<Type, AllocError>
+        ensures { IfOk result (λ ty. type_view ty ≡ plain_type self) }
+    {
         match self {
             Plain::Scalar(scalar) => Ok(scalar.ty()),
             Plain::Of(template, scalar) => {

@@ -133,32 +133,32 @@ fn the_handle_of_a_member_has_a_reference_of_its_type(rt: HostRuntime) {
     drop(session);
 }
 
-/// Whether a session takes the value for a new cell.
-fn is_sound(value: Instance) -> bool {
-    let call = Call::New(value, Storage, ReadWrite);
+fn is_sound(call: Call) -> bool {
     let is_sound = call.is_sound();
     drop(call);
     is_sound
 }
 
+/// Whether a session takes the value for a new cell; it has to take it too, or not, for a write.
+fn is_taken(rt: &impl Abort, alloc: Global, value: Instance) -> bool {
+    let again = value.clone(alloc).expect(rt, "memory");
+    let is_taken = is_sound(Call::New(value, Storage, ReadWrite));
+    assert_eq!(rt; is_sound(Call::Write(0, again)), is_taken);
+    is_taken
+}
+
 #[test]
 fn calls_with_references_are_not_sound(rt: HostRuntime) {
     let alloc = rt.alloc();
-    assert!(rt; is_sound(Instance::from(5i32)));
-    assert!(rt; is_sound(pair_value(&rt, alloc)));
+    assert!(rt; is_taken(&rt, alloc, Instance::from(5i32)));
+    assert!(rt; is_taken(&rt, alloc, pair_value(&rt, alloc)));
     let reference = reference_of(alloc).expect(&rt, "memory");
-    assert!(rt; !is_sound(Instance::from(reference)));
+    assert!(rt; !is_taken(&rt, alloc, Instance::from(reference)));
     let pointer = PtrInstance::from(reference_of(alloc).expect(&rt, "memory"));
-    assert!(rt; !is_sound(Instance::from(pointer)));
-    assert!(rt; !is_sound(Instance::from(Type::I32)));
-    let reference = reference_of(alloc).expect(&rt, "memory");
-    let write = Call::Write(0, Instance::from(reference));
-    assert!(rt; !write.is_sound());
-    let replace = Call::Replace(0, Instance::from(Type::I32));
-    assert!(rt; !replace.is_sound());
-    let load = Call::Load(9);
-    assert!(rt; load.is_sound());
-    drop((write, replace, load));
+    assert!(rt; !is_taken(&rt, alloc, Instance::from(pointer)));
+    assert!(rt; !is_taken(&rt, alloc, Instance::from(Type::I32)));
+    assert!(rt; !is_sound(Call::Replace(0, Instance::from(Type::I32))));
+    assert!(rt; is_sound(Call::Load(9)));
 }
 
 #[test]

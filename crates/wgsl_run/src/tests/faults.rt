@@ -1,9 +1,12 @@
+use crate::output::Buffered;
 use crate::tests::output_of;
-use crate::{RunFault, run_script};
+use crate::{RunFault, run_buffered, run_script};
+use std::alloc::Global;
 use std::io;
 use std::io::{Read, Write};
+use std::process::Abort;
 
-/// Gives one byte a call, and fails once it gave `before` of them.
+/// Gives one byte a call. It fails in one call, behind so many others, and gives bytes again in those after it.
 #[derive(Drop)]
 struct Flaky {
     bytes: &'static [u8],
@@ -13,10 +16,11 @@ struct Flaky {
 
 impl Read for Flaky {
     fn read(&mut self, buf: &mut [u8]) -> io::Result<usize> {
-        if self.before == 0 {
+        let fails = self.before == 0;
+        self.before = self.before.wrapping_sub(1);
+        if fails {
             return Err(self.kind.into());
         }
-        self.before -= 1;
         if self.bytes.is_empty() || buf.is_empty() {
             return Ok(0);
         }
@@ -34,7 +38,8 @@ enum Failure {
     TakesNothing,
 }
 
-/// Takes at most `most` bytes a call, and fails once it took `before` calls.
+/// Takes at most `most` bytes a call. It fails in one call, behind so many others, and takes bytes again in those
+/// after it.
 #[derive(Drop)]
 struct Choppy {
     taken: Vec<u8>,
@@ -45,14 +50,15 @@ struct Choppy {
 
 impl Write for Choppy {
     fn write(&mut self, buf: &[u8]) -> io::Result<usize> {
-        if self.before == 0 {
+        let fails = self.before == 0;
+        self.before = self.before.wrapping_sub(1);
+        if fails {
             return match self.failure {
                 Failure::Broken => Err(io::ErrorKind::BrokenPipe.into()),
                 Failure::Interrupted => Err(io::ErrorKind::Interrupted.into()),
                 Failure::TakesNothing => Ok(0),
             };
         }
-        self.before -= 1;
         let most = buf.len().min(self.most);
         self.taken.extend_from_slice(&buf[..most])?;
         Ok(most)
@@ -114,7 +120,8 @@ fn a_script_that_comes_byte_by_byte_is_run(rt: HostRuntime) {
 #[test]
 fn a_read_that_fails_at_any_call_runs_nothing(rt: HostRuntime) {
     for kind in [io::ErrorKind::Interrupted, io::ErrorKind::BrokenPipe] {
-        for before in 0..SCRIPT.len() + 1 {
+        // Each byte takes a call, and the end of the script one more.
+        for before in 0..SCRIPT.len() + 2 {
             let mut reader = Flaky {
                 bytes: SCRIPT,
                 before,
@@ -122,25 +129,49 @@ fn a_read_that_fails_at_any_call_runs_nothing(rt: HostRuntime) {
             };
             let mut output = Vec::new(rt.alloc());
             let outcome = run_script(rt.alloc(), &mut reader, &mut output);
-            assert_eq!(rt; outcome, Err(RunFault::Read), "after {before} reads");
-            assert!(rt; output.is_empty());
+            let (wanted, printed) = if before <= SCRIPT.len() {
+                (Err(RunFault::Read), &[] as &[u8])
+            } else {
+                (Ok(()), WANTED)
+            };
+            assert_eq!(rt; outcome, wanted, "after {before} reads");
+            assert_eq!(rt; output.as_slice(), printed);
         }
+    }
+}
+
+/// A writer of at most so many bytes a call that fails in this way behind so many calls.
+fn failing(alloc: Global, most: usize, before: usize, failure: Failure) -> Choppy {
+    let taken = Vec::new(alloc);
+    Choppy {
+        taken,
+        most,
+        before,
+        failure,
+    }
+}
+
+const FAILURES: [Failure; 3] = [Failure::Broken, Failure::Interrupted, Failure::TakesNothing];
+
+/// How a run ends of whose writes the one behind so many others fails, if it comes to that one.
+fn outcome_of(before: usize, writes: usize) -> Result<(), RunFault> {
+    if before < writes {
+        Err(RunFault::Write)
+    } else {
+        Ok(())
     }
 }
 
 #[test]
 fn a_write_that_fails_at_any_call_ends_the_run(rt: HostRuntime) {
-    for failure in [Failure::Broken, Failure::Interrupted, Failure::TakesNothing] {
-        for before in 0..WANTED.len() {
+    for failure in FAILURES {
+        // Each byte takes a call.
+        for before in 0..WANTED.len() + 1 {
             let mut script = SCRIPT;
-            let mut writer = Choppy {
-                taken: Vec::new(rt.alloc()),
-                most: 1,
-                before,
-                failure,
-            };
+            let mut writer = failing(rt.alloc(), 1, before, failure);
             let outcome = run_script(rt.alloc(), &mut script, &mut writer);
-            assert_eq!(rt; outcome, Err(RunFault::Write), "after {before} writes");
+            let wanted = outcome_of(before, WANTED.len());
+            assert_eq!(rt; outcome, wanted, "after {before} writes");
             assert_eq!(rt; writer.taken.len(), before);
             assert!(rt;
                 WANTED.starts_with(writer.taken.as_slice()),
@@ -153,18 +184,51 @@ fn a_write_that_fails_at_any_call_ends_the_run(rt: HostRuntime) {
 #[test]
 fn a_line_is_written_at_once_where_it_is_taken(rt: HostRuntime) {
     // Seven lines, and so seven writes.
-    for before in 0..8 {
-        let mut script = SCRIPT;
-        let mut writer = Choppy {
-            taken: Vec::new(rt.alloc()),
-            most: usize::MAX,
-            before,
-            failure: Failure::Broken,
-        };
-        let outcome = run_script(rt.alloc(), &mut script, &mut writer);
-        let lines = writer.taken.iter().filter(|byte| **byte == b'\n').count();
-        assert_eq!(rt; lines, before.min(7));
-        assert_eq!(rt; outcome.is_ok(), before >= 7);
+    for failure in FAILURES {
+        for before in 0..8 {
+            let mut script = SCRIPT;
+            let mut writer = failing(rt.alloc(), usize::MAX, before, failure);
+            let outcome = run_script(rt.alloc(), &mut script, &mut writer);
+            let lines = writer.taken.iter().filter(|byte| **byte == b'\n').count();
+            assert_eq!(rt; lines, before.min(7));
+            assert_eq!(rt; outcome, outcome_of(before, 7));
+        }
+    }
+}
+
+/// Asserts how a run ends whose output waits in a buffer of this capacity, and that what was written is the start of
+/// what is wanted.
+fn assert_buffered(
+    rt: &impl Abort,
+    alloc: Global,
+    capacity: usize,
+    before: usize,
+    failure: Failure,
+) {
+    let mut script = SCRIPT;
+    let writer = failing(alloc, 3, before, failure);
+    let mut output = Buffered::new(alloc, capacity, writer).expect(rt, "memory");
+    let outcome = run_buffered(alloc, &mut script, &mut output);
+    let taken = output.writer.taken.as_slice();
+    assert!(rt; WANTED.starts_with(taken), "after {before} writes");
+    // No write comes behind the one that failed.
+    let wanted = if taken.len() < WANTED.len() {
+        assert_eq!(rt; output.writer.before, usize::MAX);
+        Err(RunFault::Write)
+    } else {
+        Ok(())
+    };
+    assert_eq!(rt; outcome, wanted, "after {before} writes");
+}
+
+#[test]
+fn a_write_of_the_program_that_fails_at_any_call_ends_the_run(rt: HostRuntime) {
+    for failure in FAILURES {
+        for capacity in [0, 1, 8, 20, 8192] {
+            for before in 0..WANTED.len() + 1 {
+                assert_buffered(&rt, rt.alloc(), capacity, before, failure);
+            }
+        }
     }
 }
 

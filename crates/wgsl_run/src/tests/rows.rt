@@ -323,3 +323,32 @@ fn a_structure_may_end_in_a_runtime_sized_array(rt: HostRuntime) {
     ];
     assert_answers(&rt, rt.alloc(), &lines);
 }
+
+#[test]
+fn hostile_type_words_and_attributes_are_refused(rt: HostRuntime) {
+    let lines = [
+        (
+            "new array<array<array<array<array<array<array<array<array<array<array<array<array<array<array<array<array<u32>>>>>>>>>>>>>>>>> storage read 01000000",
+            "refused BadLine",
+        ),
+        ("struct S @align(4)@align(8)a:u32", "refused BadLine"),
+        ("struct S a:u32", "done"),
+        ("struct S a:u32", "refused BadLine"),
+        ("struct E @align(3)a:u32", "done"),
+        ("new E storage read 01000000", "refused NoValue"),
+    ];
+    assert_answers(&rt, rt.alloc(), &lines);
+}
+
+#[test]
+fn hostile_numbers_are_refused(rt: HostRuntime) {
+    let lines = [
+        ("new vec2<u32> storage read_write 0100000002000000", "&0"),
+        ("read &4294967296", "refused NoHandle"),
+        ("read &99999999999", "refused BadLine"),
+        ("read 0", "refused BadLine"),
+        ("index &0 9999999999", "refused OutOfBounds"),
+        ("read &0", "vec2(1u, 2u)"),
+    ];
+    assert_answers(&rt, rt.alloc(), &lines);
+}
