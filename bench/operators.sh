@@ -10,7 +10,7 @@ cat > "$crate/src/main.rt" <<'RUST'
 //! Makes one call on operators again and again: its name and how often are the arguments.
 #![tactic(auto)]
 
-ghost use Rattle.std.specs.Prelude.{IfOk};
+ghost use Rattle.std.specs.Prelude.{◌≡◌, IfOk};
 ghost use Rattle.wgsl_rules.specs.Types as types;
 ghost use Rattle.wgsl_rules.specs.Values.{IsStorable, IsWellFormed, type_of};
 ghost use Rattle.wgsl_scalar.specs.Literals.{literal_of};
