@@ -65,9 +65,9 @@ fn value_of(rt: &impl Abort, alloc: Global, types: &Types, bytes: &[u8]) -> Inst
 /// Bytes that no other handle is given.
 fn bytes_for(rt: &impl Abort, alloc: Global, handle: usize, len: usize) -> Vec<u8> {
     let mut bytes = Vec::new(alloc);
-    let first = (handle as u32).wrapping_mul(16);
+    let first = u32::try_from(handle).unwrap_or(0).wrapping_mul(16);
     for i in 0..len / 4 {
-        let word = first.wrapping_add(i as u32);
+        let word = first.wrapping_add(u32::try_from(i).unwrap_or(0));
         bytes
             .extend_from_slice(&word.to_le_bytes())
             .expect(rt, "memory");
