@@ -1,5 +1,5 @@
 -- What a load of an atomic through a kept pointer answers.
-use Rattle.std.proofs.Common.{◌≡◌, List, Option, Some, None, option_and_then, Ok, Err, Bool, true, false, if◌then◌else◌, refl, sym, ap, ◌∙◌, subst}
+use Rattle.std.proofs.Common.{◌≡◌, List, Some, None, option_and_then, Ok, Err, Bool, true, false, if◌then◌else◌, refl, sym, ap, ◌∙◌, subst}
 use Rattle.std.specs.Result.{result_ok}
 use Rattle.wgsl_rules.specs.Access.{can_read}
 use Rattle.wgsl_rules.specs.Refusals.{Outcome, and_then, builtin, not_read}
