@@ -126,7 +126,7 @@ put-or view (Ok x) cs cells r i new cell w are at was put same = record { put = 
 put-or view (Err e) cs cells r i new cell w are at was put same = record { put = tt; same = same-cells view cs cells i new cell are was same }
 
 -- after a put of what fits the cells are sound, and each reference stays kept
-replaced-good : (cells after : List Val) (r : Reference) (w : Val) → IsSound cells → IsContent cells w → IsOkAnd (held cells r) (λ v. IsTrue (fits w v)) → after ≡ put_cells cells r w → StaysKept cells after
+pub replaced-good : (cells after : List Val) (r : Reference) (w : Val) → IsSound cells → IsContent cells w → IsOkAnd (held cells r) (λ v. IsTrue (fits w v)) → after ≡ put_cells cells r w → StaysKept cells after
 replaced-good cells after r w s h fit e =
     let a = answered (held cells r) (λ v. IsTrue (fits w v)) fit in
     subst (λ (vs : List Val). StaysKept cells vs) (sym e) (put-good cells r w a.answer s h a.is a.fact)

@@ -21,18 +21,20 @@ ghost use Rattle.std.specs.Prelude.{
 ghost use Rattle.std.specs.Result.{result_ok};
 ghost use Rattle.wgsl_rules.specs.Converted.{converted};
 ghost use Rattle.wgsl_rules.specs.Paths.{fits, member_named, part_at, put_viewed, viewed};
-ghost use Rattle.wgsl_rules.specs.Values.{IsStorable, IsWellFormed, type_of};
+ghost use Rattle.wgsl_rules.specs.Values.{IsStorable, IsWellFormed, atomic_of, type_of};
 ghost use Rattle.wgsl_rules.specs.View.{type_view};
 ghost use Rattle.wgsl_scalar.specs.Answers.{refusal_of};
+ghost use Rattle.wgsl_scalar.specs.Literals.{literal_of};
+ghost use Rattle.wgsl_store.specs.Atomics.{IsAtomicOf, number_in};
 ghost use Rattle.wgsl_store.specs.Cells.{IsCell, IsPart, LeadsIn, cell_value, part_value};
 ghost use Rattle.wgsl_store.specs.Components.{has_steps, is_vector, leads_to_component};
 ghost use Rattle.wgsl_values.specs.View.{reference_of, steps_of, value_of};
 
 use crate::flat::{FlatCell, FlatPart};
-use crate::parts::{fits_place, indexed, member, no_part, part_viewed};
+use crate::parts::{atomic_number, fits_place, indexed, member, no_part, part_viewed, with_number};
 use std::alloc::{AllocError, Global};
 use wgsl_rules::{Convert, Ty, Type};
-use wgsl_scalar::Error;
+use wgsl_scalar::{Error, LiteralInstance};
 use wgsl_values::{Instance, MemView, RefInstance};
 
 /// What a cell of a store holds.
@@ -119,6 +121,22 @@ impl Cell {
             Cell::Tree(whole) => Ok(replace_tree(whole, reference.view(), value)),
         }
     }
+
+    /// Puts the number into the atomic that the reference leads to in the cell. It takes no memory. The
+    /// conditions: the reference leads to an atomic of numbers of the kind, and an atomic of the number may
+    /// be stored.
+    pub(crate) fn put_atomic_number(&mut self, reference: &RefInstance, number: LiteralInstance)
+        requires cell { IsCell self.old }
+        requires there { IsOkAnd (viewed (reference_of reference.now).view (cell_value self.old)) (IsAtomicOf (type_of (literal_of number))) }
+        requires storable { IsStorable (atomic_of (literal_of number)) }
+        ensures put { cell_value self.new ≡ put_viewed (reference_of reference.now).view (atomic_of (literal_of number)) (cell_value self.old) }
+        ensures cell { IsCell self.new }
+    {
+        match self {
+            Cell::Flat(bytes) => bytes.put_atomic_number(reference.view(), number),
+            Cell::Tree(whole) => put_number_in_tree(whole, reference.view(), number),
+        }
+    }
 }
 
 // `Cell::put` in a cell of bytes.
@@ -189,6 +207,18 @@ fn replace_tree(whole: &mut Instance, view: &MemView, value: Instance) -> Instan
         Some(old) => old,
         None => unreachable!(),
     }
+}
+
+// `Cell::put_atomic_number` in a cell that is a tree: the number stands in the place of the atomic while that
+// is out of the tree.
+fn put_number_in_tree(whole: &mut Instance, view: &MemView, number: LiteralInstance)
+    requires { IsOkAnd (viewed (steps_of view.now) (value_of whole.old)) (IsAtomicOf (type_of (literal_of number))) }
+    ensures { value_of whole.new ≡ put_viewed (steps_of view.now) (atomic_of (literal_of number)) (value_of whole.old) }
+{
+    let Some(atomic) = whole.put(view, Instance::from(number)) else {
+        unreachable!()
+    };
+    let _ = whole.put(view, with_number(atomic, number));
 }
 
 // Whether the view goes on to a part of the value.
@@ -298,6 +328,19 @@ impl<'a> Part<'a> {
         match self {
             Part::Flat(part) => part.value(alloc),
             Part::Tree(value) => value.clone(alloc),
+        }
+    }
+
+    /// The number of the atomic that the part is; `None` where it is no atomic. The condition: it may be
+    /// stored.
+    pub(crate) fn atomic_number(self) -> Option<LiteralInstance>
+        requires part { IsPart self }
+        requires storable { IsStorable (part_value self) }
+        ensures { option_map literal_of result ≡ number_in (part_value self.entry) }
+    {
+        match self {
+            Part::Flat(part) => part.atomic_number(),
+            Part::Tree(value) => atomic_number(value),
         }
     }
 

@@ -9,12 +9,12 @@ ghost use Rattle.wgsl_values.specs.View.{vec_view};
 use crate::located::{Located, Shape};
 use crate::make::TypePlan;
 use crate::plan::Plan;
-use crate::reader::{read_value, read_vector};
-use crate::writer::{runtime_count, write_value, write_whole};
+use crate::reader::{read_literal, read_value, read_vector};
+use crate::writer::{runtime_count, write_literal, write_value, write_whole};
 use std::alloc::{AllocError, Global};
 use std::marker::Model;
 use wgsl_rules::{Ty, Type};
-use wgsl_scalar::Error;
+use wgsl_scalar::{Error, LiteralInstance};
 use wgsl_values::{Instance, MemView, VecInstance};
 
 /// The bytes of a value of a type that has a layout, in memory of their own; padding is 0. Contracts see
@@ -64,7 +64,9 @@ impl FlatCell {
     ghost use Rattle.std.specs.Bool.{OnFalse, OnTrue};
     ghost use Rattle.wgsl_rules.specs.Layout.{has_layout};
     ghost use Rattle.wgsl_rules.specs.Paths.{fits, put_viewed, viewed};
-    ghost use Rattle.wgsl_rules.specs.Values.{IsStorable, type_of};
+    ghost use Rattle.wgsl_rules.specs.Values.{IsStorable, atomic_of, type_of};
+    ghost use Rattle.wgsl_scalar.specs.Literals.{literal_of};
+    ghost use Rattle.wgsl_store.specs.Atomics.{IsAtomicOf};
     ghost use Rattle.wgsl_store.specs.FlatCells.{IsFlatPart, part_value};
     ghost use Rattle.wgsl_values.specs.View.{value_of, steps_of};
 
@@ -117,6 +119,20 @@ impl FlatCell {
         part.write(self.bytes.as_mut_slice(), value);
         true
     }
+
+    /// Puts the number into the atomic that the view leads to. It takes no memory. The conditions: the view
+    /// leads to an atomic of numbers of the kind, and an atomic of the number may be stored.
+    pub(crate) fn put_atomic_number(&mut self, view: &MemView, number: LiteralInstance)
+        requires there { IsOkAnd (viewed (steps_of view.now) self.old) (IsAtomicOf (type_of (literal_of number))) }
+        requires storable { IsStorable (atomic_of (literal_of number)) }
+        ensures { self.new ≡ put_viewed (steps_of view.now) (atomic_of (literal_of number)) self.old }
+    {
+        let whole = Located::of_whole(&self.ty, &self.plan, self.count, self.bytes.len());
+        let Some(part) = whole.viewed(view) else {
+            unreachable!()
+        };
+        part.write_atomic_number(self.bytes.as_mut_slice(), number);
+    }
 }
 
 impl<'a> FlatPart<'a> {
@@ -136,6 +152,8 @@ impl<'a> FlatPart<'a> {
     ghost use Rattle.wgsl_rules.specs.Values.{IsStorable, type_of};
     ghost use Rattle.wgsl_rules.specs.View.{type_view};
     ghost use Rattle.wgsl_scalar.specs.Answers.{refusal_of};
+    ghost use Rattle.wgsl_scalar.specs.Literals.{literal_of};
+    ghost use Rattle.wgsl_store.specs.Atomics.{number_in};
     ghost use Rattle.wgsl_store.specs.Components.{is_vector};
     ghost use Rattle.wgsl_store.specs.FlatCells.{IsFlatPart, part_value};
     ghost use Rattle.wgsl_values.specs.View.{value_of, steps_of};
@@ -222,6 +240,15 @@ impl<'a> FlatPart<'a> {
         }
     }
 
+    /// The number of the atomic that the part is; `None` where it is no atomic.
+    pub(crate) fn atomic_number(self) -> Option<LiteralInstance>
+        requires { IsFlatPart self }
+        ensures { option_map literal_of result ≡ number_in (part_value self.entry) }
+    {
+        let content = self.located.atomic_content()?;
+        Some(read_literal(self.bytes, self.located.start, content))
+    }
+
     /// Whether the value fits the place of the part: it is of the part's type, and has the same paths. The
     /// condition: the value may be stored.
     pub(crate) fn fits(self, value: &Instance) -> bool
@@ -251,7 +278,8 @@ impl<'a> FlatPart<'a> {
 impl<'a> Located<'a> {
     ghost use Rattle.std.specs.Prelude.{◌≡◌, ◌↔◌, IfSome, IsTrue, length, option_map};
     ghost use Rattle.wgsl_rules.specs.Layout.{layout_of};
-    ghost use Rattle.wgsl_rules.specs.Values.{IsStorable, type_of};
+    ghost use Rattle.wgsl_rules.specs.Values.{IsStorable, atomic_of, type_of};
+    ghost use Rattle.wgsl_scalar.specs.Literals.{literal_of};
     ghost use Rattle.wgsl_store.specs.Located.{
       IsInside,
       IsLocated,
@@ -329,6 +357,17 @@ impl<'a> Located<'a> {
             Shape::Column(_, _, plan) => write_value(bytes, self.start, value, plan),
             Shape::Component(_) => write_value(bytes, self.start, value, &Plan::Scalar),
         }
+    }
+
+    // Writes the number of the atomic that the part is; an atomic of this number has its layout.
+    fn write_atomic_number(self, bytes: &mut [u8], number: LiteralInstance)
+        requires located { IsLocated self }
+        requires whole { self.len ≡ length bytes.old }
+        requires storable { IsStorable (atomic_of (literal_of number)) }
+        requires alike { layout_of (atomic_of (literal_of number)) ≡ (part_range self).layout }
+        ensures { bytes.new ≡ put (atomic_of (literal_of number)) (shape_plan self.entry.shape) self.entry.start bytes.old }
+    {
+        write_literal(bytes, self.start, number);
     }
 }
 

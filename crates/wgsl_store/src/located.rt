@@ -17,7 +17,7 @@ ghost use Rattle.std.specs.Prelude.{
 };
 ghost use Rattle.wgsl_rules.specs.Layout.{layout, member_parts, repeated};
 ghost use Rattle.wgsl_rules.specs.Paths.{index_named};
-ghost use Rattle.wgsl_rules.specs.TypeParts.{vec_part};
+ghost use Rattle.wgsl_rules.specs.TypeParts.{atomic_part, vec_part};
 ghost use Rattle.wgsl_rules.specs.Types.{array, mat, vec};
 ghost use Rattle.wgsl_rules.specs.Values.{index as index_step, member as member_step};
 ghost use Rattle.wgsl_rules.specs.View.{type_view, struct_view, members_view};
@@ -279,6 +279,16 @@ impl<'a> Located<'a> {
         match self.shape {
             Shape::Whole(ty, _) | Shape::Component(ty) => ty.as_vec().is_some(),
             Shape::Column(_, _, _) => true,
+        }
+    }
+
+    /// The type of the number that the part holds; `None` where it is no atomic.
+    pub(crate) fn atomic_content(self) -> Option<&'a Type>
+        ensures { option_map (λ t. type_view t.now) result ≡ atomic_part (shape_ty self.entry.shape) }
+    {
+        match self.shape {
+            Shape::Whole(ty, _) | Shape::Component(ty) => ty.as_atomic(),
+            Shape::Column(_, _, _) => None,
         }
     }
 

@@ -3,14 +3,17 @@
 ghost use Rattle.std.specs.Prelude.{◌≡◌, ◌<◌, IfOk, IsSomeAnd, Err, None, Some, option_map};
 ghost use Rattle.std.specs.Result.{result_ok};
 ghost use Rattle.wgsl_rules.specs.Paths.{fits, member_named, part_at, parts, same_paths, viewed};
-ghost use Rattle.wgsl_rules.specs.Values.{IsStorable, count, item, type_of};
+ghost use Rattle.wgsl_rules.specs.Values.{IsStorable, atomic_of, count, item, type_of};
 ghost use Rattle.wgsl_rules.specs.View.{type_view};
 ghost use Rattle.wgsl_scalar.specs.Answers.{refusal_of};
+ghost use Rattle.wgsl_scalar.specs.Literals.{literal_of};
+ghost use Rattle.wgsl_store.specs.Atomics.{IsAtomicOf, number_in};
 ghost use Rattle.wgsl_values.specs.View.{value_of, mat_view, vals_view, steps_of};
 
 use std::alloc::{AllocError, Global};
+use std::mem;
 use wgsl_rules::{Ty, Type};
-use wgsl_scalar::Error;
+use wgsl_scalar::{Error, LiteralInstance};
 use wgsl_values::{Instance, MatInstance, MemView};
 
 /// How many values there are.
@@ -124,6 +127,35 @@ pub(crate) fn part_viewed<'a>(value: &'a Instance, view: &MemView) -> Option<&'a
         MemView::Whole => Some(value),
         MemView::Member(name, rest) => part_viewed(member(value, name.as_str())?, rest),
         MemView::Index(i, rest) => part_viewed(indexed(value, *i)?, rest),
+    }
+}
+
+/// The number of the atomic that the value is; `None` where it is no atomic. The condition: it may be stored.
+pub(crate) fn atomic_number(value: &Instance) -> Option<LiteralInstance>
+    requires { IsStorable (value_of value.now) }
+    ensures { option_map literal_of result ≡ number_in (value_of value.now) }
+{
+    match value {
+        Instance::Atomic(atomic) => Some(*atomic.inner().unwrap_literal_ref()),
+        Instance::Literal(_) | Instance::Struct(_) | Instance::Array(_) | Instance::Vec(_) => None,
+        Instance::Mat(_) | Instance::Ptr(_) | Instance::Ref(_) | Instance::Deferred(_) => None,
+    }
+}
+
+/// The atomic with this number in the place of its own. It takes no memory. The condition: the value is an
+/// atomic of numbers of the kind.
+pub(crate) fn with_number(value: Instance, number: LiteralInstance) -> Instance
+    requires { IsAtomicOf (type_of (literal_of number)) (value_of value) }
+    ensures { value_of result ≡ atomic_of (literal_of number) }
+{
+    match value {
+        Instance::Atomic(mut atomic) => {
+            drop(mem::replace(atomic.inner_mut(), Instance::from(number)));
+            Instance::Atomic(atomic)
+        }
+        Instance::Literal(_) | Instance::Struct(_) | Instance::Array(_) => unreachable!(),
+        Instance::Vec(_) | Instance::Mat(_) | Instance::Ptr(_) => unreachable!(),
+        Instance::Ref(_) | Instance::Deferred(_) => unreachable!(),
     }
 }
 

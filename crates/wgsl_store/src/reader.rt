@@ -71,8 +71,8 @@ pub(crate) fn read_buffer(
     Ok(Some(value))
 }
 
-// The number of a scalar type that stands at `at`.
-fn read_literal(bytes: &[u8], at: usize, ty: &Type) -> LiteralInstance
+/// The number of a scalar type that stands at `at`.
+pub(crate) fn read_literal(bytes: &[u8], at: usize, ty: &Type) -> LiteralInstance
     requires scalar { IsTrue (is_some (scalar_kind (type_view ty.now))) }
     requires inside { at + size (type_view ty.now) ≤ length bytes.now }
     ensures { literal_of result ≡ decoded bytes.now at (leaf (type_view ty.now) (scalar_kind (type_view ty.now))) }

@@ -17,21 +17,26 @@ ghost use Rattle.std.specs.Prelude.{
   None,
   Some,
   true,
+  option_map,
   string_bytes,
 };
 ghost use Rattle.wgsl_rules.specs.Access.{can_write};
 ghost use Rattle.wgsl_rules.specs.Paths.{fits};
+ghost use Rattle.wgsl_rules.specs.Types.{atomic};
 ghost use Rattle.wgsl_rules.specs.Values.{
   Reference,
   IsStorable,
+  atomic_of,
   type_of,
   index as index_step,
   member as member_step,
 };
 ghost use Rattle.wgsl_rules.specs.Refusals.{write_ref_type};
 ghost use Rattle.wgsl_scalar.specs.Answers.{Gives, refusal_of};
+ghost use Rattle.wgsl_scalar.specs.Literals.{literal_of};
+ghost use Rattle.wgsl_store.specs.Atomics.{atomic_number};
 ghost use Rattle.wgsl_store.specs.Components.{names_component};
-ghost use Rattle.wgsl_store.specs.Memory.{HoldsValue, IsContent, IsKept, IsSound, held};
+ghost use Rattle.wgsl_store.specs.Memory.{HoldsValue, IsContent, IsKept, IsSound, held, put_cells};
 ghost use Rattle.wgsl_store.specs.ReferenceCalls.{
   deeper,
   read,
@@ -44,7 +49,7 @@ ghost use Rattle.wgsl_values.specs.View.{reference_of, value_of};
 use crate::store::Store;
 use std::alloc::{AllocError, Global};
 use wgsl_rules::{AccessMode, AddressSpace, Ty};
-use wgsl_scalar::Error;
+use wgsl_scalar::{Error, LiteralInstance};
 use wgsl_values::{Instance, MemView, RefInstance};
 
 /// What is done with a reference to a part of a cell of a [`Store`].
@@ -135,6 +140,25 @@ pub trait References: Sized {
         ensures err { OnErr result (store.new ≡ store.old) }
         ensures sound { OnOk result (IsSound store.new) }
         ensures content { IfOk result (λ v. IsContent store.new (value_of v)) }
+        ensures kept { (r : Reference) → IsKept store.old r → IsKept store.new r };
+
+    /// The number of the atomic that the reference names; `None` where it names no atomic (WGSL: atomic
+    /// builtin functions, `atomicLoad`). Whether the reference may read is not asked here: who reads an atomic
+    /// asks it. No memory is taken.
+    fn atomic_number(&self, store: &Store) -> Option<LiteralInstance>
+        requires { IsKept store.now (reference_of self.now) }
+        ensures { option_map literal_of result ≡ atomic_number store.now (reference_of self.now) };
+
+    /// Puts the number into the atomic that the reference names (WGSL: atomic builtin functions,
+    /// `atomicStore`). It is never refused, and takes no memory. The further conditions: the reference may
+    /// write, it is to an atomic of numbers of the kind, and an atomic of the number may be stored.
+    fn put_atomic_number(&self, store: &mut Store, number: LiteralInstance)
+        requires kept { IsKept store.old (reference_of self.now) }
+        requires may_write { can_write (reference_of self.now).access ≡ true }
+        requires typed { (reference_of self.now).ty ≡ atomic (type_of (literal_of number)) }
+        requires storable { IsStorable (atomic_of (literal_of number)) }
+        ensures put { store.new ≡ put_cells store.old (reference_of self.now) (atomic_of (literal_of number)) }
+        ensures sound { IsSound store.new }
         ensures kept { (r : Reference) → IsKept store.old r → IsKept store.new r };
 }
 
@@ -240,5 +264,13 @@ impl References for RefInstance {
     ) -> Result<Instance, Error> {
         check_exchange(alloc, self, store, &value)?;
         Ok(store.replace(alloc, self, value)?)
+    }
+
+    fn atomic_number(&self, store: &Store) -> Option<LiteralInstance> {
+        store.atomic_number(self)
+    }
+
+    fn put_atomic_number(&self, store: &mut Store, number: LiteralInstance) {
+        store.put_atomic_number(self, number);
     }
 }

@@ -4,7 +4,7 @@ use crate::cell::{Cell, Part};
 use crate::parts::{part, part_count};
 use std::alloc::{AllocError, Global};
 use std::marker::Model;
-use wgsl_scalar::Error;
+use wgsl_scalar::{Error, LiteralInstance};
 use wgsl_values::{Instance, RefInstance};
 
 /// The cells of a shader's memory, counted from 0. A cell lives as long as the store.
@@ -56,7 +56,9 @@ impl Store {
     };
     ghost use Rattle.std.specs.Result.{result_ok};
     ghost use Rattle.wgsl_rules.specs.Paths.{fits, parts};
-    ghost use Rattle.wgsl_rules.specs.Values.{Reference, IsStorable};
+    ghost use Rattle.wgsl_rules.specs.Types.{atomic};
+    ghost use Rattle.wgsl_rules.specs.Values.{Reference, IsStorable, atomic_of, type_of};
+    ghost use Rattle.wgsl_store.specs.Atomics.{atomic_number};
     ghost use Rattle.wgsl_store.specs.Cells.{IsPart, part_value};
     ghost use Rattle.wgsl_store.specs.Components.{names_component};
     ghost use Rattle.wgsl_store.specs.Memory.{
@@ -71,6 +73,7 @@ impl Store {
     };
     ghost use Rattle.wgsl_store.specs.ReferenceCalls.{read};
     ghost use Rattle.wgsl_scalar.specs.Answers.{Gives};
+    ghost use Rattle.wgsl_scalar.specs.Literals.{literal_of};
     ghost use Rattle.wgsl_values.specs.View.{value_of, reference_of};
 
     /// A store without cells; it takes no memory.
@@ -189,6 +192,15 @@ impl Store {
         }
     }
 
+    /// The number of the atomic that the reference names; `None` where it names no atomic. Read access is not
+    /// asked, and no memory is taken. The condition: the reference is kept.
+    pub(crate) fn atomic_number(&self, reference: &RefInstance) -> Option<LiteralInstance>
+        requires { IsKept self.now (reference_of reference.now) }
+        ensures { option_map literal_of result ≡ atomic_number self.now (reference_of reference.now) }
+    {
+        self.part(reference).atomic_number()
+    }
+
     /// Whether the value fits the place of the part that the reference names. It takes no memory. The
     /// conditions: the reference is kept, and the value may be stored.
     pub(crate) fn fits(&self, reference: &RefInstance, value: &Instance) -> bool
@@ -250,5 +262,19 @@ impl Store {
     {
         let cell = &mut self.cells[reference.cell()];
         cell.replace(alloc, reference, value)
+    }
+    /// Puts the number into the atomic that the reference names. Write access is not asked, and no memory is
+    /// taken. The conditions: the reference is kept, it is to an atomic of numbers of the kind, and an atomic
+    /// of the number may be stored.
+    pub(crate) fn put_atomic_number(&mut self, reference: &RefInstance, number: LiteralInstance)
+        requires kept { IsKept self.old (reference_of reference.now) }
+        requires typed { (reference_of reference.now).ty ≡ atomic (type_of (literal_of number)) }
+        requires storable { IsStorable (atomic_of (literal_of number)) }
+        ensures put { self.new ≡ put_cells self.old (reference_of reference.now) (atomic_of (literal_of number)) }
+        ensures sound { IsSound self.new }
+        ensures kept { (r : Reference) → IsKept self.old r → IsKept self.new r }
+    {
+        let cell = &mut self.cells[reference.cell()];
+        cell.put_atomic_number(reference, number);
     }
 }

@@ -116,8 +116,8 @@ pub(crate) fn write_value(out: &mut [u8], base: usize, value: &Instance, plan: &
     }
 }
 
-// A number at `at`.
-fn write_literal(out: &mut [u8], at: usize, literal: LiteralInstance)
+/// Writes a number at `at`.
+pub(crate) fn write_literal(out: &mut [u8], at: usize, literal: LiteralInstance)
     requires { Stands (literal_of literal) scalar at (length out.old) }
     ensures { out.new ≡ put (literal_of literal) scalar at out.old }
 {

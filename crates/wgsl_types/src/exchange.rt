@@ -96,7 +96,7 @@ fn exchange_if_equal(
     let exchanged = Instance::Literal(old) == *comparand;
     let answer = exchange_result(alloc, old, exchanged)?;
     if exchanged {
-        put_number(alloc, store, reference, new)?;
+        put_number(store, reference, new);
     }
     Ok(answer)
 }
@@ -128,7 +128,7 @@ pub fn atomicCompareExchangeWeak(
 {
     // `len` ensures that the store is sound.
     let _cells = store.len();
-    let old = load(alloc, store, p)?;
+    let old = load(store, p)?;
     let ty = old.literal_ty();
     let comparand = argument(alloc, &ty, comparand)?;
     let number = argument(alloc, &ty, new)?;
