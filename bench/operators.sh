@@ -165,6 +165,15 @@ fn main(rt: HostRuntime) -> io::Result<()> {
     Ok(())
 }
 RUST
+mkdir "$crate/proofs/in_place"
+cat > "$crate/proofs/in_place/Invariants.antt" <<'ANTT'
+use Rattle.wgsl_rules.specs.Values.{IsStorable}
+use Rattle.wgsl_values.specs.View.{vec_view}
+use Rattle.wgsl_bench.proofs.in_place.Given as goal
+
+abbrev pub invariant-loop : goal.invariant-loop
+invariant-loop l = IsStorable (vec_view l.vector)
+ANTT
 
 build
 for name in add_of_literals add_of_values_that_are_literals add_of_vectors add_of_a_vector_and_a_scalar \
