@@ -1,7 +1,7 @@
 -- Where members stand, the least sizes of buffers and what uniform space asks, of the worked types, by computation.
 use Rattle.std.proofs.Common.{◌≡◌, ℕ, [], ◌∷◌, Option, Some, None, refl}
 use Rattle.wgsl_rules.specs.Types.{Ty, bool, i32, u32, f32, f16, struct, array, vec, mat, atomic, Fields, no_fields, field}
-use Rattle.wgsl_rules.specs.Places.{member_layouts, part_stride, least_binding}
+use Rattle.wgsl_rules.specs.Places.{member_layouts, part_stride, size_with, least_binding}
 use Rattle.wgsl_rules.specs.Uniform.{uniform_rule, uniform_faults}
 use Rattle.wgsl_rules.specs.declared.places.MemberLayout.{MemberLayout}
 use Rattle.wgsl_rules.specs.declared.uniform.UniformFault.{UniformFault}
@@ -58,6 +58,9 @@ runtime_sized_member = refl
 
 least_bindings : (least_binding runtime_sized ≡ Some 64) × (least_binding (array (vec 3 u32) None) ≡ Some 16) × (least_binding (vec 3 u32) ≡ Some 12)
 least_bindings = (refl, refl, refl)
+
+sizes_with_elements : (size_with 5 runtime_sized ≡ Some 96) × (size_with 5 (array (vec 3 u32) None) ≡ Some 80) × (size_with 5 (array u32 (Some 2)) ≡ Some 8)
+sizes_with_elements = (refl, refl, refl)
 
 -- not the last member, so the structure has no place for its end
 runtime_sized_in_front : least_binding (struct [] (plain (array u32 None) (plain u32 no_fields))) ≡ None

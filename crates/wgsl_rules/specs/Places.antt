@@ -48,18 +48,22 @@ part_stride t = None
 
 -- ---- bindings
 
--- a runtime-sized array with one element; any other type itself
-abbrev pub with_one : Ty → Ty
-with_one (array t n) = array t (option_or n (Some 1))
-with_one t = t
+-- a runtime-sized array with k elements; any other type itself
+abbrev pub with_elements : ℕ → Ty → Ty
+with_elements k (array t n) = array t (option_or n (Some k))
+with_elements k t = t
 
 -- the members, the last of them so
-abbrev pub with_one_last : Fields → Fields
-with_one_last no_fields = no_fields
-with_one_last (field name t s a fs) = if have_none fs then field name (with_one t) s a no_fields else field name t s a (with_one_last fs)
+abbrev pub with_elements_last : ℕ → Fields → Fields
+with_elements_last k no_fields = no_fields
+with_elements_last k (field name t s a fs) =
+    if have_none fs then field name (with_elements k t) s a no_fields else field name t s a (with_elements_last k fs)
 
--- how many bytes a buffer has at least for a variable of the type: the size of the type, with one element in the
--- runtime-sized array that it is or ends in
+-- the size of the type, with k elements in the runtime-sized array that it is or ends in
+abbrev pub size_with : ℕ → Ty → Option ℕ
+size_with k (struct name fs) = size_of (struct name (with_elements_last k fs))
+size_with k t = size_of (with_elements k t)
+
+-- how many bytes a buffer has at least for a variable of the type: that array has one element at least
 abbrev pub least_binding : Ty → Option ℕ
-least_binding (struct name fs) = size_of (struct name (with_one_last fs))
-least_binding t = size_of (with_one t)
+least_binding t = size_with 1 t

@@ -8,8 +8,9 @@ ghost use Rattle.wgsl_rules.specs.Places.{
   layouts_behind,
   member_layouts,
   part_stride,
-  with_one,
-  with_one_last,
+  with_elements,
+  with_elements_last,
+  size_with,
   least_binding,
 };
 ghost use Rattle.wgsl_rules.specs.Measures.{AreMeasuresOf};
@@ -45,13 +46,18 @@ impl StructType {
         layouts_of(alloc, self.members.as_slice(), self.size_of())
     }
 
-    /// How many bytes the buffer of a variable of the structure has at least, in the storage and
-    /// uniform address spaces: its size, with one element in the runtime-sized array that it ends in
-    /// (WGSL: minimum buffer binding size). `None` where that is not known or passes 4294967295.
+    /// As [`Type::size_with`] of the structure.
+    pub fn size_with(&self, elements: usize) -> Option<u32>
+        ensures { result ≡ size_with elements (struct_view self.now) }
+    {
+        struct_size_with(self.members.as_slice(), elements)
+    }
+
+    /// As [`Type::least_binding`] of the structure.
     pub fn least_binding(&self) -> Option<u32>
         ensures { result ≡ least_binding (struct_view self.now) }
     {
-        size_with_one(self.members.as_slice())
+        self.size_with(1)
     }
 }
 
@@ -76,25 +82,33 @@ impl Type {
         }
     }
 
-    /// How many bytes the buffer of a variable of the type has at least, in the storage and uniform
-    /// address spaces: the size of the type, with one element in the runtime-sized array that it is or
-    /// ends in (WGSL: minimum buffer binding size). `None` where that is not known or passes
-    /// 4294967295.
-    pub fn least_binding(&self) -> Option<u32>
-        ensures { result ≡ least_binding (type_view self.now) }
+    /// The size of the type in bytes, with so many elements in the runtime-sized array that it is or
+    /// ends in (WGSL: structure member layout): a structure is filled up to its alignment. `None` where
+    /// it is not known or passes 4294967295.
+    pub fn size_with(&self, elements: usize) -> Option<u32>
+        ensures { result ≡ size_with elements (type_view self.now) }
     {
         match self {
-            Type::Struct(ty) => ty.least_binding(),
-            _ => self.measures_with_one().size,
+            Type::Struct(ty) => ty.size_with(elements),
+            _ => self.measures_with(elements).size,
         }
     }
 
-    // With one element where it is a runtime-sized array.
-    fn measures_with_one(&self) -> Measures
-        ensures { AreMeasuresOf (with_one (type_view self.now)) result }
+    /// How many bytes the buffer of a variable of the type has at least, in the storage and uniform
+    /// address spaces: its size, with one element in the runtime-sized array that it is or ends in
+    /// (WGSL: minimum buffer binding size). `None` where that is not known or passes 4294967295.
+    pub fn least_binding(&self) -> Option<u32>
+        ensures { result ≡ least_binding (type_view self.now) }
+    {
+        self.size_with(1)
+    }
+
+    // With so many elements where it is a runtime-sized array.
+    fn measures_with(&self, elements: usize) -> Measures
+        ensures { AreMeasuresOf (with_elements elements (type_view self.now)) result }
     {
         match self {
-            Type::Array(element, n) => element.measures().of_array(n.or(Some(1))),
+            Type::Array(element, n) => element.measures().of_array(n.or(Some(elements))),
             _ => self.measures(),
         }
     }
@@ -143,14 +157,18 @@ fn layouts_of(
     Ok(layouts)
 }
 
-// The size of the structure of these members, with one element in the last where that is a
+// The size of the structure of these members, with so many elements in the last where that is a
 // runtime-sized array.
-fn size_with_one(members: &[StructMemberType]) -> Option<u32>
-    ensures { result ≡ struct_size (extents (with_one_last (members_view members.now))) }
+fn struct_size_with(members: &[StructMemberType], elements: usize) -> Option<u32>
+    ensures { result ≡ struct_size (extents (with_elements_last elements (members_view members.now))) }
 {
     let Some((last, front)) = members.split_last() else {
         return None;
     };
-    let last = last.ty.measures_with_one().of_member(last.size, last.align);
-    measure_members(front).with(last).of_struct().size
+    let last = last
+        .ty
+        .measures_with(elements)
+        .of_member(last.size, last.align);
+    let all = measure_members(front).with(last);
+    all.of_struct().size
 }

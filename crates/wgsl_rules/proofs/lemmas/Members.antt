@@ -7,7 +7,7 @@ use Rattle.wgsl_rules.specs.Layout.{have_fixed_layouts, is_fixed_member, is_runt
 use Rattle.wgsl_rules.specs.View.{Field, member_view, members_view}
 use Rattle.wgsl_rules.specs.declared.ty.StructMemberType.{StructMemberType}
 
-abbrev pub first : Field → Fields → Fields
+abbrev first : Field → Fields → Fields
 first f fs = field f.name f.ty f.size f.align fs
 
 -- whether members end in a runtime-sized array, of which these are the last, after what ends at `from`; those
@@ -27,7 +27,7 @@ fixed-first true f fs = refl
 fixed-first false f fs = refl
 
 -- the members from one on
-pub members-from : (ms : List StructMemberType) (i : ℕ) (m : StructMemberType) → i < length ms → m ≡ get_or ms i m → members_view (drop i ms) ≡ first (member_view m) (members_view (drop (suc i) ms))
+members-from : (ms : List StructMemberType) (i : ℕ) (m : StructMemberType) → i < length ms → m ≡ get_or ms i m → members_view (drop i ms) ≡ first (member_view m) (members_view (drop (suc i) ms))
 members-from [] i m h e = absurd (omega arith)
 members-from (x ∷ ms) zero m h e = ap (λ (y : StructMemberType). first (member_view y) (members_view ms)) (sym e)
 members-from (x ∷ ms) (suc i) m h e = members-from ms i m (omega arith) e

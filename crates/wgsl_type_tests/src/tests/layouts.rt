@@ -215,6 +215,20 @@ fn a_runtime_sized_last_member(rt: HostRuntime) {
     assert_layouts(&rt, alloc, ty, Some(64), &[known(0, 4, 4, 28), last]);
 }
 
+fn assert_size(rt: &impl Abort, ty: Type, elements: usize, size: Option<u32>) {
+    assert_eq!(rt; ty.size_with(elements), size, "{ty}");
+}
+
+#[test]
+fn sizes_with_so_many_elements(rt: HostRuntime) {
+    let alloc = rt.alloc();
+    let ty = boxed(&rt, alloc, runtime_sized(&rt, alloc));
+    assert_size(&rt, ty, 5, Some(96));
+    let ty = boxed(&rt, alloc, runtime_sized(&rt, alloc));
+    assert_size(&rt, ty, 536870912, None);
+    assert_size(&rt, array(&rt, alloc, Type::U32, Some(2)), 5, Some(8));
+}
+
 // How far the parts lie apart, and how large the buffer of a variable is at least.
 fn assert_strides(rt: &impl Abort, ty: Type, stride: Option<u32>, least_binding: Option<u32>) {
     assert_eq!(rt; ty.stride(), stride, "{ty}");
