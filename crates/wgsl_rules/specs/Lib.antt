@@ -10,11 +10,13 @@ pub mod Laws
 pub mod Layout
 pub mod Measures
 pub mod Paths
+pub mod Places
 pub mod Refusals
 pub mod Same
 pub mod Size
 pub mod Text
 pub mod TypeParts
 pub mod Types
+pub mod Uniform
 pub mod Values
 pub mod View

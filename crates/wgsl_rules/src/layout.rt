@@ -24,7 +24,8 @@ pub(crate) fn is_from_2_to_4(n: u8) -> bool
     2 <= n && n <= 4
 }
 
-fn is_multiple_of(attribute: u32, align: Option<u32>) -> bool
+/// A number beside an alignment that is known.
+pub(crate) fn is_multiple_of(attribute: u32, align: Option<u32>) -> bool
     ensures { result ≡ is_multiple_of attribute align }
 {
     match align {

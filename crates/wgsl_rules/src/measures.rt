@@ -267,7 +267,7 @@ pub(crate) fn measure_members(members: &[StructMemberType]) -> MemberMeasures
 impl StructMemberType {
     // With its attributes, which take the place of what its type has.
     #[cycle(measures)]
-    fn measures(&self) -> Measures
+    pub(crate) fn measures(&self) -> Measures
         ensures size { result.size ≡ (extent_of (member_view self.now)).size }
         ensures align { result.align ≡ (extent_of (member_view self.now)).align }
         ensures fixed { result.is_fixed ≡ is_fixed_member (member_view self.now) }

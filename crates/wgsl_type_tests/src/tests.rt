@@ -3,6 +3,7 @@
 mod asserts;
 mod errors;
 mod growth;
+mod layouts;
 mod literals;
 mod operators;
 mod samples;
