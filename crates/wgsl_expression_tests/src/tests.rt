@@ -1,4 +1,4 @@
-//! What no clause says of the operators and of the builtin functions: worked rows, by the texts of their answers.
+//! What no clause says of the operators: worked rows, by the texts of their answers.
 //!
 //! One growth of memory alone is refused in a run, so what wants memory is asked again. Tests whose growths are
 //! refused in turn stand in `growth`.
@@ -24,9 +24,6 @@ macro_rules! answered {
 }
 
 mod answers;
-mod atomics;
-mod builtins;
-mod counters;
 mod growth;
-mod samples;
+mod made;
 mod sorts;

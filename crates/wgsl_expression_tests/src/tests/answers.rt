@@ -1,10 +1,10 @@
-//! What operators and builtin functions answer, and the texts of it: the value's own, or the case of the refusal with what it holds.
+//! What operators answer, by the texts of it.
 
 ghost use Rattle.wgsl_rules.specs.Values.{IsWellFormed};
 ghost use Rattle.wgsl_values.specs.View.{value_of};
 
-use crate::tests::samples::{Sample, made};
-use std::alloc::{AllocError, Global};
+use crate::tests::made::made;
+use std::alloc::Global;
 use std::fmt::Display;
 use std::process::Abort;
 use wgsl_ops::{InstanceOperators, Operators};
@@ -17,6 +17,8 @@ use wgsl_rules::UnaryOperator::{
     AddressOf, BitwiseComplement, Indirection, LogicalNegation, Negation,
 };
 use wgsl_rules::{BinaryOperator, ShaderStage, UnaryOperator};
+use wgsl_samples::operands::Sample;
+use wgsl_samples::refusals::text_of;
 use wgsl_scalar::Error;
 use wgsl_values::Instance;
 
@@ -98,40 +100,6 @@ pub(super) fn turned(
     let answer = answered!(answer_of_one(rt, alloc, operator, &value));
     drop(value);
     answer
-}
-
-/// The text of a refusal, without that of a builtin's reason.
-fn refusal_text(alloc: Global, error: &Error) -> Result<String, AllocError> {
-    match error {
-        Error::Unary(operator, ty) => format!(in alloc; "Unary {operator} {ty}"),
-        Error::Binary(operator, left, right) => {
-            format!(in alloc; "Binary {operator} {left}, {right}")
-        }
-        Error::CompwiseBinary(left, right) => format!(in alloc; "CompwiseBinary {left}, {right}"),
-        Error::ShlOverflow(count, number) => format!(in alloc; "ShlOverflow {count}, {number}"),
-        Error::ShrOverflow(count, number) => format!(in alloc; "ShrOverflow {count}, {number}"),
-        Error::AddOverflow => format!(in alloc; "AddOverflow"),
-        Error::SubOverflow => format!(in alloc; "SubOverflow"),
-        Error::MulOverflow => format!(in alloc; "MulOverflow"),
-        Error::DivByZero => format!(in alloc; "DivByZero"),
-        Error::RemZeroDiv => format!(in alloc; "RemZeroDiv"),
-        Error::ConvOverflow(literal, ty) => format!(in alloc; "ConvOverflow {literal}, {ty}"),
-        Error::ParamType(asked, given) => format!(in alloc; "ParamType {asked}, {given}"),
-        Error::Builtin(_) => format!(in alloc; "Builtin"),
-        Error::NotRead => format!(in alloc; "NotRead"),
-        Error::NotWrite => format!(in alloc; "NotWrite"),
-        Error::NotReadWrite => format!(in alloc; "NotReadWrite"),
-        Error::PtrHandle => format!(in alloc; "PtrHandle"),
-        Error::PtrVecComp => format!(in alloc; "PtrVecComp"),
-        other => format!(in alloc; "error {}", other.number()),
-    }
-}
-
-fn text_of<T: Display>(alloc: Global, answer: &Result<T, Error>) -> Result<String, AllocError> {
-    match answer {
-        Ok(value) => value.to_string(alloc),
-        Err(error) => refusal_text(alloc, error),
-    }
 }
 
 /// Asserts the text of the answer.

@@ -6,8 +6,9 @@ ghost use Rattle.wgsl_rules.specs.Values.{type_of};
 ghost use Rattle.wgsl_scalar.specs.Literals.{literal_of};
 
 use crate::tests::answers::assert_answer;
-use crate::tests::samples::{i2, i3, made_vector, u2};
+use crate::tests::made::made_vector;
 use wgsl_ops::Compwise;
+use wgsl_samples::operands::{i2, i3, u2};
 use wgsl_scalar::LiteralInstance::I32;
 use wgsl_scalar::{Error, LiteralInstance};
 

@@ -4,13 +4,14 @@ ghost use Rattle.wgsl_rules.specs.Values.{IsStorable};
 ghost use Rattle.wgsl_values.specs.View.{vec_view};
 
 use crate::tests::answers::assert_answer;
-use crate::tests::samples::{Sample, b2, i2, made_vector, n2, u2, u3};
+use crate::tests::made::made_vector;
 use std::alloc::Global;
 use std::process::Abort;
 use wgsl_ops::{Operators, ScalarOperators, VecOperators};
 use wgsl_rules::BinaryOperator::{Addition, Division, Multiplication, Remainder, Subtraction};
 use wgsl_rules::ShaderStage::{Const, Exec, Override};
 use wgsl_rules::{BinaryOperator, ShaderStage};
+use wgsl_samples::operands::{Sample, b2, i2, n2, u2, u3};
 use wgsl_scalar::LiteralInstance::{AbstractInt, I32, U32};
 use wgsl_scalar::{Error, LiteralInstance};
 use wgsl_values::VecInstance;

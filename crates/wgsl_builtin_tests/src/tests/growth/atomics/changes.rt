@@ -1,8 +1,8 @@
 //! Atomics that are loaded, changed and stored.
 
 use crate::tests::atomics::{Change, OnMemory, assert_call, assert_refused, whole};
-use crate::tests::samples::{Sample, b, i, i2, l, n, u, u2};
 use wgsl_rules::AccessMode::{Read, ReadWrite, Write};
+use wgsl_samples::operands::{Sample, b, i, i2, l, n, u, u2};
 use wgsl_scalar::LiteralInstance::{I32, U32};
 
 const EACH_CHANGE: [Change; 8] = [

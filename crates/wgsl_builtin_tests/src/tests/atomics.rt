@@ -1,7 +1,7 @@
 //! Calls of the builtin functions of memory, by a name that a row has.
 
-use crate::tests::samples::Sample;
 use wgsl_rules::AccessMode;
+use wgsl_samples::operands::Sample;
 
 mod calls;
 mod lists;

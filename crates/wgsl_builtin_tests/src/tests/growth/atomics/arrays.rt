@@ -2,8 +2,8 @@
 
 use crate::tests::atomics::OnMemory::Length;
 use crate::tests::atomics::{Place, assert_call, assert_refused, whole};
-use crate::tests::samples::{Sample, u, u2};
 use wgsl_rules::AccessMode::{Read, ReadWrite, Write};
+use wgsl_samples::operands::{Sample, u, u2};
 use wgsl_scalar::LiteralInstance;
 use wgsl_scalar::LiteralInstance::{Bool, I32, U32};
 

@@ -3,8 +3,8 @@
 use crate::tests::builtins::{
     One, Three, Two, assert_rows_of_one, assert_rows_of_three, assert_rows_of_two,
 };
-use crate::tests::samples::{Sample, b, b2, i, i2, i3, l, l2, n, n2, n3, u, u2, u3, u4};
 use wgsl_rules::ShaderStage::{Const, Exec, Override};
+use wgsl_samples::operands::{Sample, b, b2, i, i2, i3, l, l2, n, n2, n3, u, u2, u3, u4};
 use wgsl_scalar::LiteralInstance::U64;
 
 /// The least number of 64 bits.

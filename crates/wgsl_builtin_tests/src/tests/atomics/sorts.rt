@@ -3,7 +3,7 @@
 use crate::tests::atomics::OnMemory::{CompareExchange, Length, Load, Store};
 use crate::tests::atomics::steps::assert_no_pointer;
 use crate::tests::atomics::{Change, OnMemory};
-use crate::tests::samples::{Sample, b, i2, n, u};
+use wgsl_samples::operands::{Sample, b, i2, n, u};
 use wgsl_scalar::LiteralInstance::I32;
 
 const EACH_ON_MEMORY: [OnMemory; 13] = [

@@ -1,7 +1,7 @@
 //! Whether all or any are true, and a choice between two values.
 
 use crate::tests::builtins::{One, Three, assert_rows_of_one, assert_rows_of_three};
-use crate::tests::samples::{Sample, b, b2, i, i2, i3, n, n2, u, u2};
+use wgsl_samples::operands::{Sample, b, b2, i, i2, i3, n, n2, u, u2};
 use wgsl_scalar::LiteralInstance::{Bool, I32};
 
 #[test]

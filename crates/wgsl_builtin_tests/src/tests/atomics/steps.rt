@@ -1,14 +1,14 @@
 //! What the builtin functions of memory answer on a store with one cell, and what the cell then has.
 
-use crate::tests::answers::assert_answer;
+use crate::tests::answers::{assert_answer, made};
 use crate::tests::atomics::calls::called;
 use crate::tests::atomics::{OnMemory, Place};
-use crate::tests::samples::{Sample, made};
 use std::alloc::{AllocError, Global};
 use std::process::Abort;
 use wgsl_rules::AccessMode::ReadWrite;
 use wgsl_rules::AddressSpace::Storage;
 use wgsl_rules::Ty;
+use wgsl_samples::operands::Sample;
 use wgsl_samples::values::bytes_of;
 use wgsl_scalar::Error;
 use wgsl_store::{Buffers, References, Store};

@@ -3,7 +3,7 @@
 use crate::tests::builtins::{
     One, Three, assert_inserted, assert_rows_of_one, assert_rows_of_three,
 };
-use crate::tests::samples::{Sample, b, b2, i, i2, i3, l, l2, n, n2, u, u2, u3, u4};
+use wgsl_samples::operands::{Sample, b, b2, i, i2, i3, l, l2, n, n2, u, u2, u3, u4};
 use wgsl_scalar::LiteralInstance::U64;
 
 #[test]

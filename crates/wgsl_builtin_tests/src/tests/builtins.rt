@@ -3,11 +3,11 @@
 ghost use Rattle.wgsl_rules.specs.Values.{IsWellFormed};
 ghost use Rattle.wgsl_values.specs.View.{value_of};
 
-use crate::tests::answers::assert_answer;
-use crate::tests::samples::{Sample, made};
+use crate::tests::answers::{assert_answer, made};
 use std::alloc::{AllocError, Global};
 use std::process::Abort;
 use wgsl_rules::{ShaderStage, Type};
+use wgsl_samples::operands::Sample;
 use wgsl_samples::types::vector;
 use wgsl_scalar::Error;
 use wgsl_types::{

@@ -4,10 +4,10 @@ use crate::tests::builtins::Word::{Signed, Unsigned};
 use crate::tests::builtins::{
     One, Three, Two, assert_cast, assert_inserted, assert_one, assert_three, assert_two,
 };
-use crate::tests::samples::{Sample, u};
 use std::alloc::Global;
 use std::process::Abort;
 use wgsl_rules::ShaderStage::{Const, Exec};
+use wgsl_samples::operands::{Sample, u};
 use wgsl_scalar::LiteralInstance::I32;
 
 const EACH_OF_ONE: [One; 17] = [

@@ -2,7 +2,7 @@
 
 use crate::tests::builtins::Word::{Signed, Unsigned};
 use crate::tests::builtins::assert_casts;
-use crate::tests::samples::{Sample, b, b2, i, i2, i3, l, l2, n, n2, n3, u, u2, u4};
+use wgsl_samples::operands::{Sample, b, b2, i, i2, i3, l, l2, n, n2, n3, u, u2, u4};
 use wgsl_scalar::LiteralInstance::U64;
 
 #[test]

@@ -2,8 +2,8 @@
 
 use crate::tests::atomics::OnMemory::CompareExchange;
 use crate::tests::atomics::{assert_call, assert_refused, whole};
-use crate::tests::samples::{Sample, b, i, i2, l, n, u};
 use wgsl_rules::AccessMode::{Read, ReadWrite, Write};
+use wgsl_samples::operands::{Sample, b, i, i2, l, n, u};
 use wgsl_scalar::LiteralInstance::{I32, U32};
 
 /// An atomic of an i32.

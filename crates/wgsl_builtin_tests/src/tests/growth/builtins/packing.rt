@@ -1,7 +1,7 @@
 //! Four bytes in a word.
 
 use crate::tests::builtins::{One, Two, assert_rows_of_one, assert_rows_of_two};
-use crate::tests::samples::{Sample, b, i, i2, i4, l, n, n4, u, u2, u3, u4};
+use wgsl_samples::operands::{Sample, b, i, i2, i4, l, n, n4, u, u2, u3, u4};
 use wgsl_scalar::LiteralInstance::{Bool, I64};
 
 #[test]

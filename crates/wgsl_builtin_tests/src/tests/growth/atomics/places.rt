@@ -2,10 +2,10 @@
 
 use crate::tests::atomics::OnMemory::{CompareExchange, Load, Store};
 use crate::tests::atomics::{Change, OnMemory, Place, assert_call, assert_refused};
-use crate::tests::samples::{Sample, b, i, n, u};
 use std::alloc::{AllocError, Global};
 use std::process::Abort;
 use wgsl_rules::AccessMode::{Read, ReadWrite, Write};
+use wgsl_samples::operands::{Sample, b, i, n, u};
 use wgsl_scalar::LiteralInstance::{I32, U32};
 
 /// The count of a structure.

@@ -4,8 +4,8 @@ ghost use Rattle.wgsl_rules.specs.Values.{IsWellFormed};
 ghost use Rattle.wgsl_types.specs.Atomics.{KeepsPointer};
 ghost use Rattle.wgsl_values.specs.View.{value_of};
 
+use crate::tests::answers::made;
 use crate::tests::atomics::{Change, OnMemory};
-use crate::tests::samples::made;
 use std::alloc::Global;
 use std::process::Abort;
 use wgsl_scalar::Error;

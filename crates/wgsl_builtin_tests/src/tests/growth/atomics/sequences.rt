@@ -2,9 +2,9 @@
 
 use crate::tests::atomics::OnMemory::{CompareExchange, Load, Store};
 use crate::tests::atomics::{Change, OnMemory, Place, Step, assert_steps, whole};
-use crate::tests::samples::{Sample, i, n, u};
 use wgsl_rules::AccessMode;
 use wgsl_rules::AccessMode::{Read, ReadWrite, Write};
+use wgsl_samples::operands::{Sample, i, n, u};
 use wgsl_scalar::LiteralInstance::{I32, U32};
 
 #[test]

@@ -1,16 +1,17 @@
 //! Long lists of atomics, writes and reads through overlapping references, against a plain memory of words: in a cell
 //! of bytes, and in one whose type has no layout.
 
+use crate::tests::answers::made;
 use crate::tests::atomics::Change;
 use crate::tests::atomics::calls::{changed, compared, loaded, stored};
 use crate::tests::atomics::memory::{Memory, at, pointer};
 use crate::tests::atomics::plain::{Given, Numbers, Plain, number};
-use crate::tests::counters::{counters, flagged, totals};
-use crate::tests::samples::{Sample, atomic, made};
 use std::alloc::Global;
 use std::fmt::Debug;
 use std::process::Abort;
 use wgsl_rules::{StructType, Type};
+use wgsl_samples::atomics::{atomic, counters, flagged, totals};
+use wgsl_samples::operands::Sample;
 use wgsl_samples::types::{member, struct_type};
 use wgsl_scalar::{Error, LiteralInstance};
 use wgsl_store::{References, Store};
@@ -200,12 +201,14 @@ fn write(
 
 /// The atomic of the number.
 fn atomic_of(rt: &impl Abort, alloc: Global, number: LiteralInstance) -> Instance {
-    Instance::from(atomic(rt, alloc, number).expect(rt, "memory"))
+    let atomic = atomic(alloc, number).expect(rt, "memory");
+    atomic.expect(rt, "an atomic")
 }
 
 /// The totals of a structure, the first of which are runtime-sized.
 fn totals_of(rt: &impl Abort, alloc: Global, structure: usize, numbers: &[i32]) -> Instance {
-    Instance::from(totals(rt, alloc, numbers, structure == 0).expect(rt, "memory"))
+    let totals = totals(alloc, numbers, structure == 0).expect(rt, "memory");
+    totals.expect(rt, "totals")
 }
 
 fn assert_read(rt: &impl Abort, alloc: Global, memory: &Memory, plain: &Plain, i: usize) {
@@ -283,11 +286,11 @@ fn assert_step(
 
 /// Makes a list of calls on both, in two structures with the count 9 and the totals 1 to 5.
 fn assert_run(rt: &impl Abort, alloc: Global, seed: u64) {
-    let first = counters(rt, alloc, 9, &[1, 2, 3, 4, 5]).expect(rt, "memory");
-    let second = flagged(rt, alloc, 9, &[1, 2, 3, 4, 5]).expect(rt, "memory");
+    let first = counters(alloc, 9, &[1, 2, 3, 4, 5]).expect(rt, "memory");
+    let second = flagged(alloc, 9, &[1, 2, 3, 4, 5]).expect(rt, "memory");
     let mut memory = Memory::new(alloc);
-    memory.add(rt, alloc, first);
-    memory.add(rt, alloc, second);
+    memory.add(rt, alloc, first.expect(rt, "a structure"));
+    memory.add(rt, alloc, second.expect(rt, "a structure"));
     let words = vec![in alloc; 9, 1, 2, 3, 4, 5, 9, 1, 2, 3, 4, 5].expect(rt, "memory");
     let mut plain = Plain { words };
     let mut numbers = Numbers { state: seed };

@@ -2,8 +2,8 @@
 
 use crate::tests::atomics::OnMemory::Load;
 use crate::tests::atomics::{assert_call, assert_refused, whole};
-use crate::tests::samples::{Sample, b, i, u2};
 use wgsl_rules::AccessMode::{Read, ReadWrite, Write};
+use wgsl_samples::operands::{Sample, b, i, u2};
 use wgsl_scalar::LiteralInstance::{I32, U32};
 
 #[test]

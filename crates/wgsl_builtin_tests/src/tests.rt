@@ -1,0 +1,29 @@
+//! What no clause says of the builtin functions: worked rows, by the texts of their answers.
+//!
+//! One growth of memory alone is refused in a run, so what wants memory is asked again. Tests whose growths are
+//! refused in turn stand in `growth`.
+
+/// What the call answers, where memory is not wanted a second time.
+macro_rules! again {
+    ($rt:expr; $call:expr) => {
+        match $call {
+            Ok(answer) => answer,
+            Err(_) => $call.expect($rt, "memory"),
+        }
+    };
+}
+
+/// The answer or the refusal of the call, which is made a second time where it wants memory.
+macro_rules! answered {
+    ($call:expr) => {
+        match $call {
+            Err(wgsl_scalar::Error::Memory) => $call,
+            answer => answer,
+        }
+    };
+}
+
+mod answers;
+mod atomics;
+mod builtins;
+mod growth;
