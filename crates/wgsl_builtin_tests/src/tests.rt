@@ -6,9 +6,9 @@
 /// What the call answers, where memory is not wanted a second time.
 macro_rules! again {
     ($rt:expr; $call:expr) => {
-        match $call {
-            Ok(answer) => answer,
-            Err(_) => $call.expect($rt, "memory"),
+        match $call.ok() {
+            Some(answer) => answer,
+            None => $call.expect($rt, "memory"),
         }
     };
 }
@@ -16,9 +16,9 @@ macro_rules! again {
 /// The answer or the refusal of the call, which is made a second time where it wants memory.
 macro_rules! answered {
     ($call:expr) => {
-        match $call {
-            Err(wgsl_scalar::Error::Memory) => $call,
-            answer => answer,
+        match crate::tests::answers::settled($call) {
+            Some(answer) => answer,
+            None => $call,
         }
     };
 }

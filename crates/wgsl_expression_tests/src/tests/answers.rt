@@ -22,20 +22,20 @@ use wgsl_samples::refusals::text_of;
 use wgsl_scalar::Error;
 use wgsl_values::Instance;
 
-/// What the operator gives for the two values.
-fn answer(
+/// What the operator gives for the two values or vectors; any but `||` and `&&`.
+pub(super) fn answer_of_two<T: Operators>(
+    rt: &impl Abort,
     alloc: Global,
     operator: BinaryOperator,
     stage: ShaderStage,
-    left: &Instance,
-    right: &Instance,
-) -> Result<Instance, Error>
-    requires left { IsWellFormed (value_of left.now) }
-    requires right { IsWellFormed (value_of right.now) }
+    left: &T,
+    right: &T,
+) -> Result<T, Error>
+    requires left { IsWellFormed (T.value_of left.now) }
+    requires right { IsWellFormed (T.value_of right.now) }
 {
     match operator {
-        ShortCircuitOr => left.op_or(alloc, right),
-        ShortCircuitAnd => left.op_and(alloc, right),
+        ShortCircuitOr | ShortCircuitAnd => panic!(rt; "values alone have {operator}"),
         Addition => left.op_add(alloc, right, stage),
         Subtraction => left.op_sub(alloc, right, stage),
         Multiplication => left.op_mul(alloc, right, stage),
@@ -55,6 +55,42 @@ fn answer(
     }
 }
 
+/// What the operator gives for the value or vector; `!`, `-` or `~`.
+pub(super) fn answer_of_one<T: Operators>(
+    rt: &impl Abort,
+    alloc: Global,
+    operator: UnaryOperator,
+    value: &T,
+) -> Result<T, Error>
+    requires { IsWellFormed (T.value_of value.now) }
+{
+    match operator {
+        LogicalNegation => value.op_not(alloc),
+        Negation => value.op_neg(alloc),
+        BitwiseComplement => value.op_bitnot(alloc),
+        Indirection => panic!(rt; "values alone have {operator}"),
+        AddressOf => panic!(rt; "an address is taken in a store"),
+    }
+}
+
+fn answer(
+    rt: &impl Abort,
+    alloc: Global,
+    operator: BinaryOperator,
+    stage: ShaderStage,
+    left: &Instance,
+    right: &Instance,
+) -> Result<Instance, Error>
+    requires left { IsWellFormed (value_of left.now) }
+    requires right { IsWellFormed (value_of right.now) }
+{
+    match operator {
+        ShortCircuitOr => left.op_or(alloc, right),
+        ShortCircuitAnd => left.op_and(alloc, right),
+        _ => answer_of_two(rt, alloc, operator, stage, left, right),
+    }
+}
+
 /// What the operator gives for the two values.
 pub(super) fn joined(
     rt: &impl Abort,
@@ -66,13 +102,12 @@ pub(super) fn joined(
 ) -> Result<Instance, Error> {
     let left = made(rt, alloc, left);
     let right = made(rt, alloc, right);
-    let answer = answered!(answer(alloc, operator, stage, &left, &right));
+    let answer = answered!(answer(rt, alloc, operator, stage, &left, &right));
     drop((left, right));
     answer
 }
 
-/// What the operator gives for the value; `!`, `-`, `~` or `*`.
-fn answer_of_one(
+fn answer_for(
     rt: &impl Abort,
     alloc: Global,
     operator: UnaryOperator,
@@ -81,11 +116,8 @@ fn answer_of_one(
     requires { IsWellFormed (value_of value.now) }
 {
     match operator {
-        LogicalNegation => value.op_not(alloc),
-        Negation => value.op_neg(alloc),
-        BitwiseComplement => value.op_bitnot(alloc),
         Indirection => value.op_deref(alloc),
-        AddressOf => panic!(rt; "an address is taken in a store"),
+        _ => answer_of_one(rt, alloc, operator, value),
     }
 }
 
@@ -97,9 +129,18 @@ pub(super) fn turned(
     value: Sample,
 ) -> Result<Instance, Error> {
     let value = made(rt, alloc, value);
-    let answer = answered!(answer_of_one(rt, alloc, operator, &value));
+    let answer = answered!(answer_for(rt, alloc, operator, &value));
     drop(value);
     answer
+}
+
+/// The answer or the refusal of a call; none where it wants memory.
+pub(super) fn settled<T>(answer: Result<T, Error>) -> Option<Result<T, Error>> {
+    match answer {
+        Ok(value) => Some(Ok(value)),
+        Err(Error::Memory) => None,
+        Err(refusal) => Some(Err(refusal)),
+    }
 }
 
 /// Asserts the text of the answer.

@@ -217,6 +217,20 @@ fn assert_read(rt: &impl Abort, alloc: Global, memory: &Memory, plain: &Plain, i
     assert_same(rt, answer, Answer::Value(wanted));
 }
 
+/// Writes the value, and asserts what is answered.
+fn assert_written(
+    rt: &impl Abort,
+    alloc: Global,
+    memory: &mut Memory,
+    i: usize,
+    value: Instance,
+    wanted: Answer,
+) {
+    let reference = at(rt, &memory.words, i);
+    let answer = write(rt, alloc, &mut memory.store, reference, value);
+    assert_same(rt, answer, wanted);
+}
+
 /// Writes the atomic of an argument that is no abstract number.
 fn assert_write(
     rt: &impl Abort,
@@ -226,17 +240,21 @@ fn assert_write(
     i: usize,
     given: Given,
 ) {
-    let reference = at(rt, &memory.words, i);
-    let (value, wanted) = match given {
+    match given {
         Given::Own(word) => {
             plain.put(i, word);
-            (atomic_of(rt, alloc, number(i, word)), Answer::Done)
+            let value = atomic_of(rt, alloc, number(i, word));
+            assert_written(rt, alloc, memory, i, value, Answer::Done);
         }
-        Given::Other(_) => (atomic_of(rt, alloc, given.literal(i)), WRITE_REF_TYPE),
-        Given::Abstract(word) => (Instance::from(number(i, word)), WRITE_REF_TYPE),
-    };
-    let answer = write(rt, alloc, &mut memory.store, reference, value);
-    assert_same(rt, answer, wanted);
+        Given::Other(_) => {
+            let value = atomic_of(rt, alloc, given.literal(i));
+            assert_written(rt, alloc, memory, i, value, WRITE_REF_TYPE);
+        }
+        Given::Abstract(word) => {
+            let value = Instance::from(number(i, word));
+            assert_written(rt, alloc, memory, i, value, WRITE_REF_TYPE);
+        }
+    }
 }
 
 /// Reads the totals of a structure, and writes them with each changed by a step.

@@ -1,6 +1,6 @@
 //! What the builtin functions of memory answer on a store with one cell, and what the cell then has.
 
-use crate::tests::answers::{assert_answer, made};
+use crate::tests::answers::{assert_answer, made, settled};
 use crate::tests::atomics::calls::called;
 use crate::tests::atomics::{OnMemory, Place};
 use std::alloc::{AllocError, Global};
@@ -108,9 +108,9 @@ fn called_again(
     let before = held_by(rt, alloc, store, cell);
     let answer = called(rt, alloc, function, store, p);
     assert_unchanged(rt, alloc, answer.is_err(), store, cell, before);
-    match answer {
-        Err(Error::Memory) => called(rt, alloc, function, store, p),
-        answer => answer,
+    match settled(answer) {
+        Some(answer) => answer,
+        None => called(rt, alloc, function, store, p),
     }
 }
 
