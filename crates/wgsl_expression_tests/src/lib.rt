@@ -1,6 +1,5 @@
-//! Tests of the operators and of the builtin functions, atomics included, on values of every kind, which stand in a
-//! crate of their own: a crate is proved a second time with its tests, and tests of several crates are proved side by
-//! side.
+//! Tests of the operators on values of every kind, which stand in a crate of their own: a crate is proved a second
+//! time with its tests, and tests of several crates are proved side by side.
 #![tactic(auto)]
 
 #[cfg(test)]

@@ -1,4 +1,4 @@
-//! What no clause says of the operators and of the builtin functions: worked rows, by the texts of their answers.
+//! What no clause says of the operators: worked rows, by the texts of their answers.
 //!
 //! One growth of memory alone is refused in a run, so what wants memory is asked again. Tests whose growths are
 //! refused in turn stand in `growth`.
@@ -6,9 +6,9 @@
 /// What the call answers, where memory is not wanted a second time.
 macro_rules! again {
     ($rt:expr; $call:expr) => {
-        match $call {
-            Ok(answer) => answer,
-            Err(_) => $call.expect($rt, "memory"),
+        match $call.ok() {
+            Some(answer) => answer,
+            None => $call.expect($rt, "memory"),
         }
     };
 }
@@ -16,17 +16,14 @@ macro_rules! again {
 /// The answer or the refusal of the call, which is made a second time where it wants memory.
 macro_rules! answered {
     ($call:expr) => {
-        match $call {
-            Err(wgsl_scalar::Error::Memory) => $call,
-            answer => answer,
+        match crate::tests::answers::settled($call) {
+            Some(answer) => answer,
+            None => $call,
         }
     };
 }
 
 mod answers;
-mod atomics;
-mod builtins;
-mod counters;
 mod growth;
-mod samples;
+mod made;
 mod sorts;

@@ -1,5 +1,9 @@
 //! Types and values that the tests of several crates look at.
 #![tactic(auto)]
 
+pub mod atomics;
+pub mod composites;
+pub mod operands;
+pub mod refusals;
 pub mod types;
 pub mod values;

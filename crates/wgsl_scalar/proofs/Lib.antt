@@ -1,5 +1,6 @@
 pub mod FieldBits
 pub mod FieldLaws
+pub mod OperandLaws
 pub mod Quotients
 pub mod Words
 pub mod Wraps

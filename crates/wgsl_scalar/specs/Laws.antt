@@ -1,18 +1,33 @@
--- The laws of the definitions: the kind that two numbers have in common, the ring of a kind, what
--- quotients and remainders are, bits in reverse, fields of bits and the first bit.
-use Rattle.std.specs.Prelude.{◌≡◌, ◌≢◌, ◌⊎◌, ◌<◌, ℕ, ℤ, pos, ◌+ℤ◌, ◌*ℤ◌, int_lt, unsigned_abs, Ok, option_map}
+-- The laws of the definitions: the kind that two numbers have in common, what operands are converted to, the
+-- ring of a kind, what quotients and remainders are, bits in reverse, fields of bits and the first bit.
+use Rattle.std.specs.Prelude.{◌≡◌, ◌≢◌, ◌⊎◌, ◌<◌, ℕ, ℤ, pos, ◌+ℤ◌, ◌*ℤ◌, int_lt, unsigned_abs, Option, Some, Ok, option_map}
 use Rattle.wgsl_rules.specs.Conversion.{common_type}
+use Rattle.wgsl_rules.specs.Converted.{converted}
+use Rattle.wgsl_rules.specs.InCommon.{in_common}
 use Rattle.wgsl_rules.specs.Kinds as kinds
 use Rattle.wgsl_rules.specs.Kinds.{Kind, InKind, wrap}
-use Rattle.wgsl_rules.specs.Values.{Val, number, type_of_kind, IsStorable}
+use Rattle.wgsl_rules.specs.Values.{Val, truth, number, type_of_kind, IsLiteral, IsStorable}
 use Rattle.wgsl_scalar.specs.Arith.{sum_in, product_in}
 use Rattle.wgsl_scalar.specs.BitFields.{reversed, first_leading, extracted, inserted}
 use Rattle.wgsl_scalar.specs.Conversions.{common_kind}
 use Rattle.wgsl_scalar.specs.Counts.{leading_zeros}
+use Rattle.wgsl_scalar.specs.Operands.{Operands, both_truths, common_operands, of_truths}
 
 -- the kind that numbers of two kinds have in common is the common type of the two
 abbrev pub CommonKindsAreCommonTypes : Type 0
 CommonKindsAreCommonTypes = (j k : Kind) → option_map type_of_kind (common_kind j k) ≡ common_type (type_of_kind j) (type_of_kind k)
+
+-- the operands of an operator, as values
+abbrev pub operand_values : Operands → Val × Val
+operand_values p = (number p.kind p.left, number p.kind p.right)
+
+-- what an operator takes two literals to: two truth values, or two numbers of their common kind
+abbrev pub taken : Val → Val → Option (Val × Val)
+taken v w = of_truths (λ a b. Some (truth a, truth b)) (both_truths v w) (option_map operand_values (common_operands v w))
+
+-- it is what both are in the common type of their types, and nothing where there is none or one of them is nothing in it
+abbrev pub OperandsAreInTheirCommonType : Type 0
+OperandsAreInTheirCommonType = (v w : Val) → IsLiteral v → IsLiteral w → IsStorable v → IsStorable w → taken v w ≡ in_common converted v w
 
 -- the sum and the product in a kind, as numbers: what the operators give in each kind but the abstract one
 pub record GivesWrapped (k : Kind) : Type 0 where

@@ -12,6 +12,7 @@ ghost use Rattle.wgsl_scalar.specs.Laws.{
   InsertingBackChangesNothing,
   IsRing,
   LeadingBitAndZerosAddUp,
+  OperandsAreInTheirCommonType,
   ReversingTwiceChangesNothing,
 };
 
@@ -19,6 +20,13 @@ ghost use Rattle.wgsl_scalar.specs.Laws.{
 /// `convert_ty` finds it (WGSL: conversion rank).
 pub fn common_kinds_are_common_types()
     ensures { CommonKindsAreCommonTypes }
+{}
+
+/// The two literals that an operator joins are what both operands are in the common type of their types,
+/// as `convert` finds them: there are none where no common type is, or where one of the numbers is not in
+/// its range (WGSL: conversion rank; overload resolution algorithm).
+pub fn operands_are_in_their_common_type()
+    ensures { OperandsAreInTheirCommonType }
 {}
 
 /// Sums and products that wrap commute and associate, and products distribute over sums, whether

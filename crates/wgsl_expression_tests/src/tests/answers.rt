@@ -1,10 +1,10 @@
-//! What operators and builtin functions answer, and the texts of it: the value's own, or the case of the refusal with what it holds.
+//! What operators answer, by the texts of it.
 
 ghost use Rattle.wgsl_rules.specs.Values.{IsWellFormed};
 ghost use Rattle.wgsl_values.specs.View.{value_of};
 
-use crate::tests::samples::{Sample, made};
-use std::alloc::{AllocError, Global};
+use crate::tests::made::made;
+use std::alloc::Global;
 use std::fmt::Display;
 use std::process::Abort;
 use wgsl_ops::{InstanceOperators, Operators};
@@ -17,23 +17,25 @@ use wgsl_rules::UnaryOperator::{
     AddressOf, BitwiseComplement, Indirection, LogicalNegation, Negation,
 };
 use wgsl_rules::{BinaryOperator, ShaderStage, UnaryOperator};
+use wgsl_samples::operands::Sample;
+use wgsl_samples::refusals::text_of;
 use wgsl_scalar::Error;
 use wgsl_values::Instance;
 
-/// What the operator gives for the two values.
-fn answer(
+/// What the operator gives for the two values or vectors; any but `||` and `&&`.
+pub(super) fn answer_of_two<T: Operators>(
+    rt: &impl Abort,
     alloc: Global,
     operator: BinaryOperator,
     stage: ShaderStage,
-    left: &Instance,
-    right: &Instance,
-) -> Result<Instance, Error>
-    requires left { IsWellFormed (value_of left.now) }
-    requires right { IsWellFormed (value_of right.now) }
+    left: &T,
+    right: &T,
+) -> Result<T, Error>
+    requires left { IsWellFormed (T.value_of left.now) }
+    requires right { IsWellFormed (T.value_of right.now) }
 {
     match operator {
-        ShortCircuitOr => left.op_or(alloc, right),
-        ShortCircuitAnd => left.op_and(alloc, right),
+        ShortCircuitOr | ShortCircuitAnd => panic!(rt; "values alone have {operator}"),
         Addition => left.op_add(alloc, right, stage),
         Subtraction => left.op_sub(alloc, right, stage),
         Multiplication => left.op_mul(alloc, right, stage),
@@ -53,6 +55,42 @@ fn answer(
     }
 }
 
+/// What the operator gives for the value or vector; `!`, `-` or `~`.
+pub(super) fn answer_of_one<T: Operators>(
+    rt: &impl Abort,
+    alloc: Global,
+    operator: UnaryOperator,
+    value: &T,
+) -> Result<T, Error>
+    requires { IsWellFormed (T.value_of value.now) }
+{
+    match operator {
+        LogicalNegation => value.op_not(alloc),
+        Negation => value.op_neg(alloc),
+        BitwiseComplement => value.op_bitnot(alloc),
+        Indirection => panic!(rt; "values alone have {operator}"),
+        AddressOf => panic!(rt; "an address is taken in a store"),
+    }
+}
+
+fn answer(
+    rt: &impl Abort,
+    alloc: Global,
+    operator: BinaryOperator,
+    stage: ShaderStage,
+    left: &Instance,
+    right: &Instance,
+) -> Result<Instance, Error>
+    requires left { IsWellFormed (value_of left.now) }
+    requires right { IsWellFormed (value_of right.now) }
+{
+    match operator {
+        ShortCircuitOr => left.op_or(alloc, right),
+        ShortCircuitAnd => left.op_and(alloc, right),
+        _ => answer_of_two(rt, alloc, operator, stage, left, right),
+    }
+}
+
 /// What the operator gives for the two values.
 pub(super) fn joined(
     rt: &impl Abort,
@@ -64,13 +102,12 @@ pub(super) fn joined(
 ) -> Result<Instance, Error> {
     let left = made(rt, alloc, left);
     let right = made(rt, alloc, right);
-    let answer = answered!(answer(alloc, operator, stage, &left, &right));
+    let answer = answered!(answer(rt, alloc, operator, stage, &left, &right));
     drop((left, right));
     answer
 }
 
-/// What the operator gives for the value; `!`, `-`, `~` or `*`.
-fn answer_of_one(
+fn answer_for(
     rt: &impl Abort,
     alloc: Global,
     operator: UnaryOperator,
@@ -79,11 +116,8 @@ fn answer_of_one(
     requires { IsWellFormed (value_of value.now) }
 {
     match operator {
-        LogicalNegation => value.op_not(alloc),
-        Negation => value.op_neg(alloc),
-        BitwiseComplement => value.op_bitnot(alloc),
         Indirection => value.op_deref(alloc),
-        AddressOf => panic!(rt; "an address is taken in a store"),
+        _ => answer_of_one(rt, alloc, operator, value),
     }
 }
 
@@ -95,42 +129,17 @@ pub(super) fn turned(
     value: Sample,
 ) -> Result<Instance, Error> {
     let value = made(rt, alloc, value);
-    let answer = answered!(answer_of_one(rt, alloc, operator, &value));
+    let answer = answered!(answer_for(rt, alloc, operator, &value));
     drop(value);
     answer
 }
 
-/// The text of a refusal, without that of a builtin's reason.
-fn refusal_text(alloc: Global, error: &Error) -> Result<String, AllocError> {
-    match error {
-        Error::Unary(operator, ty) => format!(in alloc; "Unary {operator} {ty}"),
-        Error::Binary(operator, left, right) => {
-            format!(in alloc; "Binary {operator} {left}, {right}")
-        }
-        Error::CompwiseBinary(left, right) => format!(in alloc; "CompwiseBinary {left}, {right}"),
-        Error::ShlOverflow(count, number) => format!(in alloc; "ShlOverflow {count}, {number}"),
-        Error::ShrOverflow(count, number) => format!(in alloc; "ShrOverflow {count}, {number}"),
-        Error::AddOverflow => format!(in alloc; "AddOverflow"),
-        Error::SubOverflow => format!(in alloc; "SubOverflow"),
-        Error::MulOverflow => format!(in alloc; "MulOverflow"),
-        Error::DivByZero => format!(in alloc; "DivByZero"),
-        Error::RemZeroDiv => format!(in alloc; "RemZeroDiv"),
-        Error::ConvOverflow(literal, ty) => format!(in alloc; "ConvOverflow {literal}, {ty}"),
-        Error::ParamType(asked, given) => format!(in alloc; "ParamType {asked}, {given}"),
-        Error::Builtin(_) => format!(in alloc; "Builtin"),
-        Error::NotRead => format!(in alloc; "NotRead"),
-        Error::NotWrite => format!(in alloc; "NotWrite"),
-        Error::NotReadWrite => format!(in alloc; "NotReadWrite"),
-        Error::PtrHandle => format!(in alloc; "PtrHandle"),
-        Error::PtrVecComp => format!(in alloc; "PtrVecComp"),
-        other => format!(in alloc; "error {}", other.number()),
-    }
-}
-
-fn text_of<T: Display>(alloc: Global, answer: &Result<T, Error>) -> Result<String, AllocError> {
+/// The answer or the refusal of a call; none where it wants memory.
+pub(super) fn settled<T>(answer: Result<T, Error>) -> Option<Result<T, Error>> {
     match answer {
-        Ok(value) => value.to_string(alloc),
-        Err(error) => refusal_text(alloc, error),
+        Ok(value) => Some(Ok(value)),
+        Err(Error::Memory) => None,
+        Err(refusal) => Some(Err(refusal)),
     }
 }
 

@@ -1,7 +1,6 @@
 //! Operands that are no literals and no vectors: each operator refuses them with their types.
 
 use crate::tests::answers::{assert_answer, joined, turned};
-use crate::tests::samples::Sample;
 use std::alloc::Global;
 use std::process::Abort;
 use wgsl_rules::BinaryOperator;
@@ -12,6 +11,7 @@ use wgsl_rules::BinaryOperator::{
 };
 use wgsl_rules::ShaderStage::{Const, Exec, Override};
 use wgsl_rules::UnaryOperator::{BitwiseComplement, LogicalNegation, Negation};
+use wgsl_samples::operands::Sample;
 use wgsl_scalar::LiteralInstance::{I32, U32};
 
 const OPERATORS: [BinaryOperator; 18] = [

@@ -6,10 +6,14 @@ ghost use Rattle.wgsl_rules.specs.Values.{type_of};
 ghost use Rattle.wgsl_scalar.specs.Literals.{literal_of};
 
 use crate::tests::answers::assert_answer;
-use crate::tests::samples::{i2, i3, made_vector, u2};
+use crate::tests::made::made_vector;
+use std::alloc::Global;
+use std::process::Abort;
 use wgsl_ops::Compwise;
+use wgsl_samples::operands::{i2, i3, u2};
 use wgsl_scalar::LiteralInstance::I32;
 use wgsl_scalar::{Error, LiteralInstance};
+use wgsl_values::Instance;
 
 /// Twice an i32 other than 3.
 fn doubled(literal: &LiteralInstance) -> Result<LiteralInstance, Error>
@@ -33,12 +37,20 @@ fn joined(first: &LiteralInstance, second: &LiteralInstance) -> Result<LiteralIn
     }
 }
 
+/// Asserts the text of the refusal.
+fn assert_refused(rt: &impl Abort, alloc: Global, answer: Result<(), Error>, wanted: &str) {
+    match answer {
+        Ok(()) => panic!(rt; "no refusal, but {wanted} is wanted"),
+        Err(error) => assert_answer(rt, alloc, 0, Err::<Instance, Error>(error), wanted),
+    }
+}
+
 #[test]
 fn a_refusal_changes_no_component(rt: HostRuntime) {
     let alloc = rt.alloc();
     let mut vector = made_vector(&rt, alloc, i3(1, 2, 3));
     let answer = answered!(vector.compwise_unary_mut(alloc, doubled));
-    assert_eq!(rt; answer, Err(Error::DivByZero));
+    assert_refused(&rt, alloc, answer, "DivByZero");
     assert_answer(&rt, alloc, 0, Ok(vector), "vec3(1i, 2i, 3i)");
 }
 
@@ -47,7 +59,7 @@ fn answers_take_the_place_of_components(rt: HostRuntime) {
     let alloc = rt.alloc();
     let mut vector = made_vector(&rt, alloc, i3(1, 2, 4));
     let answer = answered!(vector.compwise_unary_mut(alloc, doubled));
-    assert_eq!(rt; answer, Ok(()));
+    answer.expect(&rt, "an answer");
     assert_answer(&rt, alloc, 0, Ok(vector), "vec3(2i, 4i, 8i)");
 }
 
@@ -78,9 +90,9 @@ fn two_vectors_of_unequal_counts_are_refused(rt: HostRuntime) {
     let answer = answered!(left.compwise_binary(alloc, &right, joined));
     assert_answer(&rt, alloc, 0, answer, "CompwiseBinary vec3<i32>, vec2<u32>");
     let answer = answered!(left.compwise_binary_mut(alloc, &right, joined));
-    assert_eq!(rt; answer.is_err(), true);
+    assert_refused(&rt, alloc, answer, "CompwiseBinary vec3<i32>, vec2<u32>");
     assert_answer(&rt, alloc, 1, Ok(left), "vec3(1i, 2i, 3i)");
-    drop((right, answer));
+    drop(right);
 }
 
 #[test]
@@ -89,7 +101,7 @@ fn a_refusal_of_two_vectors_changes_no_component(rt: HostRuntime) {
     let mut left = made_vector(&rt, alloc, i3(1, 3, 2));
     let right = made_vector(&rt, alloc, i3(4, 5, 6));
     let answer = answered!(left.compwise_binary_mut(alloc, &right, joined));
-    assert_eq!(rt; answer, Err(Error::DivByZero));
+    assert_refused(&rt, alloc, answer, "DivByZero");
     assert_answer(&rt, alloc, 0, Ok(left), "vec3(1i, 3i, 2i)");
     drop(right);
 }

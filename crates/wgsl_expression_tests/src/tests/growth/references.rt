@@ -1,7 +1,7 @@
 //! The pointers to what references name, and the references that pointers hold.
 
 use crate::tests::answers::{assert_answer, turned};
-use crate::tests::samples::{Sample, b2, i, made, u2};
+use crate::tests::made::made;
 use std::alloc::{AllocError, Global};
 use std::process::Abort;
 use wgsl_ops::InstanceOperators;
@@ -9,6 +9,7 @@ use wgsl_rules::AccessMode::{ReadWrite, Write};
 use wgsl_rules::AddressSpace::{Handle, Storage};
 use wgsl_rules::UnaryOperator::Indirection;
 use wgsl_rules::{AccessMode, AddressSpace, Type};
+use wgsl_samples::operands::{Sample, b2, i, u2};
 use wgsl_samples::types;
 use wgsl_scalar::Error;
 use wgsl_scalar::LiteralInstance::I32;

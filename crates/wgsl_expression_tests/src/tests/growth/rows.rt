@@ -1,7 +1,6 @@
 //! Operators on literals and vectors, in each stage where stages differ: what each two sorts of them give.
 
 use crate::tests::answers::{assert_answer, joined, turned};
-use crate::tests::samples::{Sample, b, b2, i, i2, i3, l, l2, n, n2, u, u2, u3};
 use std::alloc::Global;
 use std::process::Abort;
 use wgsl_rules::BinaryOperator::{
@@ -12,6 +11,7 @@ use wgsl_rules::BinaryOperator::{
 use wgsl_rules::ShaderStage::{Const, Exec, Override};
 use wgsl_rules::UnaryOperator::{BitwiseComplement, LogicalNegation, Negation};
 use wgsl_rules::{BinaryOperator, ShaderStage};
+use wgsl_samples::operands::{Sample, b, b2, i, i2, i3, l, l2, n, n2, u, u2, u3};
 
 /// The least number of 64 bits.
 const LEAST: i64 = -9223372036854775808;

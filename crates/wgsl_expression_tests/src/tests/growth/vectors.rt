@@ -3,14 +3,20 @@
 ghost use Rattle.wgsl_rules.specs.Values.{IsStorable};
 ghost use Rattle.wgsl_values.specs.View.{vec_view};
 
-use crate::tests::answers::assert_answer;
-use crate::tests::samples::{Sample, b2, i2, made_vector, n2, u2, u3};
+use crate::tests::answers::{answer_of_one, answer_of_two, assert_answer};
+use crate::tests::made::made_vector;
 use std::alloc::Global;
 use std::process::Abort;
-use wgsl_ops::{Operators, ScalarOperators, VecOperators};
-use wgsl_rules::BinaryOperator::{Addition, Division, Multiplication, Remainder, Subtraction};
+use wgsl_ops::{ScalarOperators, VecOperators};
+use wgsl_rules::BinaryOperator::{
+    Addition, BitwiseAnd, BitwiseOr, BitwiseXor, Division, Equality, GreaterThan, GreaterThanEqual,
+    Inequality, LessThan, LessThanEqual, Multiplication, Remainder, ShiftLeft, ShiftRight,
+    Subtraction,
+};
 use wgsl_rules::ShaderStage::{Const, Exec, Override};
+use wgsl_rules::UnaryOperator::{BitwiseComplement, LogicalNegation, Negation};
 use wgsl_rules::{BinaryOperator, ShaderStage};
+use wgsl_samples::operands::{Sample, b2, i2, n2, u2, u3};
 use wgsl_scalar::LiteralInstance::{AbstractInt, I32, U32};
 use wgsl_scalar::{Error, LiteralInstance};
 use wgsl_values::VecInstance;
@@ -178,46 +184,62 @@ fn dot_products(rt: HostRuntime) {
     }
 }
 
+/// What the operator gives for the two vectors.
+fn joined(
+    rt: &impl Abort,
+    alloc: Global,
+    operator: BinaryOperator,
+    left: &VecInstance,
+    right: &VecInstance,
+) -> Result<VecInstance, Error>
+    requires left { IsStorable (vec_view left.now) }
+    requires right { IsStorable (vec_view right.now) }
+{
+    answered!(answer_of_two(rt, alloc, operator, Const, left, right))
+}
+
 #[test]
 fn operators_of_two_vectors(rt: HostRuntime) {
     let alloc = rt.alloc();
     let left = made_vector(&rt, alloc, i2(12, 10));
     let right = made_vector(&rt, alloc, i2(10, 5));
-    let answers = [
-        (
-            answered!(left.op_add(alloc, &right, Const)),
-            "vec2(22i, 15i)",
-        ),
-        (answered!(left.op_sub(alloc, &right, Const)), "vec2(2i, 5i)"),
-        (
-            answered!(left.op_mul(alloc, &right, Const)),
-            "vec2(120i, 50i)",
-        ),
-        (answered!(left.op_div(alloc, &right, Const)), "vec2(1i, 2i)"),
-        (answered!(left.op_rem(alloc, &right, Const)), "vec2(2i, 0i)"),
-        (answered!(left.op_eq(alloc, &right)), "vec2(false, false)"),
-        (answered!(left.op_ne(alloc, &right)), "vec2(true, true)"),
-        (answered!(left.op_lt(alloc, &right)), "vec2(false, false)"),
-        (answered!(left.op_le(alloc, &right)), "vec2(false, false)"),
-        (answered!(left.op_gt(alloc, &right)), "vec2(true, true)"),
-        (answered!(left.op_ge(alloc, &right)), "vec2(true, true)"),
-        (answered!(left.op_bitor(alloc, &right)), "vec2(14i, 15i)"),
-        (answered!(left.op_bitand(alloc, &right)), "vec2(8i, 0i)"),
-        (answered!(left.op_bitxor(alloc, &right)), "vec2(6i, 15i)"),
-        (answered!(left.op_neg(alloc)), "vec2(-12i, -10i)"),
-        (answered!(left.op_bitnot(alloc)), "vec2(-13i, -11i)"),
-        (answered!(left.op_not(alloc)), "Unary ! i32"),
-        (
-            answered!(left.op_shl(alloc, &right, Const)),
-            "Binary << i32, i32",
-        ),
-        (
-            answered!(left.op_shr(alloc, &right, Const)),
-            "Binary >> i32, i32",
-        ),
+    let rows = [
+        (Addition, "vec2(22i, 15i)"),
+        (Subtraction, "vec2(2i, 5i)"),
+        (Multiplication, "vec2(120i, 50i)"),
+        (Division, "vec2(1i, 2i)"),
+        (Remainder, "vec2(2i, 0i)"),
+        (Equality, "vec2(false, false)"),
+        (Inequality, "vec2(true, true)"),
+        (LessThan, "vec2(false, false)"),
+        (LessThanEqual, "vec2(false, false)"),
+        (GreaterThan, "vec2(true, true)"),
+        (GreaterThanEqual, "vec2(true, true)"),
+        (BitwiseOr, "vec2(14i, 15i)"),
+        (BitwiseAnd, "vec2(8i, 0i)"),
+        (BitwiseXor, "vec2(6i, 15i)"),
+        (ShiftLeft, "Binary << i32, i32"),
+        (ShiftRight, "Binary >> i32, i32"),
     ];
-    drop((left, right));
-    for (row, (answer, wanted)) in answers.into_iter().enumerate() {
+    for (row, (operator, wanted)) in rows.iter().enumerate() {
+        let answer = joined(&rt, alloc, *operator, &left, &right);
         assert_answer(&rt, alloc, row, answer, wanted);
     }
+    drop((left, right));
+}
+
+#[test]
+fn operators_of_one_vector(rt: HostRuntime) {
+    let alloc = rt.alloc();
+    let vector = made_vector(&rt, alloc, i2(12, 10));
+    let rows = [
+        (Negation, "vec2(-12i, -10i)"),
+        (BitwiseComplement, "vec2(-13i, -11i)"),
+        (LogicalNegation, "Unary ! i32"),
+    ];
+    for (row, (operator, wanted)) in rows.iter().enumerate() {
+        let answer = answered!(answer_of_one(&rt, alloc, *operator, &vector));
+        assert_answer(&rt, alloc, row, answer, wanted);
+    }
+    drop(vector);
 }

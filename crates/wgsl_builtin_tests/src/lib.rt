@@ -1,0 +1,6 @@
+//! Tests of the builtin functions, atomics included, on values of every kind, which stand in a crate of their own: a
+//! crate is proved a second time with its tests, and tests of several crates are proved side by side.
+#![tactic(auto)]
+
+#[cfg(test)]
+mod tests;
