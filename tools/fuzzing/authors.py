@@ -116,10 +116,10 @@ class Author:
         return text.upper() if self.chance(0.1) else text
 
     def value_digits(self, ty, count):
-        """The bytes of a value, mostly as many as are wanted."""
-        length = ty.length(count) if ty.has_layout else self.random.randint(0, 64)
-        if length > 2 * self.longest_value:
-            length = self.random.randint(0, 64)
+        """The bytes of a value, mostly as many as are wanted. Where there is no layout, as many as its size would ask for."""
+        length = ty.length(count) if ty.has_layout else ty.size
+        if length is None or length > 2 * self.longest_value:
+            length = self.random.randint(0, 200)
         if self.chance(0.8):
             more = 0
         elif self.chance(0.5):
@@ -143,13 +143,15 @@ class Author:
         """The count of an array; none of a runtime-sized one."""
         if self.chance(0.2):
             return None
-        return self.random.choice(words.COUNTS) if self.chance(0.05) else str(self.random.choice((1, 1, 2, 2, 3, 4, 7)))
+        return self.random.choice(words.COUNTS) if self.chance(0.05) else str(self.random.choice((0, 1, 1, 2, 2, 3, 4, 7)))
 
     def type_and_word(self):
         """A word for a type, mostly of a short value; its type, or None where it names none."""
         for _ in range(8):
             word = self.type_word()
             ty = self.type_named(word)
+            if ty is not None and not ty.has_layout and self.chance(0.2):
+                break
             if ty is not None and ty.has_layout and ty.length(1) <= self.longest_value:
                 break
         return ty, word
@@ -172,7 +174,7 @@ class Author:
         if self.chance(0.12):
             return f"@align({self.random.choice(words.NUMBERS)})"
         own = ty.align if ty and ty.align else 4
-        return f"@align({own * self.random.choice((1, 1, 2, 4)) // self.random.choice((1, 1, 1, 1, 1, 2))})"
+        return f"@align({own * self.random.choice((1, 1, 1, 2, 2, 3, 4, 6)) // self.random.choice((1, 1, 1, 1, 1, 1, 2, 4))})"
 
     def size(self, ty):
         if self.chance(0.12):
@@ -193,7 +195,8 @@ class Author:
         members = [self.member_word() for _ in range(self.random.choice((1, 1, 2, 2, 3, 3, 4, 6)))]
         # A runtime-sized array makes a layout in the last place alone.
         if self.chance(0.15):
-            members.append(f"{self.random.choice(words.MEMBER_NAMES)}:array<{self.type_word(2)}>")
+            word = f"array<{self.type_word(2)}>"
+            members.append(f"{self.attributes(self.type_named(word))}{self.random.choice(words.MEMBER_NAMES)}:{word}")
         return " ".join(["struct", name] + members * self.chance(0.99))
 
     def new(self):
