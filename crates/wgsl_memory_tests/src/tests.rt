@@ -4,6 +4,7 @@ mod asserts;
 mod buffers;
 mod calls;
 mod cells;
+mod depth;
 mod fixtures;
 mod growth;
 mod handles;
