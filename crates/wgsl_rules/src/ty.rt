@@ -7,6 +7,10 @@ use crate::syntax::{AccessMode, AddressSpace, SamplerType, TextureType};
 /// `Vec(n, t)` has n components of the type t. `Mat(c, r, t)` has c columns and r rows.
 /// `Array(t, None)` is runtime-sized: its type carries no length. Any value of this enumeration can
 /// be built; whether a type has a size is told by [`Type::size_of`].
+///
+/// Types may stand in types to any depth. What goes through a type (`clone`, `==`, its text, sizes,
+/// layouts, conversions, dropping it) calls itself for each type inside another, so the stack of the
+/// process limits the depth: with 8 MiB, 4,095 structures are tried, each a member of the next.
 #[cycle(types)]
 #[derive(Debug, Drop)]
 pub enum Type {

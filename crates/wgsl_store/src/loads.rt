@@ -22,6 +22,10 @@ use wgsl_values::{Instance, RefInstance};
 /// Both calls ask as a condition that the store keeps each reference and pointer in the value, as
 /// [`Store::holds_value`] tests. They are refused with `NotRead` where a reference that is read on the
 /// way has no read access.
+///
+/// A chain of references is followed in a loop: it takes no more stack where it is longer. But the
+/// type of a reference holds that of the one that it leads to, so memory grows with the square of
+/// its length, and the types are as deep as it is long (see [`Type`]).
 pub trait Loads: Sized + Ty {
     /// The value itself, or what its reference leads to, read on while it is a reference.
     fn loaded(self, alloc: Global, store: &Store) -> Result<Self, Error>

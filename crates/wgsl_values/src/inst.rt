@@ -8,6 +8,11 @@ use wgsl_scalar::LiteralInstance;
 ///
 /// Members, components, columns and what an atomic holds are values again. `Deferred` stands for a
 /// value of a type that is not known yet; it is no part of another value.
+///
+/// Values may stand in values to any depth. What goes through a value (`clone`, `==`, its text, its
+/// bytes, tests, conversions, views, dropping it) calls itself for each value inside another, so the
+/// stack of the process limits the depth: with 8 MiB, 4,095 structures are tried, each a member of
+/// the next.
 #[cycle(values)]
 #[derive(Debug, Drop)]
 pub enum Instance {

@@ -31,6 +31,10 @@ use wgsl_rules::Ty;
 use wgsl_scalar::Error;
 
 /// A way from a value to a part of it, the outermost step first.
+///
+/// A view may have any number of steps. What goes along it (`clone`, `==`, its text, a last step that
+/// is put on, dropping it) calls itself for each step, so the stack of the process limits how many
+/// these are: with 8 MiB, 4,095 are tried.
 #[derive(Debug, Drop)]
 pub enum MemView {
     /// The value itself.
