@@ -35,7 +35,7 @@ use crate::ty::{StructMemberType, StructType, Type};
 /// place is a multiple of, `None` where that is not known or passes 4294967295; whether it has a
 /// layout of a fixed size, and whether it is a runtime-sized array that has a layout (WGSL: alignment
 /// and size).
-#[derive(Clone, Copy)]
+#[derive(Clone, Copy, Debug, PartialEq, Eq)]
 pub struct Measures {
     pub size: Option<u32>,
     pub align: Option<u32>,
@@ -47,7 +47,7 @@ pub struct Measures {
 /// alignment, in bytes; whether each has a layout of a fixed size; and whether the last is a
 /// runtime-sized array that has a place, and each of the others has such a layout (WGSL: structure
 /// member layout).
-#[derive(Clone, Copy)]
+#[derive(Clone, Copy, Debug, PartialEq, Eq)]
 pub struct MemberMeasures {
     pub end: Option<u32>,
     pub align: Option<u32>,

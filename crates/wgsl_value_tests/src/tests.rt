@@ -1,6 +1,7 @@
 //! What public calls on values answer.
 
 mod asserts;
+mod conversion_laws;
 mod conversions;
 mod fixtures;
 mod growth;
