@@ -7,6 +7,7 @@ mod cells;
 mod fixtures;
 mod growth;
 mod handles;
+mod layouts;
 mod plain_memory;
 mod readme;
 mod references;
