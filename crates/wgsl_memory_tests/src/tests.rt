@@ -8,6 +8,7 @@ mod depth;
 mod fixtures;
 mod growth;
 mod handles;
+mod layouts;
 mod plain_memory;
 mod readme;
 mod references;

@@ -9,12 +9,14 @@ pub mod Flat
 pub mod Follows
 pub mod Held
 pub mod HeldPaths
+pub mod InRange
 pub mod Known
 pub mod Leaves
 pub mod LikeViews
 pub mod Loads
 pub mod Made
 pub mod Numbers
+pub mod OpenLengths
 pub mod Overwritten
 pub mod Padding
 pub mod Parts

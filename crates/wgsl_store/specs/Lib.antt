@@ -4,10 +4,12 @@ pub mod Cells
 pub mod Components
 pub mod FlatCells
 pub mod Laws
+pub mod Layouts
 pub mod Loaded
 pub mod Located
 pub mod Memory
 pub mod MemoryLaws
+pub mod OpenLengths
 pub mod Plan
 pub mod Ranges
 pub mod Reading

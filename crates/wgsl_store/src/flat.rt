@@ -1,21 +1,15 @@
 //! Cells that hold their values as bytes (WGSL: memory locations; internal layout of values).
 
-ghost use Rattle.std.specs.Prelude.{◌≡◌, ◌↔◌, IsTrue};
-ghost use Rattle.wgsl_rules.specs.Types.{vec};
-ghost use Rattle.wgsl_rules.specs.Values.{IsStorable, type_of};
-ghost use Rattle.wgsl_rules.specs.View.{type_view};
-ghost use Rattle.wgsl_values.specs.View.{vec_view};
-
-use crate::located::{Located, Shape};
+use crate::located::Located;
 use crate::make::TypePlan;
 use crate::plan::Plan;
-use crate::reader::{read_literal, read_value, read_vector};
-use crate::writer::{runtime_count, write_literal, write_value, write_whole};
+use crate::reader::read_literal;
+use crate::writer::{runtime_count, write_whole};
 use std::alloc::{AllocError, Global};
 use std::marker::Model;
 use wgsl_rules::{Ty, Type};
 use wgsl_scalar::{Error, LiteralInstance};
-use wgsl_values::{Instance, MemView, VecInstance};
+use wgsl_values::{Instance, MemView};
 
 /// The bytes of a value of a type that has a layout, in memory of their own; padding is 0. Contracts see
 /// the value.
@@ -225,19 +219,7 @@ impl<'a> FlatPart<'a> {
         requires { IsFlatPart self }
         ensures { IfOk result (λ v. value_of v ≡ part_value self.entry) }
     {
-        let at = self.located;
-        match at.shape {
-            Shape::Whole(ty, plan) => {
-                read_value(alloc, self.bytes, at.start, at.count, ty, plan)
-            }
-            Shape::Column(n, component, plan) => {
-                let column = read_vector(alloc, self.bytes, at.start, n, component, plan)?;
-                Ok(Instance::from(column))
-            }
-            Shape::Component(ty) => {
-                read_value(alloc, self.bytes, at.start, at.count, ty, &Plan::Scalar)
-            }
-        }
+        self.located.read(alloc, self.bytes)
     }
 
     /// The number of the atomic that the part is; `None` where it is no atomic.
@@ -273,108 +255,4 @@ impl<'a> FlatPart<'a> {
             Ok(Error::NotIndexable(ty))
         }
     }
-}
-
-impl<'a> Located<'a> {
-    ghost use Rattle.std.specs.Prelude.{◌≡◌, ◌↔◌, IfSome, IsTrue, length, option_map};
-    ghost use Rattle.wgsl_rules.specs.Layout.{layout_of};
-    ghost use Rattle.wgsl_rules.specs.Values.{IsStorable, atomic_of, type_of};
-    ghost use Rattle.wgsl_scalar.specs.Literals.{literal_of};
-    ghost use Rattle.wgsl_store.specs.Located.{
-      IsInside,
-      IsLocated,
-      part_range,
-      shape_plan,
-      shape_ty,
-    };
-    ghost use Rattle.wgsl_store.specs.Ranges.{further, view_range};
-    ghost use Rattle.wgsl_store.specs.Walk.{put};
-    ghost use Rattle.wgsl_values.specs.View.{value_of, steps_of};
-
-    // The whole of a value of the type, which takes `len` bytes, by the plan of the type; with `count`
-    // elements in the runtime-sized array that the type is or ends in.
-    fn of_whole(ty: &'a Type, plan: &'a Plan, count: usize, len: usize) -> Located<'a>
-        ensures { result ≡ record { start = 0; len = len; count = count; shape = Shape.Whole ty.entry plan.entry } }
-    {
-        Located {
-            start: 0,
-            len,
-            count,
-            shape: Shape::Whole(ty, plan),
-        }
-    }
-
-    // The part that the view leads to; `None` where it leads nowhere.
-    fn viewed(self, view: &MemView) -> Option<Located<'a>>
-        requires { IsLocated self }
-        ensures range { option_map part_range result ≡ option_map (further self.entry.start) (view_range (steps_of view.now) (part_range self.entry).layout) }
-        ensures there { IfSome result (IsInside self.entry) }
-    {
-        match view {
-            MemView::Whole => Some(self),
-            MemView::Member(name, rest) => self.member(name.as_str())?.viewed(rest),
-            MemView::Index(i, rest) => self.index(*i)?.viewed(rest),
-        }
-    }
-
-    // Whether the value has the layout of the part: it is of the part's type, and has as many elements in
-    // the runtime-sized array that the type is or ends in. The condition: the value may be stored.
-    fn fits(self, value: &Instance) -> bool
-        requires located { IsLocated self }
-        requires storable { IsStorable (value_of value.now) }
-        ensures { IsTrue result ↔ (layout_of (value_of value.now) ≡ (part_range self.entry).layout) }
-    {
-        let n = runtime_count(value);
-        self.is_type_of(value) && (n == 0 || n == self.count)
-    }
-
-    // Whether the value is of the part's type. The condition: the value may be stored.
-    fn is_type_of(self, value: &Instance) -> bool
-        requires { IsStorable (value_of value.now) }
-        ensures { IsTrue result ↔ (type_of (value_of value.now) ≡ shape_ty self.entry.shape) }
-    {
-        match self.shape {
-            Shape::Whole(ty, _) | Shape::Component(ty) => value.has_ty(ty),
-            Shape::Column(n, component, _) => match value {
-                Instance::Vec(v) => is_vector_of(v, n, component),
-                Instance::Literal(_) | Instance::Struct(_) | Instance::Array(_) => false,
-                Instance::Mat(_) | Instance::Ptr(_) | Instance::Ref(_) => false,
-                Instance::Atomic(_) | Instance::Deferred(_) => false,
-            },
-        }
-    }
-
-    // Writes the value in the place of the part, of which it has the layout.
-    fn write(self, bytes: &mut [u8], value: &Instance)
-        requires located { IsLocated self }
-        requires whole { self.len ≡ length bytes.old }
-        requires storable { IsStorable (value_of value.now) }
-        requires alike { layout_of (value_of value.now) ≡ (part_range self).layout }
-        ensures { bytes.new ≡ put (value_of value.now) (shape_plan self.entry.shape) self.entry.start bytes.old }
-    {
-        match self.shape {
-            Shape::Whole(_, plan) => write_value(bytes, self.start, value, plan),
-            Shape::Column(_, _, plan) => write_value(bytes, self.start, value, plan),
-            Shape::Component(_) => write_value(bytes, self.start, value, &Plan::Scalar),
-        }
-    }
-
-    // Writes the number of the atomic that the part is; an atomic of this number has its layout.
-    fn write_atomic_number(self, bytes: &mut [u8], number: LiteralInstance)
-        requires located { IsLocated self }
-        requires whole { self.len ≡ length bytes.old }
-        requires storable { IsStorable (atomic_of (literal_of number)) }
-        requires alike { layout_of (atomic_of (literal_of number)) ≡ (part_range self).layout }
-        ensures { bytes.new ≡ put (atomic_of (literal_of number)) (shape_plan self.entry.shape) self.entry.start bytes.old }
-    {
-        write_literal(bytes, self.start, number);
-    }
-}
-
-// Whether the vector has n components of the type. The condition: the vector may be stored.
-fn is_vector_of(value: &VecInstance, n: u8, component: &Type) -> bool
-    requires { IsStorable (vec_view value.now) }
-    ensures { IsTrue result ↔ (type_of (vec_view value.now) ≡ vec n (type_view component.now)) }
-{
-    value.n() == usize::from(n) && value[0].has_ty(component)
 }

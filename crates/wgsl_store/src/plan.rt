@@ -1,6 +1,10 @@
 //! Where the parts of the values of a type stand, found once for the type (WGSL: internal layout of
 //! values; structure member layout).
 
+ghost use Rattle.std.specs.Prelude.{◌≡◌, ◌<◌, ◌^◌};
+ghost use Rattle.wgsl_store.specs.OpenLengths.{last_end, open_len, row_len};
+ghost use Rattle.wgsl_store.specs.Plan.{places_view, plan_view};
+
 /// Where the parts of a value stand, in bytes from its start.
 #[cycle(plans)]
 #[derive(Drop)]
@@ -21,4 +25,43 @@ pub(crate) enum Plan {
 pub(crate) struct Place {
     pub(crate) offset: u32,
     pub(crate) plan: Plan,
+}
+
+impl Plan {
+    /// How many bytes a value takes whose end so many elements tell: a runtime-sized array, or a structure that
+    /// ends in one.
+    pub(crate) fn open_len(&self, count: usize) -> usize
+        requires { open_len (plan_view self.now) count < 2 ^ 64 }
+        ensures { result ≡ open_len (plan_view self.now) count }
+    {
+        match self {
+            Plan::Row(far, _) => count * *far as usize,
+            Plan::Scalar | Plan::Components(_) => 0,
+            Plan::Members(places) => last_end(places.as_slice(), count),
+        }
+    }
+
+    // How many bytes so many elements take of the array that this is the plan of.
+    fn row_len(&self, count: usize) -> usize
+        requires { row_len (plan_view self.now) count < 2 ^ 64 }
+        ensures { result ≡ row_len (plan_view self.now) count }
+    {
+        match self {
+            Plan::Row(far, _) => count * *far as usize,
+            Plan::Scalar | Plan::Components(_) | Plan::Members(_) => 0,
+        }
+    }
+}
+
+// Where the last of the members ends, which is an array of so many elements.
+fn last_end(places: &[Place], count: usize) -> usize
+    requires { last_end 0 count (places_view places.now) < 2 ^ 64 }
+    ensures { result ≡ last_end 0 count (places_view places.now) }
+{
+    let n = places.len();
+    if n == 0 {
+        return 0;
+    }
+    let last = &places[n - 1];
+    last.offset as usize + last.plan.row_len(count)
 }

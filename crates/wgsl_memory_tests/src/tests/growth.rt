@@ -19,5 +19,6 @@ macro_rules! answer_of {
 }
 
 mod buffers;
+mod layouts;
 mod references;
 mod sessions;

@@ -7,7 +7,7 @@ use Rattle.wgsl_values.proofs.lemmas.Views.{vec_view-is}
 use Rattle.wgsl_store.proofs.Answered.{well-formed}
 use Rattle.wgsl_store.proofs.FlatParts.{vector-told}
 use Rattle.wgsl_store.proofs.lemmas.Places.{item-storable, parts-storable}
-use Rattle.wgsl_store.proofs.flat.is_vector_of.Goals as goal
+use Rattle.wgsl_store.proofs.part_bytes.is_vector_of.Goals as goal
 
 pub has_ty-requires : goal.has_ty-requires
 has_ty-requires c =

@@ -1,0 +1,47 @@
+-- How many bytes the values of a type take, as its plan and its sizes tell it.
+use Rattle.std.proofs.Common.{◌≡◌, ℕ, ◌+◌, ◌*◌, ◌<◌, List, [], Option, Some, None, Bool, true, false, refl, sym, ap, ◌∙◌, arith}
+use Rattle.std.specs.Prelude.{◌||◌}
+use Rattle.std.specs.Option.{unwrap_or}
+use Rattle.std.proofs.lemmas.Bool.{false≢true}
+use Rattle.wgsl_rules.specs.Types.{Ty, struct, array, Fields, no_fields, field}
+use Rattle.wgsl_rules.specs.Size.{size_of, offset_after, end_after, extent_in}
+use Rattle.wgsl_rules.specs.Layout.{amount, size, has_fixed_layout, has_runtime_layout, has_layout, is_runtime_array, end_in_runtime_array, Tail, tail_at, last_tail, length_with, layout_len, length_in, layout}
+use Rattle.wgsl_store.specs.OpenLengths.{row_len, last_end, open_len}
+use Rattle.wgsl_store.specs.Plan.{Plan, plan_of, places_of}
+use Rattle.wgsl_store.specs.Reading.{IsThere}
+use Rattle.wgsl_store.proofs.lemmas.Fixed.{first-fixed, last-runtime}
+use Rattle.wgsl_store.proofs.lemmas.Tidy.{fixed-sized, tidy}
+
+-- ---- an end that a count tells
+
+row-open : (t : Ty) (o n z : ℕ) → is_runtime_array t ≡ true → o + row_len (plan_of t) n ≡ length_with n z (tail_at o t)
+row-open (array t None) o n z h = refl
+row-open t o n z h = absurd (false≢true h)
+
+last-open : (fs : Fields) (from : Option ℕ) (found n z : ℕ) (tail : Option Tail) → end_in_runtime_array from fs ≡ true → last_end found n (places_of from fs) ≡ length_with n z (last_tail tail from fs)
+last-open no_fields from found n z tail h = absurd (false≢true h)
+last-open (field name t s a no_fields) from found n z tail h = row-open t (amount (offset_after from (extent_in t s a))) n z (last-runtime t s a from h).0
+last-open (field name t s a (field m u y b fs)) from found n z tail h =
+    let at = amount (offset_after from (extent_in t s a)) in
+    let rest = (first-fixed t s a (end_in_runtime_array (end_after from (extent_in t s a)) (field m u y b fs)) h).rest in
+    last-open (field m u y b fs) (end_after from (extent_in t s a)) (at + row_len (plan_of t) n) n z (tail_at at t) rest
+
+runtime-by : (t : Ty) → has_layout t ≡ true → has_fixed_layout t ≡ false → has_runtime_layout t ≡ true
+runtime-by t h f = ap (λ (b : Bool). b || has_runtime_layout t) (sym f) ∙ h
+
+open-length : (t : Ty) (n : ℕ) → has_runtime_layout t ≡ true → open_len (plan_of t) n ≡ layout_len n t
+open-length (struct name fs) n h = last-open fs (Some 0) 0 n (size (struct name fs)) None h
+open-length (array t None) n h = omega arith
+open-length t n h = absurd (false≢true h)
+
+-- of what stands there
+pub open-there : (n : ℕ) (t : Ty) (p : Plan) (at len : ℕ) → IsThere n t p at len → has_fixed_layout t ≡ false → open_len p n ≡ length_in (layout n t)
+open-there n t p at len h f = ap (λ (q : Plan). open_len q n) h.planned ∙ open-length t n (runtime-by t h.laid f) ∙ sym (tidy t n h.laid).1
+
+-- ---- a size that the type tells
+
+pub fixed-size : (t : Ty) (n : ℕ) → has_fixed_layout t ≡ true → unwrap_or (size_of t) 0 ≡ length_in (layout n t)
+fixed-size t n f = let is = fixed-sized t n f in ap (λ (o : Option ℕ). unwrap_or o 0) is.0 ∙ sym is.1
+
+pub fixed-length-is : (t : Ty) (n : ℕ) → has_fixed_layout t ≡ true → unwrap_or (size_of t) 0 ≡ layout_len n t
+fixed-length-is t n f = ap (λ (o : Option ℕ). unwrap_or o 0) (fixed-sized t n f).0

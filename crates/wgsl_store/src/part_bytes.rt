@@ -1,0 +1,190 @@
+//! Parts of values in bytes: how far they reach, what is read there, what fits there and how it is written (WGSL:
+//! internal layout of values; memory views).
+
+ghost use Rattle.std.specs.Prelude.{◌≡◌, ◌↔◌, IsTrue};
+ghost use Rattle.wgsl_rules.specs.Types.{vec};
+ghost use Rattle.wgsl_rules.specs.Values.{IsStorable, type_of};
+ghost use Rattle.wgsl_rules.specs.View.{type_view};
+ghost use Rattle.wgsl_values.specs.View.{vec_view};
+
+use crate::located::{Located, Shape};
+use crate::plan::Plan;
+use crate::reader::{read_value, read_vector};
+use crate::writer::{runtime_count, write_literal, write_value};
+use std::alloc::{AllocError, Global};
+use wgsl_rules::{Ty, Type};
+use wgsl_scalar::LiteralInstance;
+use wgsl_values::{Instance, MemView, VecInstance};
+
+impl<'a> Located<'a> {
+    ghost use Rattle.std.specs.Prelude.{◌≡◌, ◌↔◌, IfOk, IfSome, IsTrue, length, option_map};
+    ghost use Rattle.wgsl_rules.specs.Layout.{layout_of, length_in};
+    ghost use Rattle.wgsl_rules.specs.Values.{IsStorable, atomic_of, type_of};
+    ghost use Rattle.wgsl_scalar.specs.Literals.{literal_of};
+    ghost use Rattle.wgsl_store.specs.Buffers.{buffer, decoded};
+    ghost use Rattle.wgsl_store.specs.Located.{
+      IsInside,
+      IsLocated,
+      part_range,
+      shape_plan,
+      shape_ty,
+    };
+    ghost use Rattle.wgsl_store.specs.Ranges.{further, overwritten, view_range};
+    ghost use Rattle.wgsl_store.specs.Walk.{put};
+    ghost use Rattle.wgsl_values.specs.View.{value_of, steps_of};
+
+    /// The whole of a value of the type, which takes `len` bytes, by the plan of the type; with `count`
+    /// elements in the runtime-sized array that the type is or ends in.
+    pub(crate) fn of_whole(ty: &'a Type, plan: &'a Plan, count: usize, len: usize) -> Located<'a>
+        ensures { result ≡ record { start = 0; len = len; count = count; shape = Shape.Whole ty.entry plan.entry } }
+    {
+        Located {
+            start: 0,
+            len,
+            count,
+            shape: Shape::Whole(ty, plan),
+        }
+    }
+
+    /// The part that the view leads to; `None` where it leads nowhere.
+    pub(crate) fn viewed(self, view: &MemView) -> Option<Located<'a>>
+        requires { IsLocated self }
+        ensures range { option_map part_range result ≡ option_map (further self.entry.start) (view_range (steps_of view.now) (part_range self.entry).layout) }
+        ensures there { IfSome result (IsInside self.entry) }
+    {
+        match view {
+            MemView::Whole => Some(self),
+            MemView::Member(name, rest) => self.member(name.as_str())?.viewed(rest),
+            MemView::Index(i, rest) => self.index(*i)?.viewed(rest),
+        }
+    }
+
+    /// How many bytes the part has. The condition: it stands in its whole, and its plan is that of its type.
+    pub(crate) fn size(self) -> usize
+        requires { IsLocated self }
+        ensures { result ≡ length_in (part_range self.entry).layout }
+    {
+        match self.shape {
+            Shape::Whole(ty, plan) => {
+                let measures = ty.measures();
+                if measures.is_fixed {
+                    measures.size.unwrap_or(0) as usize
+                } else {
+                    plan.open_len(self.count)
+                }
+            }
+            Shape::Column(n, component, _) => {
+                usize::from(n) * component.measures().size.unwrap_or(0) as usize
+            }
+            Shape::Component(ty) => ty.measures().size.unwrap_or(0) as usize,
+        }
+    }
+
+    /// The value that the bytes lay out in the place of the part. The conditions: the part stands in these
+    /// bytes, and its plan is that of its type.
+    pub(crate) fn read(self, alloc: Global, bytes: &[u8]) -> Result<Instance, AllocError>
+        requires located { IsLocated self }
+        requires whole { self.len ≡ length bytes.now }
+        ensures { IfOk result (λ v. value_of v ≡ decoded bytes.now self.entry.start (part_range self.entry).layout) }
+    {
+        match self.shape {
+            Shape::Whole(ty, plan) => {
+                read_value(alloc, bytes, self.start, self.count, ty, plan)
+            }
+            Shape::Column(n, component, plan) => {
+                let column = read_vector(alloc, bytes, self.start, n, component, plan)?;
+                Ok(Instance::from(column))
+            }
+            Shape::Component(ty) => {
+                read_value(alloc, bytes, self.start, self.count, ty, &Plan::Scalar)
+            }
+        }
+    }
+
+    /// Whether the value has the layout of the part: it is of the part's type, and has as many elements in
+    /// the runtime-sized array that the type is or ends in. The condition: the value may be stored.
+    pub(crate) fn fits(self, value: &Instance) -> bool
+        requires located { IsLocated self }
+        requires storable { IsStorable (value_of value.now) }
+        ensures { IsTrue result ↔ (layout_of (value_of value.now) ≡ (part_range self.entry).layout) }
+    {
+        self.is_type_of(value) && self.is_count_of(value)
+    }
+
+    /// Whether the value, which is of the part's type, has as many elements as the part in the runtime-sized
+    /// array that the type is or ends in. The condition: the value may be stored.
+    pub(crate) fn is_count_of(self, value: &Instance) -> bool
+        requires located { IsLocated self }
+        requires storable { IsStorable (value_of value.now) }
+        requires typed { type_of (value_of value.now) ≡ shape_ty self.shape }
+        ensures { IsTrue result ↔ (layout_of (value_of value.now) ≡ (part_range self.entry).layout) }
+    {
+        let n = runtime_count(value);
+        n == 0 || n == self.count
+    }
+
+    /// Whether the value is of the part's type. The condition: the value may be stored.
+    pub(crate) fn is_type_of(self, value: &Instance) -> bool
+        requires { IsStorable (value_of value.now) }
+        ensures { IsTrue result ↔ (type_of (value_of value.now) ≡ shape_ty self.entry.shape) }
+    {
+        match self.shape {
+            Shape::Whole(ty, _) | Shape::Component(ty) => value.has_ty(ty),
+            Shape::Column(n, component, _) => match value {
+                Instance::Vec(v) => is_vector_of(v, n, component),
+                Instance::Literal(_) | Instance::Struct(_) | Instance::Array(_) => false,
+                Instance::Mat(_) | Instance::Ptr(_) | Instance::Ref(_) => false,
+                Instance::Atomic(_) | Instance::Deferred(_) => false,
+            },
+        }
+    }
+
+    /// Overwrites the bytes of the part with those of the value: padding in them becomes 0, and no other byte
+    /// changes. The conditions: the part stands in these bytes, its plan is that of its type, and the value has
+    /// its layout and may be stored.
+    pub(crate) fn overwrite(self, bytes: &mut [u8], value: &Instance)
+        requires located { IsLocated self }
+        requires whole { self.len ≡ length bytes.old }
+        requires storable { IsStorable (value_of value.now) }
+        requires alike { layout_of (value_of value.now) ≡ (part_range self).layout }
+        ensures { bytes.new ≡ overwritten bytes.old self.entry.start (buffer (value_of value.now)) }
+    {
+        let end = self.start + self.size();
+        bytes[self.start..end].fill(0);
+        self.write(bytes, value);
+    }
+
+    /// Writes the scalars of the value in the place of the part, of which it has the layout.
+    pub(crate) fn write(self, bytes: &mut [u8], value: &Instance)
+        requires located { IsLocated self }
+        requires whole { self.len ≡ length bytes.old }
+        requires storable { IsStorable (value_of value.now) }
+        requires alike { layout_of (value_of value.now) ≡ (part_range self).layout }
+        ensures { bytes.new ≡ put (value_of value.now) (shape_plan self.entry.shape) self.entry.start bytes.old }
+    {
+        match self.shape {
+            Shape::Whole(_, plan) => write_value(bytes, self.start, value, plan),
+            Shape::Column(_, _, plan) => write_value(bytes, self.start, value, plan),
+            Shape::Component(_) => write_value(bytes, self.start, value, &Plan::Scalar),
+        }
+    }
+
+    /// Writes the number of the atomic that the part is; an atomic of this number has its layout.
+    pub(crate) fn write_atomic_number(self, bytes: &mut [u8], number: LiteralInstance)
+        requires located { IsLocated self }
+        requires whole { self.len ≡ length bytes.old }
+        requires storable { IsStorable (atomic_of (literal_of number)) }
+        requires alike { layout_of (atomic_of (literal_of number)) ≡ (part_range self).layout }
+        ensures { bytes.new ≡ put (atomic_of (literal_of number)) (shape_plan self.entry.shape) self.entry.start bytes.old }
+    {
+        write_literal(bytes, self.start, number);
+    }
+}
+
+// Whether the vector has n components of the type. The condition: the vector may be stored.
+fn is_vector_of(value: &VecInstance, n: u8, component: &Type) -> bool
+    requires { IsStorable (vec_view value.now) }
+    ensures { IsTrue result ↔ (type_of (vec_view value.now) ≡ vec n (type_view component.now)) }
+{
+    value.n() == usize::from(n) && value[0].has_ty(component)
+}
