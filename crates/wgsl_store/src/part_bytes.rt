@@ -88,9 +88,7 @@ impl<'a> Located<'a> {
         ensures { IfOk result (λ v. value_of v ≡ decoded bytes.now self.entry.start (part_range self.entry).layout) }
     {
         match self.shape {
-            Shape::Whole(ty, plan) => {
-                read_value(alloc, bytes, self.start, self.count, ty, plan)
-            }
+            Shape::Whole(ty, plan) => { read_value(alloc, bytes, self.start, self.count, ty, plan) }
             Shape::Column(n, component, plan) => {
                 let column = read_vector(alloc, bytes, self.start, n, component, plan)?;
                 Ok(Instance::from(column))

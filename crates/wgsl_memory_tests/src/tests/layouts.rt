@@ -23,7 +23,8 @@ fn layout_of(rt: &impl Abort, alloc: Global, ty: &Type) -> Layout {
 /// The view to the member.
 fn member(rt: &impl Abort, alloc: Global, name: &str) -> MemView {
     let mut view = MemView::Whole;
-    view.append_member(alloc, text(rt, alloc, name)).expect(rt, "memory");
+    view.append_member(alloc, text(rt, alloc, name))
+        .expect(rt, "memory");
     view
 }
 
@@ -122,7 +123,14 @@ fn a_write_leaves_the_bytes_around_the_part(rt: HostRuntime) {
     // The padding between the members and behind the last is outside the vector.
     let three = Instance::from(vector_of(&rt, alloc, &[1, 2, 3]).expect(&rt, "memory"));
     let three = storable(&rt, three);
-    assert_writes(&rt, &layout, &mut bytes, member(&rt, alloc, "b"), three, Ok(()));
+    assert_writes(
+        &rt,
+        &layout,
+        &mut bytes,
+        member(&rt, alloc, "b"),
+        three,
+        Ok(()),
+    );
     wanted[16..28].copy_from_slice(&[1, 0, 0, 0, 2, 0, 0, 0, 3, 0, 0, 0]);
     assert_eq!(rt; bytes, wanted);
 
@@ -150,9 +158,23 @@ fn refused_writes_change_no_byte(rt: HostRuntime) {
     assert_writes(&rt, &layout, &mut bytes, first, signed, Err(OtherType));
     let three = array_of(&rt, alloc, &[1, 2, 3], true).expect(&rt, "memory");
     let three = storable(&rt, Instance::from(three));
-    assert_writes(&rt, &layout, &mut bytes, MemView::Whole, three, Err(OtherLength));
+    assert_writes(
+        &rt,
+        &layout,
+        &mut bytes,
+        MemView::Whole,
+        three,
+        Err(OtherLength),
+    );
     let first = index(&rt, alloc, 0);
-    assert_writes(&rt, &layout, &mut bytes[..3], first, word(&rt, 1), Err(TooFewBytes));
+    assert_writes(
+        &rt,
+        &layout,
+        &mut bytes[..3],
+        first,
+        word(&rt, 1),
+        Err(TooFewBytes),
+    );
     assert_eq!(rt; bytes, [0xff; 11]);
     let last = index(&rt, alloc, 1);
     assert_writes(&rt, &layout, &mut bytes, last, word(&rt, 1), Ok(()));
