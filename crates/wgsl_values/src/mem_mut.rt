@@ -1,13 +1,22 @@
 //! Parts of values that are written (WGSL: assignment statement).
 
-ghost use Rattle.std.specs.Prelude.{◌≡◌, OnSome, option_map, option_and_then};
+ghost use Rattle.std.specs.Prelude.{◌≡◌, ℕ, IfSome, Option, option_map};
 ghost use Rattle.std.specs.Borrow.{Lends, LendsIf, LendsSo, sem};
 ghost use Rattle.std.specs.Result.{result_ok};
 ghost use Rattle.std.specs.Vec.{with_item};
-ghost use Rattle.wgsl_rules.specs.Values.{IsVector, atomic_of, item};
+ghost use Rattle.wgsl_rules.specs.Types as types;
+ghost use Rattle.wgsl_rules.specs.Types.{Ty};
+ghost use Rattle.wgsl_rules.specs.Values.{
+  IsStorable,
+  IsVector,
+  IsWellFormed,
+  atomic_of,
+  item,
+  type_of,
+};
 ghost use Rattle.wgsl_rules.specs.Paths.{member_named, parts, put_viewed, viewed};
 ghost use Rattle.wgsl_values.specs.Parts.{as_record, as_vector, component_at};
-ghost use Rattle.wgsl_values.specs.Rows.{list_row, holding};
+ghost use Rattle.wgsl_values.specs.Rows.{list_row, holding, lent_type};
 ghost use Rattle.wgsl_values.specs.declared.inst.Instance.{Instance};
 ghost use Rattle.wgsl_values.specs.View.{
   array_view,
@@ -20,6 +29,9 @@ ghost use Rattle.wgsl_values.specs.View.{
   steps_of,
 };
 ghost use Rattle.wgsl_values.specs.Written.{
+  IsAsSound,
+  IsKept,
+  IsWritten,
   as_array,
   as_matrix,
   with_inner_part,
@@ -55,8 +67,11 @@ impl ArrayInstance {
     /// well-formed again where what was written is storable and of the type of what was there.
     pub fn get_mut(&mut self, i: usize) -> Option<&mut Instance>
         ensures* writes_back { sem 𝓛 (LendsSo array_row.the_row the_row self.entry result
-            (λ n w. OnSome result (array_view n ≡ with_part i (value_of w) (array_view self.old))) (λ n. n ≡ self.old)) }
+            (λ n w. IsWritten (with_part i) (lent_type result) (value_of w) (array_view self.old) (array_view n)) (λ n. n ≡ self.old)) }
         ensures value { option_map (λ v. value_of v.now) result ≡ item i (parts (array_view self.old)) }
+        ensures sound { IfSome result (λ part. IsAsSound (value_of part.now) (array_view self.old)) }
+        ensures ty { IfSome result (λ part. (t : Ty) (n : Option ℕ) → IsWellFormed (array_view self.old)
+            → type_of (array_view self.old) ≡ types.array t n → type_of (value_of part.now) ≡ t) }
     {
         nth_mut(&mut self.components, i)
     }
@@ -67,8 +82,11 @@ impl VecInstance {
     /// well-formed again where what was written is a literal of the kind of what was there.
     pub fn get_mut(&mut self, i: usize) -> Option<&mut Instance>
         ensures* writes_back { sem 𝓛 (LendsSo vec_row.the_row the_row self.entry result
-            (λ n w. OnSome result (vec_view n ≡ with_part i (value_of w) (vec_view self.old))) (λ n. n ≡ self.old)) }
+            (λ n w. IsWritten (with_part i) (lent_type result) (value_of w) (vec_view self.old) (vec_view n)) (λ n. n ≡ self.old)) }
         ensures value { option_map (λ v. value_of v.now) result ≡ item i (parts (vec_view self.old)) }
+        ensures sound { IfSome result (λ part. IsAsSound (value_of part.now) (vec_view self.old)) }
+        ensures ty { IfSome result (λ part. (n : ℕ) (t : Ty) → IsWellFormed (vec_view self.old)
+            → type_of (vec_view self.old) ≡ types.vec n t → type_of (value_of part.now) ≡ t) }
     {
         nth_mut(&mut self.components, i)
     }
@@ -79,8 +97,11 @@ impl MatInstance {
     /// well-formed again where what was written is storable and of the type of what was there.
     pub fn col_mut(&mut self, i: usize) -> Option<&mut Instance>
         ensures* writes_back { sem 𝓛 (LendsSo mat_row.the_row the_row self.entry result
-            (λ n w. OnSome result (mat_view n ≡ with_part i (value_of w) (mat_view self.old))) (λ n. n ≡ self.old)) }
+            (λ n w. IsWritten (with_part i) (lent_type result) (value_of w) (mat_view self.old) (mat_view n)) (λ n. n ≡ self.old)) }
         ensures value { option_map (λ v. value_of v.now) result ≡ item i (parts (mat_view self.old)) }
+        ensures sound { IfSome result (λ part. IsAsSound (value_of part.now) (mat_view self.old)) }
+        ensures ty { IfSome result (λ part. (columns rows : ℕ) (t : Ty) → IsWellFormed (mat_view self.old)
+            → type_of (mat_view self.old) ≡ types.mat columns rows t → type_of (value_of part.now) ≡ types.vec rows t) }
     {
         nth_mut(&mut self.columns, i)
     }
@@ -91,8 +112,9 @@ impl StructInstance {
     /// well-formed again where what was written is storable and of the type of what was there.
     pub fn member_mut(&mut self, name: &str) -> Option<&mut Instance>
         ensures* writes_back { sem 𝓛 (LendsSo struct_row.the_row the_row self.entry result
-            (λ n w. OnSome result (struct_view n ≡ with_member name.now (value_of w) (struct_view self.old))) (λ n. n ≡ self.old)) }
+            (λ n w. IsWritten (with_member name.now) (lent_type result) (value_of w) (struct_view self.old) (struct_view n)) (λ n. n ≡ self.old)) }
         ensures value { option_map (λ v. value_of v.now) result ≡ option_map (λ p. p.1) (member_named name.now (struct_view self.old)) }
+        ensures sound { IfSome result (λ part. IsAsSound (value_of part.now) (struct_view self.old)) }
     {
         let i = position(&self.ty, name)?;
         nth_mut(&mut self.members, i)
@@ -106,6 +128,10 @@ impl AtomicInstance {
         ensures* writes_back { sem 𝓛 (Lends atomic_row.the_row the_row self.entry result (holding self.old)) }
         ensures value { atomic_of (value_of result.now) ≡ atomic_view self.old }
         ensures written { (w : Instance) → atomic_view (holding self.old w) ≡ atomic_of (value_of w) }
+        ensures kept { (w : Instance) → IsStorable (value_of w) → type_of (value_of w) ≡ type_of (value_of result.now)
+            → IsKept (atomic_view (holding self.old w)) (atomic_view self.old) }
+        ensures sound { IsAsSound (value_of result.now) (atomic_view self.old) }
+        ensures ty { (t : Ty) → type_of (atomic_view self.old) ≡ types.atomic t → type_of (value_of result.now) ≡ t }
     {
         &mut *self.content
     }
@@ -174,8 +200,11 @@ impl MatInstance {
     /// well-formed again where what was written is a literal of the kind of what was there.
     pub fn get_mut(&mut self, col: usize, row: usize) -> Option<&mut Instance>
         ensures* writes_back { sem 𝓛 (LendsSo mat_row.the_row the_row self.entry result
-            (λ n w. OnSome result (mat_view n ≡ with_inner_part col row (value_of w) (mat_view self.old))) (λ n. mat_view n ≡ mat_view self.old)) }
+            (λ n w. IsWritten (with_inner_part col row) (lent_type result) (value_of w) (mat_view self.old) (mat_view n)) (λ n. mat_view n ≡ mat_view self.old)) }
         ensures value { option_map (λ v. value_of v.now) result ≡ component_at col row (parts (mat_view self.old)) }
+        ensures sound { IfSome result (λ part. IsAsSound (value_of part.now) (mat_view self.old)) }
+        ensures ty { IfSome result (λ part. (columns rows : ℕ) (t : Ty) → IsWellFormed (mat_view self.old)
+            → type_of (mat_view self.old) ≡ types.mat columns rows t → type_of (value_of part.now) ≡ t) }
     {
         let column = nth_mut(&mut self.columns, col)?;
         let components = column.as_vec_mut()?;

@@ -4,10 +4,10 @@ ghost use Rattle.std.specs.Prelude.{◌≡◌, [], IfOk, OnErr, OnOk};
 ghost use Rattle.std.specs.Borrow.{Lends, RestsIfErr, sem};
 ghost use mir.Syntax.{named};
 ghost use Rattle.wgsl_rules.specs.Paths.{put_viewed, viewed};
-ghost use Rattle.wgsl_rules.specs.Values.{Val, IsStorable, IsWellFormed};
+ghost use Rattle.wgsl_rules.specs.Values.{Val, IsStorable, IsWellFormed, type_of};
 ghost use Rattle.wgsl_scalar.specs.Answers.{Gives};
 ghost use Rattle.wgsl_values.specs.View.{value_of, steps_of};
-ghost use Rattle.wgsl_values.specs.Written.{replaced};
+ghost use Rattle.wgsl_values.specs.Written.{IsAsSound, KeepsWhole, replaced};
 ghost use Rattle.wgsl_values.specs.contracts.inst.Instance.{the_row};
 ghost use Rattle.wgsl_values.specs.contracts.part_mut.PartMut.{the_row as part_row};
 
@@ -40,6 +40,10 @@ impl Placed for Instance {
 
 /// A part of a value, lent to be written: an [`Instance`] by `Deref` and `DerefMut`. It is out of
 /// the value meanwhile, and is put back when this is let go.
+///
+/// One that is forgotten (`mem::forget`) puts nothing back: `false` stays in the place of the part,
+/// and the part is lost.
+#[derive(Debug, PartialEq, Eq)]
 pub struct PartMut<'a, P: Placed> {
     whole: &'a mut Instance,
     view: &'a MemView,
@@ -84,7 +88,8 @@ impl Instance {
     /// where what was written is storable and of the part's type.
     ///
     /// The first step that leads nowhere is refused as by [`Instance::view`], and nothing is then
-    /// changed. The condition: the value is well-formed.
+    /// changed. What is answered has to be let go: where it is forgotten, `false` stays in the place
+    /// of the part. The condition: the value is well-formed.
     pub fn view_mut<'a>(
         &'a mut self,
         alloc: Global,
@@ -96,6 +101,8 @@ impl Instance {
         ensures same_reference { IfOk result (λ m. m.whole.ghost_name ≡ self.entry.ghost_name) }
         ensures same_view { IfOk result (λ m. m.view.now ≡ view.now) }
         ensures rest { IfOk result (λ m. (w : Val) → put_viewed (steps_of view.now) w (value_of m.whole.now) ≡ put_viewed (steps_of view.now) w (value_of self.old)) }
+        ensures kept { IfOk result (λ m. KeepsWhole (λ w. put_viewed (steps_of m.view.now) w (value_of m.whole.now)) (type_of (value_of m.part)) (value_of self.old)) }
+        ensures sound { IfOk result (λ m. IsAsSound (value_of m.part) (value_of self.old)) }
     {
         self.view(alloc, view)?;
         let hole = Instance::Literal(LiteralInstance::Bool(false));

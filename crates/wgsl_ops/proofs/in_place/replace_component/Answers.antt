@@ -8,7 +8,7 @@ use Rattle.wgsl_ops.proofs.in_place.replace_component.Goals as goal
 
 pub returns-in-Some-clause-replaced : goal.returns-in-Some-clause-replaced
 returns-in-Some-clause-replaced c =
-    let held = rw c.in-Some.is at (c.get_mut.follows.holds c.component-value.result) in
+    let held = rw c.in-Some.is at (c.get_mut.follows.holds c.component-value.result).is in
     held ∙ ap (λ w. with_part c.args.i w (vec_view c.args.target.now)) c.component-value.ensures.value
 
 pub returns-in_default-clause-replaced : goal.returns-in_default-clause-replaced
