@@ -127,7 +127,8 @@ class Chain(Author):
             self.put_whole(f"struct C{number} a:C{number - 1}")
         self.put_whole(f"new C{depth - 1} storage read_write {self.digits(4)}")
         if self.handles:
-            for number in range(self.random.randint(0, depth)):
+            # Each handle has its type, with what is left of the chain in it.
+            for number in range(self.random.randint(0, min(depth, 300_000 // depth))):
                 self.put_whole(f"member &{number} a")
 
 

@@ -4,7 +4,6 @@ mod asserts;
 mod buffers;
 mod calls;
 mod cells;
-mod depth;
 mod fixtures;
 mod growth;
 mod handles;
