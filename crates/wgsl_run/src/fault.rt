@@ -7,7 +7,7 @@ ghost use Rattle.wgsl_run.specs.declared.fault.RunFault.TheVariants.{Memory};
 use std::alloc::AllocError;
 
 /// Why a run ends early.
-#[derive(Clone, Copy, Debug, PartialEq, Eq)]
+#[derive(Debug, PartialEq, Eq, Drop)]
 pub enum RunFault {
     /// A read failed or was interrupted; nothing was run.
     Read,
@@ -21,8 +21,8 @@ pub enum RunFault {
 
 impl RunFault {
     /// The status that the program ends with.
-    pub fn status(self) -> u8
-        ensures { result ≡ fault_status self }
+    pub fn status(&self) -> u8
+        ensures { result ≡ fault_status self.now }
     {
         match self {
             RunFault::Read | RunFault::Write => 1,
@@ -32,8 +32,8 @@ impl RunFault {
     }
 
     /// What the program prints behind its name.
-    pub fn text(self) -> &'static str
-        ensures { result.now ≡ fault_text self }
+    pub fn text(&self) -> &'static str
+        ensures { result.now ≡ fault_text self.now }
     {
         match self {
             RunFault::Read => "read fault",
