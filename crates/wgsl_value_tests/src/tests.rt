@@ -6,6 +6,7 @@ mod conversions;
 mod fixtures;
 mod growth;
 mod instances;
+mod lent;
 mod parts;
 mod samples;
 mod signatures;

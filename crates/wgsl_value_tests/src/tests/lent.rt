@@ -1,26 +1,28 @@
 //! What is lent to be written: each function writes a part, and its contract says what the whole is afterwards, as
 //! far as what was lent tells it.
 
-ghost use Rattle.std.specs.Prelude.{◌≡◌, Some};
+ghost use Rattle.std.specs.Prelude.{◌≡◌, Ok, Some};
+ghost use Rattle.wgsl_rules.specs.Paths.{viewed};
 ghost use Rattle.wgsl_rules.specs.Types as types;
-ghost use Rattle.wgsl_rules.specs.Values.{IsStorable, IsWellFormed, type_of};
+ghost use Rattle.wgsl_rules.specs.Values.{Val, IsStorable, IsWellFormed, type_of};
 ghost use Rattle.wgsl_values.specs.View.{
   value_of,
   array_view,
   atomic_view,
   mat_view,
+  steps_of,
   struct_view,
   vec_view,
 };
 
-use crate::tests::asserts::{assert_is, assert_same};
-use crate::tests::fixtures::{
-    array_of, atomic_from, light, mat2x3, pair_value, pair_with, to_component, vector_of,
-};
+use crate::tests::asserts::assert_is;
+use crate::tests::fixtures::{light, to_component, to_member, vector_of};
 use crate::tests::samples::storable;
 use std::alloc::Global;
+use std::process::Abort;
 use wgsl_rules::{Ty, Type};
 use wgsl_scalar::Error;
+use wgsl_scalar::LiteralInstance::U32;
 use wgsl_values::{
     ArrayInstance, AtomicInstance, Instance, MatInstance, MemView, StructInstance, VecInstance,
 };
@@ -54,7 +56,9 @@ fn set_element(a: &mut ArrayInstance, i: usize)
 /// Writes 9 in the place of the member, where that is an u32.
 fn set_member(s: &mut StructInstance, name: &str)
     requires well_formed { IsWellFormed (struct_view s.old) }
+    requires storable { IsStorable (struct_view s.old) }
     ensures well_formed { IsWellFormed (struct_view s.new) }
+    ensures storable { IsStorable (struct_view s.new) }
     ensures ty { type_of (struct_view s.new) ≡ type_of (struct_view s.old) }
 {
     let nine = Instance::from(9u32);
@@ -103,15 +107,60 @@ fn set_inner(a: &mut AtomicInstance)
     *a.inner_mut() = nine;
 }
 
-/// Writes 9 in the place of what the view leads to, where that is an u32.
+/// Writes 9 in the place of the number that the view leads to.
 fn set_viewed(alloc: Global, whole: &mut Instance, view: &MemView) -> Result<(), Error>
-    requires { IsWellFormed (value_of whole.old) }
+    requires well_formed { IsWellFormed (value_of whole.old) }
+    requires of_u32 { (x : Val) → viewed (steps_of view.now) (value_of whole.old) ≡ Ok x → type_of x ≡ types.u32 }
     ensures well_formed { IsWellFormed (value_of whole.new) }
     ensures ty { type_of (value_of whole.new) ≡ type_of (value_of whole.old) }
 {
-    let mut part = whole.view_mut(alloc, view)?;
-    if part.has_ty(&Type::U32) {
-        *part = Instance::from(9u32);
-    }
+    *whole.view_mut(alloc, view)? = Instance::from(9u32);
     Ok(())
+}
+
+/// Writes 9 in the place of what the view leads to, where that is an u32.
+fn set_number(alloc: Global, whole: &mut Instance, view: &MemView) -> Result<(), Error>
+    requires well_formed { IsWellFormed (value_of whole.old) }
+    requires storable { IsStorable (value_of whole.old) }
+    ensures storable { IsStorable (value_of whole.new) }
+    ensures ty { type_of (value_of whole.new) ≡ type_of (value_of whole.old) }
+{
+    let mut part = whole.view_mut(alloc, view)?;
+    if !part.has_ty(&Type::U32) {
+        return Ok(());
+    }
+    *part = Instance::from(9u32);
+    Ok(())
+}
+
+/// vec3(1u, 2u, 3u)
+fn three(rt: &impl Abort, alloc: Global) -> VecInstance
+    ensures well_formed { IsWellFormed (vec_view result) }
+    ensures ty { type_of (vec_view result) ≡ types.vec 3 types.u32 }
+{
+    VecInstance::from3(alloc, [U32(1), U32(2), U32(3)]).expect(rt, "memory")
+}
+
+#[test]
+fn a_component_that_was_lent_is_replaced(rt: HostRuntime) {
+    let alloc = rt.alloc();
+    let mut components = three(&rt, alloc);
+    set_component(&mut components, 1);
+    assert_is(&rt, &components, vector_of(&rt, alloc, &[1, 9, 3]));
+    set_component(&mut components, 3);
+    assert_is(&rt, &components, vector_of(&rt, alloc, &[1, 9, 3]));
+    drop(components);
+}
+
+#[test]
+fn what_a_view_leads_to_is_replaced_where_it_is_a_number(rt: HostRuntime) {
+    let alloc = rt.alloc();
+    let mut value = storable(&rt, light(&rt, alloc));
+    set_number(alloc, &mut value, &to_member(&rt, alloc)).expect(&rt, "memory");
+    assert_is(&rt, &value, light(&rt, alloc));
+    set_number(alloc, &mut value, &to_component(&rt, alloc)).expect(&rt, "memory");
+    let text =
+        "Light(mat2x3(vec3(1u, 2u, 3u), vec3(4u, 5u, 9u)), array(Pair(1u, vec3(2u, 3u, 4u))))";
+    assert_eq!(rt; value.to_string(alloc).expect(&rt, "memory").as_str(), text);
+    drop(value);
 }
