@@ -1,0 +1,224 @@
+//! Calls that a seed gives: most can be made, and the others name handles, members and parts that are not there, or
+//! hand in values of other types or lengths.
+
+use crate::tests::plain_memory::memory::{Call, Content, Memory};
+use crate::tests::plain_memory::numbers::Numbers;
+use crate::tests::plain_memory::shapes::{Kind, Place, Shape, Shapes};
+use crate::tests::plain_memory::tables::{Drawn, NAMES};
+use std::alloc::{AllocError, Global};
+
+/// The most parts that a value has, those of its parts included.
+const PARTS: usize = 10_000;
+
+/// A sort of handles.
+#[derive(Clone, Copy)]
+enum Sought {
+    Any,
+    Structure,
+    Row,
+    Reference,
+    /// Of this type.
+    Like(usize),
+}
+
+/// The bytes of a number of the kind: of a truth value 0 or 1.
+fn put_number(bytes: &mut [u8], first: usize, kind: Kind, number: u64) {
+    let (number, len) = match kind {
+        Kind::Bool => (number & 1, 4),
+        Kind::I32 | Kind::U32 => (number, 4),
+        Kind::Abstract | Kind::I64 | Kind::U64 => (number, 8),
+    };
+    let places = bytes.iter_mut().skip(first).take(len);
+    for (place, byte) in places.zip(&number.to_le_bytes()) {
+        *place = *byte;
+    }
+}
+
+impl Shapes {
+    /// A value of the type with any numbers, and 0 for each other byte. Its runtime-sized array, if it has one, has so
+    /// many elements.
+    fn random_content(
+        &self,
+        alloc: Global,
+        numbers: &mut Numbers,
+        shape: usize,
+        elements: usize,
+    ) -> Result<Content, AllocError> {
+        let laid = self.laid(shape);
+        let elements = if laid.is_open { elements } else { 0 };
+        let mut bytes = vec![in alloc; 0u8; laid.len(elements)]?;
+        let mut places = vec![in alloc; Place { shape, first: 0 }]?;
+        for i in 0..PARTS {
+            let Some(place) = places.get(i).copied() else {
+                break;
+            };
+            match self.shape(place.shape) {
+                Shape::Number(kind) | Shape::Atomic(kind) => {
+                    put_number(&mut bytes, place.first, kind, numbers.number());
+                }
+                Shape::Row(_, _, _) | Shape::Structure(_, _, _) => {
+                    places.extend_from_slice(&self.parts(alloc, place, elements)?)?;
+                }
+                Shape::Reference(_, _, _) => {}
+            }
+        }
+        let content = Content {
+            shape,
+            elements,
+            bytes,
+        };
+        Ok(content)
+    }
+
+    /// A value of any type but a reference; one of four or more has a runtime-sized array.
+    fn any_content(&self, alloc: Global, numbers: &mut Numbers) -> Result<Content, AllocError> {
+        let drawn = if numbers.is_one_in(4) {
+            Drawn::Open
+        } else {
+            Drawn::Value
+        };
+        let shape = self.draw(numbers, drawn);
+        let elements = numbers.below(4).wrapping_add(1);
+        self.random_content(alloc, numbers, shape, elements)
+    }
+}
+
+impl Memory {
+    fn is_sought(&self, handle: usize, sought: Sought) -> bool {
+        let Some(named) = self.handles.get(handle) else {
+            return false;
+        };
+        let shape = self.shapes.shape(named.shape);
+        match sought {
+            Sought::Any => true,
+            Sought::Structure => matches!(shape, Shape::Structure(_, _, _)),
+            Sought::Row => matches!(shape, Shape::Row(_, _, _)),
+            Sought::Reference => matches!(shape, Shape::Reference(_, _, _)),
+            Sought::Like(wanted) => named.shape == wanted,
+        }
+    }
+
+    /// A handle of the sort, if there is one; one of a few is of any sort, and one of many is not there.
+    fn random_handle(&self, numbers: &mut Numbers, sought: Sought) -> usize {
+        let count = self.handles.len();
+        let start = numbers.below(count);
+        if numbers.is_one_in(40) {
+            return count.wrapping_add(numbers.below(3));
+        }
+        if !numbers.is_one_in(8) {
+            for i in 0..count {
+                let handle = start.wrapping_add(i).checked_rem(count).unwrap_or(0);
+                if self.is_sought(handle, sought) {
+                    return handle;
+                }
+            }
+        }
+        start
+    }
+
+    /// The type of what the handle names; type 0 where it is not there.
+    fn shape_at(&self, handle: usize) -> usize {
+        self.handles.get(handle).map_or(0, |named| named.shape)
+    }
+
+    /// A value for what the handle names; one of a few is of another type or length.
+    fn content_for(
+        &self,
+        alloc: Global,
+        numbers: &mut Numbers,
+        handle: usize,
+    ) -> Result<Content, AllocError> {
+        let shape = self.shape_at(handle);
+        let is_reference = matches!(self.shapes.shape(shape), Shape::Reference(_, _, _));
+        if is_reference || numbers.is_one_in(8) {
+            return self.shapes.any_content(alloc, numbers);
+        }
+        let cell = self.handles.get(handle).map_or(0, |named| named.cell);
+        let elements = if numbers.is_one_in(4) {
+            numbers.below(4).wrapping_add(1)
+        } else {
+            self.elements(cell)
+        };
+        self.shapes.random_content(alloc, numbers, shape, elements)
+    }
+
+    /// The name of a member of what the handle names, or any.
+    fn random_name(&self, numbers: &mut Numbers, handle: usize) -> usize {
+        let members = self.shapes.members(self.shape_at(handle));
+        let i = numbers.below(members.len());
+        match members.get(i) {
+            Some(member) if !numbers.is_one_in(8) => member.name,
+            _ => numbers.below(NAMES),
+        }
+    }
+
+    /// The index of a part of what the handle names, or any.
+    fn random_index(&self, numbers: &mut Numbers, handle: usize) -> usize {
+        let count = match self.shapes.shape(self.shape_at(handle)) {
+            Shape::Row(_, count, _) => count.max(2),
+            Shape::Number(_) | Shape::Atomic(_) | Shape::Structure(_, _, _) => 1,
+            Shape::Reference(_, _, _) => 1,
+        };
+        if numbers.is_one_in(60) {
+            return usize::MAX;
+        }
+        numbers.below(count.wrapping_add(1))
+    }
+
+    /// A cell with a reference: to anything, or of a type that another cell has.
+    fn random_new_of(&self, numbers: &mut Numbers) -> Call {
+        let other = self.random_handle(numbers, Sought::Reference);
+        let sought = match self.shapes.shape(self.shape_at(other)) {
+            Shape::Reference(_, target, _) if numbers.is_one_in(2) => Sought::Like(target),
+            _ => Sought::Any,
+        };
+        let handle = self.random_handle(numbers, sought);
+        Call::NewOf(handle, numbers.space(), numbers.access())
+    }
+
+    /// A copy, mostly between places of one type; one of four goes to a reference.
+    fn random_copy(&self, numbers: &mut Numbers) -> Call {
+        let sought = if numbers.is_one_in(4) {
+            Sought::Reference
+        } else {
+            Sought::Any
+        };
+        let to = self.random_handle(numbers, sought);
+        let from = self.random_handle(numbers, Sought::Like(self.shape_at(to)));
+        Call::Copy(from, to)
+    }
+
+    fn random_new(&self, alloc: Global, numbers: &mut Numbers) -> Result<Call, AllocError> {
+        let content = self.shapes.any_content(alloc, numbers)?;
+        Ok(Call::New(content, numbers.space(), numbers.access()))
+    }
+
+    /// A call of any sort. Without handles it makes one.
+    pub(super) fn random_call(
+        &self,
+        alloc: Global,
+        numbers: &mut Numbers,
+    ) -> Result<Call, AllocError> {
+        if self.handles.is_empty() {
+            return self.random_new(alloc, numbers);
+        }
+        let any = self.random_handle(numbers, Sought::Any);
+        match numbers.below(20) {
+            0 | 1 => self.random_new(alloc, numbers),
+            2 => Ok(self.random_new_of(numbers)),
+            3 | 4 | 5 => {
+                let handle = self.random_handle(numbers, Sought::Structure);
+                Ok(Call::Member(handle, self.random_name(numbers, handle)))
+            }
+            6 | 7 | 8 => {
+                let handle = self.random_handle(numbers, Sought::Row);
+                Ok(Call::Index(handle, self.random_index(numbers, handle)))
+            }
+            9 | 10 => Ok(Call::Read(any)),
+            11 | 12 | 13 => Ok(Call::Write(any, self.content_for(alloc, numbers, any)?)),
+            14 | 15 => Ok(Call::Replace(any, self.content_for(alloc, numbers, any)?)),
+            16 | 17 | 18 => Ok(self.random_copy(numbers)),
+            _ => Ok(Call::Load(self.random_handle(numbers, Sought::Reference))),
+        }
+    }
+}
