@@ -1,5 +1,6 @@
-/* Preloaded into a program, refuses one growth of its memory: the one whose number, from 1, REFUSE_GROWTH
-   gives. Where REFUSE_REPORT names a file, the number of growths that were asked for is written there. */
+/* Preloaded into a program, refuses growths of its memory: the one whose number, from 1, REFUSE_GROWTH gives, or,
+   where REFUSE_FROM gives a number, that growth and each after it. Where REFUSE_REPORT names a file, the number of
+   growths that were asked for is written there. */
 #define _GNU_SOURCE
 #include <dlfcn.h>
 #include <errno.h>
@@ -12,16 +13,22 @@ static long asked;
 /* The report's own growths are none of the program's. */
 static int reporting;
 
+/* The number that the variable gives; 0 where it gives none. */
+static long number_of(const char *name) {
+    const char *text = getenv(name);
+    return text ? atol(text) : 0;
+}
+
 static int is_refused(void) {
-    static long number = -1;
+    static long one = -1, first;
     if (reporting)
         return 0;
-    if (number < 0) {
-        const char *text = getenv("REFUSE_GROWTH");
-        number = text ? atol(text) : 0;
+    if (one < 0) {
+        first = number_of("REFUSE_FROM");
+        one = number_of("REFUSE_GROWTH");
     }
     asked += 1;
-    if (asked != number)
+    if (asked != one && (first == 0 || asked < first))
         return 0;
     errno = ENOMEM;
     return 1;
