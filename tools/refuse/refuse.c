@@ -1,6 +1,7 @@
 /* Preloaded into a program, refuses growths of its memory: the one whose number, from 1, REFUSE_GROWTH gives, or,
    where REFUSE_FROM gives a number, that growth and each after it. Where REFUSE_REPORT names a file, the number of
-   growths that were asked for is written there. */
+   growths that were asked for is written there; while the program runs, it reads in REFUSE_ASKED how many were asked
+   for so far, in 20 digits. */
 #define _GNU_SOURCE
 #include <dlfcn.h>
 #include <errno.h>
@@ -10,8 +11,26 @@
 
 static long asked;
 
-/* The report's own growths are none of the program's. */
+/* Growths for what is told of the others are none of the program's. */
 static int reporting;
+
+#define NAME "REFUSE_ASKED="
+#define DIGITS 20
+static char shown[] = NAME "00000000000000000000";
+
+__attribute__((constructor)) static void begin(void) {
+    reporting = 1;
+    putenv(shown);
+    reporting = 0;
+}
+
+static void show(void) {
+    long rest = asked;
+    for (int i = DIGITS - 1; i >= 0; i--) {
+        shown[sizeof NAME - 1 + i] = '0' + rest % 10;
+        rest /= 10;
+    }
+}
 
 /* The number that the variable gives; 0 where it gives none. */
 static long number_of(const char *name) {
@@ -28,6 +47,7 @@ static int is_refused(void) {
         one = number_of("REFUSE_GROWTH");
     }
     asked += 1;
+    show();
     if (asked != one && (first == 0 || asked < first))
         return 0;
     errno = ENOMEM;

@@ -3,7 +3,10 @@
 
 use crate::{RunFault, run_script};
 use std::alloc::{AllocError, Global};
+use std::io::Write;
+use std::rt::Env;
 use std::test::Fail;
+use std::{io, str};
 
 const REFUSED: &[u8] = b"refused Memory";
 
@@ -127,4 +130,123 @@ read &1
         assert!(rt; is_or_refused(&lines, 2, b"vec3(4li, 5li, 6li)"));
     }
     Ok(())
+}
+
+/// Lines, what each prints, and how many growths of memory it asks for outside of the calls of a session and of those to
+/// and from bytes, before it makes these. The words of a line are one list, which grows a second time for a fifth word;
+/// the bytes of a word are another, and a name is a third. All that a refused line asks for may be outside. Where it is
+/// not said, the line prints more than those before it, and so asks for memory behind the calls too.
+const LINES: [(&str, &str, Option<usize>); 16] = [
+    ("struct S a:u32 b:vec3<u32>", "done", Some(usize::MAX)),
+    (
+        "new S storage read_write 0100000000000000000000000000000002000000030000000400000000000000",
+        "&0",
+        None,
+    ),
+    ("read &0", "S(1u, vec3(2u, 3u, 4u))", None),
+    (
+        "dump &0",
+        "0100000000000000000000000000000002000000030000000400000000000000",
+        None,
+    ),
+    ("member &0 b", "&1", Some(2)),
+    ("index &1 2", "&2", Some(1)),
+    ("read &0", "S(1u, vec3(2u, 3u, 4u))", Some(1)),
+    ("write &1 070000000800000009000000", "done", Some(2)),
+    ("copy &2 &2", "done", Some(1)),
+    (
+        "dump &0",
+        "0100000000000000000000000000000007000000080000000900000000000000",
+        Some(1),
+    ),
+    ("new u32 storage read 05000000", "&3", Some(3)),
+    ("index &0 0", "refused NotIndexable", Some(1)),
+    ("member &0 c", "refused Component", Some(2)),
+    ("member &9 b", "refused NoHandle", Some(usize::MAX)),
+    (
+        "new u32 storage read 0",
+        "refused BadLine",
+        Some(usize::MAX),
+    ),
+    ("struct S a:u32", "refused BadLine", Some(usize::MAX)),
+];
+
+/// The number that the tool which refuses growths has under the name; none where there is no such tool.
+fn number_of(rt: &impl Env, name: &str) -> Option<usize> {
+    let mut digits = [0u8; 32];
+    let count = rt.var(name, &mut digits).ok()?;
+    str::from_utf8(digits.get(..count)?).ok()?.parse().ok()
+}
+
+/// Takes lines, and notes how many growths of memory were asked for as each comes.
+#[derive(Drop)]
+struct Noting<'a, R: Env> {
+    rt: &'a R,
+    taken: Vec<u8>,
+    lines: usize,
+    asked: [usize; 16],
+}
+
+impl<R: Env> Write for Noting<'_, R> {
+    fn write(&mut self, buf: &[u8]) -> io::Result<usize> {
+        if let Some(asked) = self.asked.get_mut(self.lines) {
+            *asked = number_of(self.rt, "REFUSE_ASKED").unwrap_or(0);
+        }
+        self.lines = self.lines.saturating_add(1);
+        self.taken.extend_from_slice(buf)?;
+        Ok(buf.len())
+    }
+
+    fn flush(&mut self) -> io::Result<()> {
+        Ok(())
+    }
+}
+
+/// The script of the lines, and a list for what they print.
+fn script(alloc: Global) -> Result<(String, Vec<u8>), AllocError> {
+    let mut script = String::new(alloc);
+    for (line, _, _) in LINES {
+        script.push_str(line)?;
+        script.push('\n')?;
+    }
+    Ok((script, Vec::with_capacity(alloc, 4096)?))
+}
+
+/// The number of the first line that is not printed as wanted; none where all are.
+fn first_other(taken: &[u8]) -> Option<usize> {
+    taken
+        .split(|byte| *byte == b'\n')
+        .zip(LINES)
+        .position(|(printed, (_, wanted, _))| printed != wanted.as_bytes())
+}
+
+#[test]
+fn want_of_memory_within_a_call_is_told_and_other_want_ends_the_run(rt: HostRuntime) {
+    let alloc = rt.alloc();
+    let Ok((script, taken)) = script(alloc) else {
+        return;
+    };
+    let mut noting = Noting {
+        rt: &rt,
+        taken,
+        lines: 0,
+        asked: [0; 16],
+    };
+    let mut reader = script.as_bytes();
+    let outcome = run_script(alloc, &mut reader, &mut noting);
+    let Some(line) = first_other(&noting.taken) else {
+        assert_eq!(rt; outcome, Ok(()));
+        return;
+    };
+    let ends = noting.lines == line;
+    assert_eq!(rt; outcome, if ends { Err(RunFault::Memory) } else { Ok(()) });
+    let printed = noting.taken.split(|byte| *byte == b'\n').nth(line);
+    assert!(rt; ends || printed == Some(REFUSED));
+    let before = line.checked_sub(1).and_then(|last| noting.asked.get(last));
+    let outside = LINES.get(line).and_then(|row| row.2);
+    if let (Some(outside), Some(refused)) = (outside, number_of(&rt, "REFUSE_GROWTH")) {
+        // the place of the growth among those of the line, from 1
+        let place = refused.saturating_sub(*before.unwrap_or(&0));
+        assert_eq!(rt; ends, place <= outside, "growth {place} of line {line}");
+    }
 }
