@@ -17,7 +17,7 @@ use wgsl_values::{Instance, RefInstance};
 
 /// What a session holds: how many cells there are, the reference of each handle, and what is read there.
 #[derive(Debug, PartialEq, Drop)]
-pub(super) struct Held {
+pub(super) struct Content {
     cells: usize,
     handles: Vec<RefInstance>,
     values: Vec<Instance>,
@@ -45,10 +45,10 @@ fn values(alloc: Global, session: &Session) -> Result<Vec<Instance>, Error> {
 }
 
 /// What the session holds. Its handles are fewer than 32, and can all be read.
-pub(super) fn held(rt: &impl Abort, alloc: Global, session: &Session) -> Held {
+pub(super) fn held(rt: &impl Abort, alloc: Global, session: &Session) -> Content {
     let handles = answer_of!(rt; references(alloc, session));
     let values = answer_of!(rt; values(alloc, session));
-    Held {
+    Content {
         cells: session.store().len(),
         handles,
         values,
