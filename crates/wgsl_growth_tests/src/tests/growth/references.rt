@@ -1,0 +1,179 @@
+//! Calls on references: where memory is wanting the store is as before.
+
+use crate::tests::asserts::{assert_memory, assert_same};
+use crate::tests::samples::{pair, pair_with, text, vector, vector_of};
+use std::alloc::Global;
+use std::process::Abort;
+use wgsl_rules::AccessMode::ReadWrite;
+use wgsl_rules::AddressSpace::Storage;
+use wgsl_rules::Type;
+use wgsl_scalar::Error;
+use wgsl_store::{References, Show, Store};
+use wgsl_values::{Instance, PtrInstance, RefInstance};
+
+/// The reference to a new cell with the value, where memory is not refused.
+fn cell_with(rt: &impl Abort, alloc: Global, store: &mut Store, value: Instance) -> RefInstance {
+    assert!(rt; value.is_storable());
+    assert!(rt; store.holds_value(&value));
+    made!(rt; RefInstance::new(alloc, store, value, Storage, ReadWrite))
+}
+
+/// The reference to a new cell with Pair(1u, vec3(2u, 3u, 4u)).
+fn pair_in(rt: &impl Abort, alloc: Global, store: &mut Store) -> RefInstance {
+    let pair = Instance::from(pair_with(rt, alloc, 1));
+    cell_with(rt, alloc, store, pair)
+}
+
+fn read(rt: &impl Abort, alloc: Global, store: &Store, reference: &RefInstance) -> Instance {
+    assert!(rt; store.holds(reference));
+    answer_of!(rt; reference.read(alloc, store))
+}
+
+fn read_write(
+    rt: &impl Abort,
+    alloc: Global,
+    store: &mut Store,
+    reference: &RefInstance,
+    value: Instance,
+) -> Result<Instance, Error> {
+    assert!(rt; store.holds(reference));
+    assert!(rt; value.is_storable());
+    assert!(rt; store.holds_value(&value));
+    reference.read_write(alloc, store, value)
+}
+
+/// Exchanges what the reference names for the value, which is given twice: a call that wants memory takes it, and
+/// changes nothing.
+fn assert_exchanged(
+    rt: &impl Abort,
+    alloc: Global,
+    store: &mut Store,
+    reference: &RefInstance,
+    values: (Instance, Instance),
+    old: Instance,
+) {
+    let cells = store.len();
+    match read_write(rt, alloc, store, reference, values.0) {
+        Ok(answer) => {
+            assert_same(rt, answer, old);
+            drop(values.1);
+        }
+        Err(error) => {
+            assert_memory(rt, error);
+            assert_same(rt, read(rt, alloc, store, reference), old);
+            let answer = read_write(rt, alloc, store, reference, values.1);
+            drop(answer.expect(rt, "memory"));
+        }
+    }
+    assert_eq!(rt; store.len(), cells);
+}
+
+#[test]
+fn an_accepted_exchange_wants_memory_or_answers_the_old_value(rt: HostRuntime) {
+    let alloc = rt.alloc();
+    let mut store = Store::new(alloc);
+    let whole = pair_in(&rt, alloc, &mut store);
+    let next = Instance::from(pair_with(&rt, alloc, 9));
+    let again = Instance::from(pair_with(&rt, alloc, 9));
+    let old = Instance::from(pair_with(&rt, alloc, 1));
+    assert_exchanged(&rt, alloc, &mut store, &whole, (next, again), old);
+    let wanted = Instance::from(pair_with(&rt, alloc, 9));
+    assert_same(&rt, read(&rt, alloc, &store, &whole), wanted);
+    drop((store, whole));
+}
+
+#[test]
+fn an_accepted_exchange_of_what_has_no_bytes(rt: HostRuntime) {
+    let alloc = rt.alloc();
+    let mut store = Store::new(alloc);
+    let inner = pair_in(&rt, alloc, &mut store);
+    let held = Instance::from(made!(&rt; inner.clone(alloc)));
+    let outer = cell_with(&rt, alloc, &mut store, held);
+    let next = Instance::from(made!(&rt; inner.clone(alloc)));
+    let again = Instance::from(made!(&rt; inner.clone(alloc)));
+    let old = Instance::from(inner);
+    assert_exchanged(&rt, alloc, &mut store, &outer, (next, again), old);
+    drop((store, outer));
+}
+
+#[test]
+fn the_text_of_a_pointer_wants_memory_or_is_whole(rt: HostRuntime) {
+    let alloc = rt.alloc();
+    let mut store = Store::new(alloc);
+    let whole = pair_in(&rt, alloc, &mut store);
+    let pointer = PtrInstance::from(whole);
+    assert!(rt; store.holds(pointer.ptr()));
+    let text = answer_of!(&rt; pointer.show(alloc, &store));
+    let wanted = "ptr<storage, Pair, read_write>(Pair(1u, vec3(2u, 3u, 4u)))";
+    assert_eq!(rt; text.as_str(), wanted);
+    drop((store, pointer));
+}
+
+fn view_member(
+    rt: &impl Abort,
+    alloc: Global,
+    store: &Store,
+    reference: &RefInstance,
+    name: String,
+) -> Result<RefInstance, Error> {
+    assert!(rt; store.holds(reference));
+    reference.view_member(alloc, store, name)
+}
+
+fn view_index(
+    rt: &impl Abort,
+    alloc: Global,
+    store: &Store,
+    reference: &RefInstance,
+    i: usize,
+) -> Result<RefInstance, Error> {
+    assert!(rt; store.holds(reference));
+    reference.view_index(alloc, store, i)
+}
+
+/// Asserts that there is no part of the index.
+fn assert_no_part(
+    rt: &impl Abort,
+    alloc: Global,
+    store: &Store,
+    reference: &RefInstance,
+    i: usize,
+    error: Error,
+) {
+    let refusal = match view_index(rt, alloc, store, reference, i).err() {
+        Some(Error::Memory) => view_index(rt, alloc, store, reference, i).err(),
+        refusal => refusal,
+    };
+    assert_same(rt, refusal, Some(error));
+}
+
+#[test]
+fn a_step_that_leads_nowhere_wants_memory_or_is_told_with_its_type(rt: HostRuntime) {
+    let alloc = rt.alloc();
+    let mut store = Store::new(alloc);
+    let whole = pair_in(&rt, alloc, &mut store);
+    let (name, again) = (text(&rt, alloc, "c"), text(&rt, alloc, "c"));
+    let component = Error::Component(pair(&rt, alloc), text(&rt, alloc, "c"));
+    let refusal = match view_member(&rt, alloc, &store, &whole, name).err() {
+        Some(Error::Memory) => view_member(&rt, alloc, &store, &whole, again).err(),
+        refusal => {
+            drop(again);
+            refusal
+        }
+    };
+    assert_same(&rt, refusal, Some(component));
+    let error = Error::NotIndexable(pair(&rt, alloc));
+    assert_no_part(&rt, alloc, &store, &whole, 0, error);
+    drop((store, whole));
+}
+
+#[test]
+fn an_index_past_the_end_wants_memory_or_is_told_with_its_type(rt: HostRuntime) {
+    let alloc = rt.alloc();
+    let mut store = Store::new(alloc);
+    let vector_of_three = Instance::from(vector_of(&rt, alloc, &[1, 2, 3]));
+    let whole = cell_with(&rt, alloc, &mut store, vector_of_three);
+    let error = Error::OutOfBounds(3, vector(&rt, alloc, 3, Type::U32), 3);
+    assert_no_part(&rt, alloc, &store, &whole, 3, error);
+    drop((store, whole));
+}

@@ -1,0 +1,8 @@
+//! Calls that take no memory: they give what they give where each growth behind the making of their arguments is
+//! refused. What is compared is made first too.
+
+mod cells;
+mod literals;
+mod parts;
+mod types;
+mod values;

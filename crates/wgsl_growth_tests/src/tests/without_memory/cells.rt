@@ -1,0 +1,158 @@
+//! What a store and a session answer without memory: tests, and writes that are accepted.
+
+ghost use Rattle.wgsl_session.specs.Calls.{IsSoundCall};
+ghost use Rattle.wgsl_session.specs.View.{call_of};
+
+use crate::tests::asserts::{assert_memory, assert_same};
+use crate::tests::samples::{array_of, atomic_of, pair_with, reference_of, text, vector_of};
+use std::alloc::Global;
+use std::process::Abort;
+use wgsl_rules::AccessMode::ReadWrite;
+use wgsl_rules::AddressSpace::Storage;
+use wgsl_scalar::{Error, LiteralInstance};
+use wgsl_session::{Call, Fault, Reply, Session};
+use wgsl_store::{References, Store};
+use wgsl_values::{Instance, RefInstance};
+
+/// The reference to a new cell with the value.
+fn cell_with(rt: &impl Abort, alloc: Global, store: &mut Store, value: Instance) -> RefInstance {
+    assert!(rt; value.is_storable());
+    assert!(rt; store.holds_value(&value));
+    made!(rt; RefInstance::new(alloc, store, value, Storage, ReadWrite))
+}
+
+fn view_index(
+    rt: &impl Abort,
+    alloc: Global,
+    store: &Store,
+    whole: &RefInstance,
+    i: usize,
+) -> RefInstance {
+    assert!(rt; store.holds(whole));
+    made!(rt; whole.view_index(alloc, store, i))
+}
+
+/// Asserts that the reference is written.
+fn assert_written(
+    rt: &impl Abort,
+    alloc: Global,
+    store: &mut Store,
+    reference: &RefInstance,
+    value: Instance,
+) {
+    assert!(rt; store.holds(reference));
+    assert!(rt; value.is_storable());
+    assert!(rt; store.holds_value(&value));
+    assert_same(rt, reference.write(alloc, store, value), Ok(()));
+}
+
+/// Asserts what the reference is read as, where there is memory for that.
+fn assert_reads(
+    rt: &impl Abort,
+    alloc: Global,
+    store: &Store,
+    reference: &RefInstance,
+    wanted: Instance,
+) {
+    assert!(rt; store.holds(reference));
+    match reference.read(alloc, store) {
+        Ok(value) => assert_same(rt, value, wanted),
+        Err(error) => {
+            assert_memory(rt, error);
+            drop(wanted);
+        }
+    }
+}
+
+#[test]
+fn accepted_writes_and_tests_of_references(rt: HostRuntime) {
+    let alloc = rt.alloc();
+    let mut store = Store::new(alloc);
+    let vector = Instance::from(vector_of(&rt, alloc, &[1, 2, 3]));
+    let whole = cell_with(&rt, alloc, &mut store, vector);
+    let component = view_index(&rt, alloc, &store, &whole, 2);
+    let array = Instance::from(array_of(&rt, alloc, &[10, 11], true));
+    let array = cell_with(&rt, alloc, &mut store, array);
+    let element = view_index(&rt, alloc, &store, &array, 1);
+    let next = Instance::from(vector_of(&rt, alloc, &[7, 8, 9]));
+    let held = Instance::from(reference_of(&rt, alloc));
+    let wanted = Instance::from(vector_of(&rt, alloc, &[7, 8, 5]));
+    assert_eq!(rt; store.len(), 2);
+    assert!(rt; !store.holds_value(&held));
+    assert_written(&rt, alloc, &mut store, &whole, next);
+    assert_written(&rt, alloc, &mut store, &component, Instance::from(5u32));
+    assert_written(&rt, alloc, &mut store, &element, Instance::from(6u32));
+    assert!(rt; store.holds(&component));
+    assert!(rt; component.names_component(&store));
+    assert!(rt; store.holds(&element));
+    assert!(rt; !element.names_component(&store));
+    assert_reads(&rt, alloc, &store, &whole, wanted);
+    assert_reads(&rt, alloc, &store, &element, Instance::from(6u32));
+    drop((store, whole, component));
+    drop((array, element, held));
+}
+
+#[test]
+fn writes_to_a_cell_that_is_no_bytes(rt: HostRuntime) {
+    let alloc = rt.alloc();
+    let mut store = Store::new(alloc);
+    let five = cell_with(&rt, alloc, &mut store, Instance::from(true));
+    let outer = Instance::from(made!(&rt; five.clone(alloc)));
+    let next = Instance::from(made!(&rt; five.clone(alloc)));
+    let wanted = Instance::from(made!(&rt; five.clone(alloc)));
+    let outer = cell_with(&rt, alloc, &mut store, outer);
+    assert_written(&rt, alloc, &mut store, &five, Instance::from(false));
+    assert_written(&rt, alloc, &mut store, &outer, next);
+    assert_reads(&rt, alloc, &store, &five, Instance::from(false));
+    assert_reads(&rt, alloc, &store, &outer, wanted);
+    drop((store, five, outer));
+}
+
+#[test]
+fn numbers_of_atomics(rt: HostRuntime) {
+    let alloc = rt.alloc();
+    let mut store = Store::new(alloc);
+    let five = Instance::from(atomic_of(&rt, alloc, 5));
+    let five = cell_with(&rt, alloc, &mut store, five);
+    assert!(rt; store.holds(&five));
+    assert_eq!(rt; five.atomic_number(&store), Some(LiteralInstance::U32(5)));
+    drop((store, five));
+}
+
+/// The call, which a session takes.
+fn sound(rt: &impl Abort, call: Call) -> Call
+    ensures { IsSoundCall (call_of result) }
+{
+    assert!(rt; call.is_sound());
+    call
+}
+
+#[test]
+fn an_accepted_write_of_a_session(rt: HostRuntime) {
+    let alloc = rt.alloc();
+    let mut session = Session::new(alloc);
+    let pair = Instance::from(pair_with(&rt, alloc, 1));
+    let made = sound(&rt, Call::New(pair, Storage, ReadWrite));
+    drop(made!(&rt; session.call(made)));
+    let member = sound(&rt, Call::Member(0, text(&rt, alloc, "a")));
+    drop(made!(&rt; session.call(member)));
+    let next = Instance::from(pair_with(&rt, alloc, 9));
+    let held = Call::Write(0, Instance::from(reference_of(&rt, alloc)));
+    let wanted = Instance::from(pair_with(&rt, alloc, 8));
+    let written = session.call(sound(&rt, Call::Write(0, next)));
+    assert_same(&rt, written, Ok(Reply::Done));
+    let eight = Call::Write(1, Instance::from(8u32));
+    let written = session.call(sound(&rt, eight));
+    assert_same(&rt, written, Ok(Reply::Done));
+    let missing = session.call(sound(&rt, Call::Read(2)));
+    assert_same(&rt, missing, Err(Fault::NoHandle));
+    assert!(rt; !held.is_sound());
+    assert_eq!(rt; session.store().len(), 1);
+    assert!(rt; session.reference(1).is_some());
+    assert!(rt; session.reference(2).is_none());
+    match session.call(sound(&rt, Call::Read(0))) {
+        Err(Fault::Of(Error::Memory)) => drop(wanted),
+        answer => assert_same(&rt, answer, Ok(Reply::Value(wanted))),
+    }
+    drop((session, held));
+}
