@@ -130,6 +130,10 @@ abbrev pub IsAcceptedWrite : State Val → Call → Type 0
 IsAcceptedWrite s (write h w) = (step (of_values s.cells) s (write h w)).answer ≡ done
 IsAcceptedWrite s call = ⊥
 
+-- a call does its step, and memory is never wanting where that is an accepted write
+abbrev pub IsStepTaken : State Val → Call → State Val → Option Answer → Type 0
+IsStepTaken before call after answer = IsStep before call after answer × (IsAcceptedWrite before call → answer ≡ Some done)
+
 -- one step for each call, in order, with one answer each
 abbrev pub IsRunOf : {S : Type 0} → (S → Call → S → Option Answer → Type 0) → S → List Call → S → List (Option Answer) → Type 0
 IsRunOf IsOne before [] after answers = (answers ≡ []) × (after ≡ before)
@@ -139,6 +143,10 @@ IsRunOf {S = S} IsOne before (call ∷ calls) after (answer ∷ answers) =
 
 abbrev pub IsRun : State Val → List Call → State Val → List (Option Answer) → Type 0
 IsRun = IsRunOf IsStep
+
+-- a run in which each accepted write is made
+abbrev pub IsRunTaken : State Val → List Call → State Val → List (Option Answer) → Type 0
+IsRunTaken = IsRunOf IsStepTaken
 
 -- each cell holds a value that may be stored, and each reference, in a cell or of a handle, is kept
 pub record IsGood (s : State Val) : Type 0 where

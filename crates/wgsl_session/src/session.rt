@@ -45,6 +45,7 @@ impl Session {
       IsGood,
       IsReached,
       IsRun,
+      IsRunTaken,
       IsSoundCall,
       IsStep,
       of_values,
@@ -103,7 +104,8 @@ impl Session {
     }
 
     /// Makes the calls, in order, and answers one reply for each, as [`Session::call`] does: a call that
-    /// is refused changes nothing, and those after it are made. The condition: each call is sound, as
+    /// is refused changes nothing, and those after it are made. A [`Call::Write`] that is accepted where
+    /// its turn comes is never answered with `Memory`. The condition: each call is sound, as
     /// [`Call::is_sound`] tests. Room for the replies is asked for first; the only error is that it is
     /// refused, and then no call is made.
     pub fn run(&mut self, calls: Vec<Call>) -> Result<Vec<Result<Reply, Fault>>, AllocError>
@@ -112,6 +114,8 @@ impl Session {
         // The same in the memory of bytes that the cells stand for.
         ensures bytes { IfOk result (λ replies. IsFlatRun (flat_of self.old) (map call_of calls.items) (flat_of self.new) (map answer_of replies.items)) }
         ensures good { IsGood self.new }
+        // A write that is accepted is made, whatever memory there is.
+        ensures accepted { IfOk result (λ replies. IsRunTaken self.old (map call_of calls.items) self.new (map answer_of replies.items)) }
         ensures err { OnErr result (self.new ≡ self.old) }
     {
         self.attest();
