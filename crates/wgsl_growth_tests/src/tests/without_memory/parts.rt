@@ -139,6 +139,7 @@ fn views_that_lead_to_a_part(rt: HostRuntime) {
     assert_same(&rt, value.put(&nowhere, Instance::from(7u32)), None);
     let old = value.put(&view, Instance::from(7u32));
     assert_same(&rt, old, Some(Instance::from(9u32)));
+    let value = storable(&rt, value);
     assert!(rt; value.view(alloc, &MemView::Whole).ok() == Some(&wanted));
     drop((value, wanted, view));
     drop(nowhere);
