@@ -217,7 +217,7 @@ fn parts_are_read_whatever_the_padding(rt: HostRuntime) {
     assert_reads(&rt, alloc, &layout, &bytes, MemView::Whole, wanted);
     let past = index(&rt, alloc, 2);
     assert_none(&rt, layout.read(alloc, &bytes, &past));
-    assert_none(&rt, layout.read(alloc, &bytes[..15], &MemView::Whole));
+    assert_none(&rt, layout.read(alloc, &[0; 15], &MemView::Whole));
     assert_none(&rt, Layout::of(alloc, &Type::Bool));
     drop((ty, layout, past));
 }
