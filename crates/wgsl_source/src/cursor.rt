@@ -1,0 +1,214 @@
+//! A place among the tokens of a source, from which on it is read.
+
+use crate::fault::{Expected, Fault, Reason};
+use crate::token::{Token, TokenKind};
+use std::alloc::AllocError;
+
+/// Why reading stops.
+#[derive(Clone, Copy)]
+pub(crate) enum Stop {
+    Memory,
+    At(Fault),
+}
+
+impl From<AllocError> for Stop {
+    fn from(_: AllocError) -> Self {
+        Stop::Memory
+    }
+}
+
+impl From<Fault> for Stop {
+    fn from(fault: Fault) -> Self {
+        Stop::At(fault)
+    }
+}
+
+/// The tokens of a text from one on.
+#[derive(Clone, Copy)]
+pub(crate) struct Cursor<'a> {
+    text: &'a str,
+    tokens: &'a [Token],
+    at: usize,
+}
+
+impl<'a> Cursor<'a> {
+    pub(crate) fn new(text: &'a str, tokens: &'a [Token]) -> Self {
+        Cursor {
+            text,
+            tokens,
+            at: 0,
+        }
+    }
+
+    /// How many tokens are read.
+    pub(crate) fn position(&self) -> usize {
+        self.at
+    }
+
+    /// How many tokens there are.
+    pub(crate) fn len(&self) -> usize {
+        self.tokens.len()
+    }
+
+    /// The token of this number; behind the last one there is none but the end of the text.
+    pub(crate) fn token_at(&self, at: usize) -> Token {
+        match self.tokens.get(at) {
+            Some(token) => *token,
+            None => Token {
+                kind: TokenKind::End,
+                start: self.text.len(),
+                end: self.text.len(),
+            },
+        }
+    }
+
+    pub(crate) fn text_at(&self, at: usize) -> &'a str {
+        let token = self.token_at(at);
+        self.text.get(token.start..token.end).unwrap_or("")
+    }
+
+    /// The token that is read next.
+    pub(crate) fn token(&self) -> Token {
+        self.token_at(self.at)
+    }
+
+    /// The one behind it.
+    pub(crate) fn second(&self) -> Token {
+        self.token_at(self.at.saturating_add(1))
+    }
+
+    /// The text of the token that is read next.
+    pub(crate) fn word(&self) -> &'a str {
+        self.text_at(self.at)
+    }
+
+    pub(crate) fn is_at_end(&self) -> bool {
+        self.token().kind == TokenKind::End
+    }
+
+    /// Goes on by a token, and answers its number.
+    pub(crate) fn advance(&mut self) -> usize {
+        let at = self.at;
+        self.at = at.saturating_add(1);
+        at
+    }
+
+    /// Goes on if this character is next, and says whether it was.
+    pub(crate) fn take_symbol(&mut self, symbol: u8) -> bool {
+        let is_next = self.token().is_symbol(symbol);
+        if is_next {
+            self.advance();
+        }
+        is_next
+    }
+
+    /// Goes on if this word is next, and says whether it was.
+    pub(crate) fn take_word(&mut self, word: &str) -> bool {
+        let is_next = self.word() == word;
+        if is_next {
+            self.advance();
+        }
+        is_next
+    }
+
+    /// Goes on by this character, or stops where another stands.
+    pub(crate) fn expect_symbol(&mut self, symbol: u8) -> Result<(), Stop> {
+        if self.take_symbol(symbol) {
+            Ok(())
+        } else {
+            Err(self.expected(Expected::Symbol(char::from(symbol))))
+        }
+    }
+
+    /// Goes on by a name, and answers its number.
+    pub(crate) fn expect_name(&mut self) -> Result<usize, Stop> {
+        if self.token().kind == TokenKind::Name {
+            Ok(self.advance())
+        } else {
+            Err(self.expected(Expected::Name))
+        }
+    }
+
+    /// Something else is expected where the next token stands.
+    pub(crate) fn expected(&self, expected: Expected) -> Stop {
+        Stop::At(self.fault_at(self.at, Reason::Expected(expected)))
+    }
+
+    /// A fault at the token of this number.
+    pub(crate) fn fault_at(&self, at: usize, reason: Reason) -> Fault {
+        let token = self.token_at(at);
+        Fault {
+            start: token.start,
+            end: token.end,
+            reason,
+        }
+    }
+
+    /// Goes on behind the bracket that closes the one that is next; by one token where none is.
+    pub(crate) fn skip_group(&mut self) {
+        let mut depth = 0usize;
+        for _ in self.at..self.tokens.len() {
+            match self.token().kind {
+                TokenKind::Symbol(b'(' | b'[' | b'{') => depth = depth.saturating_add(1),
+                TokenKind::Symbol(b')' | b']' | b'}') => depth = depth.saturating_sub(1),
+                _ => {}
+            }
+            self.advance();
+            if depth == 0 {
+                return;
+            }
+        }
+    }
+
+    /// Goes on behind the next `;` outside of brackets, or behind the braces that come before it.
+    pub(crate) fn skip_declaration(&mut self) {
+        for _ in self.at..self.tokens.len() {
+            match self.token().kind {
+                TokenKind::Symbol(b'{') => {
+                    self.skip_group();
+                    return;
+                }
+                TokenKind::Symbol(b'(' | b'[') => self.skip_group(),
+                TokenKind::Symbol(b';') => {
+                    self.advance();
+                    return;
+                }
+                _ => {
+                    self.advance();
+                }
+            }
+        }
+    }
+
+    /// Goes on from a fault in a declaration that began at the token of this number: to the next
+    /// declaration, behind a `;` or behind braces.
+    pub(crate) fn recover(&mut self, start: usize) {
+        if self.at == start {
+            self.advance();
+        }
+        for _ in self.at..self.tokens.len() {
+            match self.token().kind {
+                TokenKind::Symbol(b'{') => {
+                    self.skip_group();
+                    return;
+                }
+                TokenKind::Symbol(b'(' | b'[') => self.skip_group(),
+                TokenKind::Symbol(b';') => {
+                    self.advance();
+                    return;
+                }
+                TokenKind::Name if begins_declaration(self.word()) => return,
+                _ => {
+                    self.advance();
+                }
+            }
+        }
+    }
+}
+
+fn begins_declaration(word: &str) -> bool {
+    matches!(
+        word,
+        "struct" | "alias" | "const" | "override" | "var" | "fn" | "const_assert"
+    )
+}

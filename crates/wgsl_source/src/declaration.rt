@@ -1,0 +1,342 @@
+//! Reads the declarations of a module (WGSL: declaration and scope; struct types; variable and value
+//! declarations; attributes).
+
+use crate::cursor::{Cursor, Stop};
+use crate::expression::{Expressions, Span, Step};
+use crate::fault::{Expected, Faults};
+use crate::token::TokenKind;
+use std::alloc::{AllocError, Global};
+use wgsl_rules::{AccessMode, AddressSpace};
+
+/// What stands before a declaration or a member, in `@`.
+#[derive(Clone, Copy)]
+pub(crate) struct Attributes {
+    pub(crate) align: Option<Span>,
+    pub(crate) size: Option<Span>,
+    pub(crate) group: Option<Span>,
+    pub(crate) binding: Option<Span>,
+}
+
+/// A member of a structure: its token, and its type.
+#[derive(Clone, Copy)]
+pub(crate) struct Member {
+    pub(crate) name: usize,
+    pub(crate) ty: Span,
+    pub(crate) attributes: Attributes,
+}
+
+/// A variable of a module.
+#[derive(Clone, Copy)]
+pub(crate) struct Variable {
+    pub(crate) space: Option<AddressSpace>,
+    pub(crate) access: Option<AccessMode>,
+    pub(crate) ty: Option<Span>,
+    pub(crate) attributes: Attributes,
+}
+
+/// What is declared.
+#[derive(Clone, Copy)]
+pub(crate) enum Kind {
+    /// A structure of these members, among those of the source.
+    Struct { first: usize, end: usize },
+    /// Another name for a type.
+    Alias(Span),
+    /// A `const` or an `override`: the type that is given, and the value.
+    Value(Option<Span>, Option<Span>),
+    Variable(Variable),
+    Function,
+}
+
+/// A declaration: the token that names it, and all its steps.
+#[derive(Clone, Copy)]
+pub(crate) struct Declaration {
+    pub(crate) name: usize,
+    pub(crate) kind: Kind,
+    pub(crate) steps: Span,
+}
+
+/// The declarations of a source, in order.
+#[derive(Drop)]
+pub(crate) struct Module {
+    pub(crate) declarations: Vec<Declaration>,
+    pub(crate) members: Vec<Member>,
+    pub(crate) steps: Vec<Step>,
+}
+
+/// Reads declarations.
+#[derive(Drop)]
+struct Reader<'a> {
+    expressions: Expressions<'a>,
+    declarations: Vec<Declaration>,
+    members: Vec<Member>,
+}
+
+impl Attributes {
+    const NONE: Attributes = Attributes {
+        align: None,
+        size: None,
+        group: None,
+        binding: None,
+    };
+}
+
+/// Reads all declarations of a text. Where one has a fault, reading goes on behind it.
+pub(crate) fn read_module(
+    alloc: Global,
+    cursor: Cursor<'_>,
+    faults: &mut Faults,
+) -> Result<Module, AllocError> {
+    let mut reader = Reader {
+        expressions: Expressions::new(alloc, cursor),
+        declarations: Vec::new(alloc),
+        members: Vec::new(alloc),
+    };
+    for _ in 0..cursor.len() {
+        if reader.cursor().is_at_end() {
+            break;
+        }
+        reader.read_declaration(faults)?;
+    }
+    Ok(reader.into_module())
+}
+
+impl<'a> Reader<'a> {
+    fn cursor(&mut self) -> &mut Cursor<'a> {
+        &mut self.expressions.cursor
+    }
+
+    fn into_module(self) -> Module {
+        let Reader {
+            expressions,
+            declarations,
+            members,
+        } = self;
+        Module {
+            declarations,
+            members,
+            steps: expressions.into_steps(),
+        }
+    }
+
+    // Reads one declaration, or goes on behind it.
+    fn read_declaration(&mut self, faults: &mut Faults) -> Result<(), AllocError> {
+        let start = self.cursor().position();
+        match self.declaration() {
+            Ok(()) => Ok(()),
+            Err(Stop::Memory) => Err(AllocError),
+            Err(Stop::At(fault)) => {
+                faults.add(fault)?;
+                self.cursor().recover(start);
+                Ok(())
+            }
+        }
+    }
+
+    fn declaration(&mut self) -> Result<(), Stop> {
+        let first_step = self.expressions.steps.len();
+        let attributes = self.attributes()?;
+        match self.cursor().word() {
+            "struct" => self.structure(first_step),
+            "alias" => self.alias(first_step),
+            "const" | "override" => self.value(first_step),
+            "var" => self.variable(first_step, attributes),
+            "fn" => self.function(first_step),
+            "const_assert" | "enable" | "requires" | "diagnostic" => {
+                self.cursor().skip_declaration();
+                Ok(())
+            }
+            ";" => {
+                self.cursor().advance();
+                Ok(())
+            }
+            _ => Err(self.cursor().expected(Expected::Declaration)),
+        }
+    }
+}
+
+impl<'a> Reader<'a> {
+    fn add(&mut self, name: usize, kind: Kind, first_step: usize) -> Result<(), Stop> {
+        let steps = Span {
+            token: name,
+            start: first_step,
+            end: self.expressions.steps.len(),
+        };
+        self.declarations
+            .push(Declaration { name, kind, steps })
+            .map_err(AllocError::from)?;
+        Ok(())
+    }
+
+    fn attributes(&mut self) -> Result<Attributes, Stop> {
+        let mut attributes = Attributes::NONE;
+        for _ in self.cursor().position()..self.cursor().len() {
+            if !self.cursor().take_symbol(b'@') {
+                break;
+            }
+            self.attribute(&mut attributes)?;
+        }
+        Ok(attributes)
+    }
+
+    // One that says nothing of layouts and bindings is passed over.
+    fn attribute(&mut self, attributes: &mut Attributes) -> Result<(), Stop> {
+        let name = self.cursor().expect_name()?;
+        match self.cursor().text_at(name) {
+            "align" => attributes.align = Some(self.argument()?),
+            "size" => attributes.size = Some(self.argument()?),
+            "group" => attributes.group = Some(self.argument()?),
+            "binding" => attributes.binding = Some(self.argument()?),
+            _ => {
+                if self.cursor().token().is_symbol(b'(') {
+                    self.cursor().skip_group();
+                }
+            }
+        }
+        Ok(())
+    }
+
+    // An expression in brackets.
+    fn argument(&mut self) -> Result<Span, Stop> {
+        self.cursor().expect_symbol(b'(')?;
+        let argument = self.expressions.expression()?;
+        let _ = self.cursor().take_symbol(b',');
+        self.cursor().expect_symbol(b')')?;
+        Ok(argument)
+    }
+
+    fn structure(&mut self, first_step: usize) -> Result<(), Stop> {
+        self.cursor().advance();
+        let name = self.cursor().expect_name()?;
+        self.cursor().expect_symbol(b'{')?;
+        let first = self.members.len();
+        for _ in self.cursor().position()..self.cursor().len() {
+            if self.cursor().token().is_symbol(b'}') {
+                break;
+            }
+            self.member()?;
+            if !self.cursor().take_symbol(b',') {
+                break;
+            }
+        }
+        self.cursor().expect_symbol(b'}')?;
+        let end = self.members.len();
+        self.add(name, Kind::Struct { first, end }, first_step)
+    }
+
+    fn member(&mut self) -> Result<(), Stop> {
+        let attributes = self.attributes()?;
+        let name = self.cursor().expect_name()?;
+        self.cursor().expect_symbol(b':')?;
+        let ty = self.expressions.expression()?;
+        self.members
+            .push(Member {
+                name,
+                ty,
+                attributes,
+            })
+            .map_err(AllocError::from)?;
+        Ok(())
+    }
+
+    fn alias(&mut self, first_step: usize) -> Result<(), Stop> {
+        self.cursor().advance();
+        let name = self.cursor().expect_name()?;
+        self.cursor().expect_symbol(b'=')?;
+        let ty = self.expressions.expression()?;
+        self.cursor().expect_symbol(b';')?;
+        self.add(name, Kind::Alias(ty), first_step)
+    }
+
+    fn value(&mut self, first_step: usize) -> Result<(), Stop> {
+        self.cursor().advance();
+        let name = self.cursor().expect_name()?;
+        let ty = self.given_type()?;
+        let value = self.given_value()?;
+        self.cursor().expect_symbol(b';')?;
+        self.add(name, Kind::Value(ty, value), first_step)
+    }
+
+    fn variable(&mut self, first_step: usize, attributes: Attributes) -> Result<(), Stop> {
+        self.cursor().advance();
+        let (space, access) = self.memory()?;
+        let name = self.cursor().expect_name()?;
+        let ty = self.given_type()?;
+        self.given_value()?;
+        self.cursor().expect_symbol(b';')?;
+        let variable = Variable {
+            space,
+            access,
+            ty,
+            attributes,
+        };
+        self.add(name, Kind::Variable(variable), first_step)
+    }
+
+    fn given_type(&mut self) -> Result<Option<Span>, Stop> {
+        if !self.cursor().take_symbol(b':') {
+            return Ok(None);
+        }
+        Ok(Some(self.expressions.expression()?))
+    }
+
+    fn given_value(&mut self) -> Result<Option<Span>, Stop> {
+        if !self.cursor().take_symbol(b'=') {
+            return Ok(None);
+        }
+        Ok(Some(self.expressions.expression()?))
+    }
+
+    // The address space and the access mode in the template list of a `var`.
+    fn memory(&mut self) -> Result<(Option<AddressSpace>, Option<AccessMode>), Stop> {
+        if self.cursor().token().kind != TokenKind::TemplateStart {
+            return Ok((None, None));
+        }
+        self.cursor().advance();
+        let space = self.space()?;
+        let access = if self.cursor().take_symbol(b',') {
+            self.access()?
+        } else {
+            None
+        };
+        if self.cursor().token().kind != TokenKind::TemplateEnd {
+            return Err(self.cursor().expected(Expected::TemplateEnd));
+        }
+        self.cursor().advance();
+        Ok((Some(space), access))
+    }
+
+    fn space(&mut self) -> Result<AddressSpace, Stop> {
+        let space = match self.cursor().word() {
+            "function" => AddressSpace::Function,
+            "private" => AddressSpace::Private,
+            "workgroup" => AddressSpace::Workgroup,
+            "uniform" => AddressSpace::Uniform,
+            "storage" => AddressSpace::Storage,
+            _ => return Err(self.cursor().expected(Expected::AddressSpace)),
+        };
+        self.cursor().advance();
+        Ok(space)
+    }
+
+    // None where the list ends behind a comma.
+    fn access(&mut self) -> Result<Option<AccessMode>, Stop> {
+        let access = match self.cursor().word() {
+            "read" => AccessMode::Read,
+            "write" => AccessMode::Write,
+            "read_write" => AccessMode::ReadWrite,
+            _ if self.cursor().token().kind == TokenKind::TemplateEnd => return Ok(None),
+            _ => return Err(self.cursor().expected(Expected::AccessMode)),
+        };
+        self.cursor().advance();
+        let _ = self.cursor().take_symbol(b',');
+        Ok(Some(access))
+    }
+
+    // A function, whose parameters and body are passed over.
+    fn function(&mut self, first_step: usize) -> Result<(), Stop> {
+        self.cursor().advance();
+        let name = self.cursor().expect_name()?;
+        self.cursor().skip_declaration();
+        self.add(name, Kind::Function, first_step)
+    }
+}

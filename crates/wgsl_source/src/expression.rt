@@ -1,0 +1,378 @@
+//! Reads types and values into steps that are done one after the other (WGSL: expression grammar;
+//! operator precedence and associativity).
+
+use crate::cursor::{Cursor, Stop};
+use crate::fault::{Expected, Reason};
+use crate::token::TokenKind;
+use std::alloc::Global;
+use wgsl_rules::{BinaryOperator, UnaryOperator};
+
+/// The most brackets that stand inside each other, operators before an operand included.
+const DEPTH: usize = 4096;
+
+/// A step: what it leaves takes the place of what it needs, which are the last answers before it.
+/// Each names its token.
+#[derive(Clone, Copy)]
+pub(crate) enum Step {
+    Name(usize),
+    Number(usize),
+    /// Of one answer.
+    Unary(UnaryOperator, usize),
+    /// Of two answers.
+    Binary(BinaryOperator, usize),
+    /// A name with a template list of so many answers.
+    Template(usize, usize),
+    /// A call with so many answers; of a name, or of the answer before these.
+    Call(usize, Callee, usize),
+    /// A member of an answer.
+    Member(usize),
+    /// An element of an answer.
+    Index(usize),
+}
+
+/// What is called.
+#[derive(Clone, Copy)]
+pub(crate) enum Callee {
+    Name,
+    Answer,
+}
+
+/// The steps of an expression, among those of the source, and the token that it begins with.
+#[derive(Clone, Copy)]
+pub(crate) struct Span {
+    pub(crate) token: usize,
+    pub(crate) start: usize,
+    pub(crate) end: usize,
+}
+
+/// What waits for an operand or for its closing bracket.
+#[derive(Clone, Copy)]
+enum Open {
+    Group,
+    Index(usize),
+    Template(usize, usize),
+    Call(usize, Callee, usize),
+    Unary(UnaryOperator, usize),
+    Binary(BinaryOperator, usize),
+}
+
+/// What comes next.
+#[derive(Clone, Copy)]
+enum Next {
+    Operand,
+    Operator,
+    Done,
+}
+
+/// Reads expressions.
+#[derive(Drop)]
+pub(crate) struct Expressions<'a> {
+    pub(crate) cursor: Cursor<'a>,
+    pub(crate) steps: Vec<Step>,
+    open: Vec<Open>,
+}
+
+impl<'a> Expressions<'a> {
+    pub(crate) fn new(alloc: Global, cursor: Cursor<'a>) -> Self {
+        Expressions {
+            cursor,
+            steps: Vec::new(alloc),
+            open: Vec::new(alloc),
+        }
+    }
+
+    /// All steps that were read.
+    pub(crate) fn into_steps(self) -> Vec<Step> {
+        self.steps
+    }
+
+    /// Reads the longest expression from here on.
+    pub(crate) fn expression(&mut self) -> Result<Span, Stop> {
+        let token = self.cursor.position();
+        let start = self.steps.len();
+        self.open.clear();
+        let mut next = Next::Operand;
+        for _ in self.cursor.position()..=self.cursor.len() {
+            next = match next {
+                Next::Operand => self.operand()?,
+                Next::Operator => self.operator()?,
+                Next::Done => break,
+            };
+        }
+        self.finish()?;
+        Ok(Span {
+            token,
+            start,
+            end: self.steps.len(),
+        })
+    }
+
+    // Reads what may begin an operand.
+    fn operand(&mut self) -> Result<Next, Stop> {
+        match self.cursor.token().kind {
+            TokenKind::Name => self.name(),
+            TokenKind::Number => {
+                let number = Step::Number(self.cursor.advance());
+                self.leave(number)
+            }
+            TokenKind::Symbol(b'(') => {
+                self.cursor.advance();
+                self.begin(Open::Group)
+            }
+            TokenKind::Symbol(symbol) => match unary_operator(symbol) {
+                Some(operator) => {
+                    let at = self.cursor.advance();
+                    self.begin(Open::Unary(operator, at))
+                }
+                None => self.end_of_list(),
+            },
+            TokenKind::TemplateEnd => self.end_of_list(),
+            TokenKind::TemplateStart | TokenKind::End => Err(self.no_operand()),
+        }
+    }
+
+    fn no_operand(&self) -> Stop {
+        self.cursor.expected(Expected::Expression)
+    }
+
+    // A list may end behind a comma, and that of a call may be empty.
+    fn end_of_list(&mut self) -> Result<Next, Stop> {
+        let kind = self.cursor.token().kind;
+        match (self.open.last().copied(), kind) {
+            (Some(Open::Template(name, count)), TokenKind::TemplateEnd) if count > 0 => {
+                self.close(Step::Template(name, count))
+            }
+            (Some(Open::Call(name, callee, count)), TokenKind::Symbol(b')')) => {
+                self.close(Step::Call(name, callee, count))
+            }
+            _ => Err(self.no_operand()),
+        }
+    }
+
+    fn name(&mut self) -> Result<Next, Stop> {
+        let name = self.cursor.advance();
+        match self.cursor.token().kind {
+            TokenKind::TemplateStart => {
+                self.cursor.advance();
+                self.begin(Open::Template(name, 0))
+            }
+            TokenKind::Symbol(b'(') => {
+                self.cursor.advance();
+                self.begin(Open::Call(name, Callee::Name, 0))
+            }
+            _ => self.leave(Step::Name(name)),
+        }
+    }
+
+    // Reads what may stand behind an operand.
+    fn operator(&mut self) -> Result<Next, Stop> {
+        match self.cursor.token().kind {
+            TokenKind::TemplateEnd => self.end_template(),
+            TokenKind::Symbol(b')') => self.end_group(),
+            TokenKind::Symbol(b']') => self.end_index(),
+            TokenKind::Symbol(b',') => self.comma(),
+            TokenKind::Symbol(b'.') => {
+                self.cursor.advance();
+                let member = Step::Member(self.cursor.expect_name()?);
+                self.leave(member)
+            }
+            TokenKind::Symbol(b'[') => {
+                let at = self.cursor.advance();
+                self.begin(Open::Index(at))
+            }
+            TokenKind::Symbol(symbol) => self.binary(symbol),
+            TokenKind::Name | TokenKind::Number => Ok(Next::Done),
+            TokenKind::TemplateStart | TokenKind::End => Ok(Next::Done),
+        }
+    }
+
+    fn binary(&mut self, symbol: u8) -> Result<Next, Stop> {
+        let second = self.cursor.second();
+        let behind = match second.kind {
+            TokenKind::Symbol(behind) if second.is_joined(self.cursor.token(), behind) => behind,
+            _ => 0,
+        };
+        let Some((operator, tokens)) = binary_operator(symbol, behind) else {
+            return Ok(Next::Done);
+        };
+        self.reduce(precedence(operator))?;
+        let at = self.cursor.advance();
+        if tokens > 1 {
+            self.cursor.advance();
+        }
+        self.begin(Open::Binary(operator, at))
+    }
+
+    fn comma(&mut self) -> Result<Next, Stop> {
+        self.reduce(0)?;
+        let open = match self.open.last().copied() {
+            Some(Open::Template(name, count)) => Open::Template(name, count.saturating_add(1)),
+            Some(Open::Call(name, callee, count)) => {
+                Open::Call(name, callee, count.saturating_add(1))
+            }
+            _ => return Ok(Next::Done),
+        };
+        let _ = self.open.pop();
+        self.cursor.advance();
+        self.begin(open)
+    }
+
+    fn end_template(&mut self) -> Result<Next, Stop> {
+        self.reduce(0)?;
+        match self.open.last().copied() {
+            Some(Open::Template(name, count)) => {
+                self.close(Step::Template(name, count.saturating_add(1)))
+            }
+            _ => Ok(Next::Done),
+        }
+    }
+
+    fn end_group(&mut self) -> Result<Next, Stop> {
+        self.reduce(0)?;
+        match self.open.last().copied() {
+            Some(Open::Group) => {
+                let _ = self.open.pop();
+                self.cursor.advance();
+                Ok(Next::Operator)
+            }
+            Some(Open::Call(name, callee, count)) => {
+                self.close(Step::Call(name, callee, count.saturating_add(1)))
+            }
+            _ => Ok(Next::Done),
+        }
+    }
+
+    fn end_index(&mut self) -> Result<Next, Stop> {
+        self.reduce(0)?;
+        match self.open.last().copied() {
+            Some(Open::Index(at)) => self.close(Step::Index(at)),
+            _ => Ok(Next::Done),
+        }
+    }
+
+    // Closes the innermost bracket. Behind a template list a call of it may begin.
+    fn close(&mut self, step: Step) -> Result<Next, Stop> {
+        let _ = self.open.pop();
+        self.cursor.advance();
+        let next = self.leave(step)?;
+        match step {
+            Step::Template(name, _) if self.cursor.take_symbol(b'(') => {
+                self.begin(Open::Call(name, Callee::Answer, 0))
+            }
+            _ => Ok(next),
+        }
+    }
+
+    fn begin(&mut self, open: Open) -> Result<Next, Stop> {
+        if self.open.len() >= DEPTH {
+            let at = self.cursor.position();
+            return Err(self.cursor.fault_at(at, Reason::TooDeep).into());
+        }
+        push_open(&mut self.open, open)?;
+        Ok(Next::Operand)
+    }
+
+    fn leave(&mut self, step: Step) -> Result<Next, Stop> {
+        push_step(&mut self.steps, step)?;
+        Ok(Next::Operator)
+    }
+
+    // The operators that wait and bind at least so tightly have their operands now.
+    fn reduce(&mut self, level: u8) -> Result<(), Stop> {
+        for _ in 0..self.open.len() {
+            let step = match self.open.last().copied() {
+                Some(Open::Unary(operator, at)) => Step::Unary(operator, at),
+                Some(Open::Binary(operator, at)) if precedence(operator) >= level => {
+                    Step::Binary(operator, at)
+                }
+                _ => return Ok(()),
+            };
+            let _ = self.open.pop();
+            push_step(&mut self.steps, step)?;
+        }
+        Ok(())
+    }
+
+    // At the end no bracket is open.
+    fn finish(&mut self) -> Result<(), Stop> {
+        self.reduce(0)?;
+        match self.open.last().copied() {
+            None => Ok(()),
+            Some(Open::Template(_, _)) => Err(self.cursor.expected(Expected::TemplateEnd)),
+            Some(Open::Index(_)) => Err(self.cursor.expected(Expected::Symbol(']'))),
+            Some(Open::Unary(_, _) | Open::Binary(_, _)) => Err(self.no_operand()),
+            Some(Open::Group | Open::Call(_, _, _)) => {
+                Err(self.cursor.expected(Expected::Symbol(')')))
+            }
+        }
+    }
+}
+
+fn push_open(open: &mut Vec<Open>, item: Open) -> Result<(), Stop> {
+    match open.push(item) {
+        Ok(()) => Ok(()),
+        Err(_) => Err(Stop::Memory),
+    }
+}
+
+fn push_step(steps: &mut Vec<Step>, step: Step) -> Result<(), Stop> {
+    match steps.push(step) {
+        Ok(()) => Ok(()),
+        Err(_) => Err(Stop::Memory),
+    }
+}
+
+fn unary_operator(symbol: u8) -> Option<UnaryOperator> {
+    match symbol {
+        b'!' => Some(UnaryOperator::LogicalNegation),
+        b'-' => Some(UnaryOperator::Negation),
+        b'~' => Some(UnaryOperator::BitwiseComplement),
+        b'&' => Some(UnaryOperator::AddressOf),
+        b'*' => Some(UnaryOperator::Indirection),
+        _ => None,
+    }
+}
+
+/// The operator of a character, and of the one right behind it, and how many of the two it has.
+fn binary_operator(symbol: u8, behind: u8) -> Option<(BinaryOperator, usize)> {
+    match (symbol, behind) {
+        (b'|', b'|') => Some((BinaryOperator::ShortCircuitOr, 2)),
+        (b'&', b'&') => Some((BinaryOperator::ShortCircuitAnd, 2)),
+        (b'=', b'=') => Some((BinaryOperator::Equality, 2)),
+        (b'!', b'=') => Some((BinaryOperator::Inequality, 2)),
+        (b'<', b'=') => Some((BinaryOperator::LessThanEqual, 2)),
+        (b'>', b'=') => Some((BinaryOperator::GreaterThanEqual, 2)),
+        (b'<', b'<') => Some((BinaryOperator::ShiftLeft, 2)),
+        (b'>', b'>') => Some((BinaryOperator::ShiftRight, 2)),
+        _ => match symbol {
+            b'+' => Some((BinaryOperator::Addition, 1)),
+            b'-' => Some((BinaryOperator::Subtraction, 1)),
+            b'*' => Some((BinaryOperator::Multiplication, 1)),
+            b'/' => Some((BinaryOperator::Division, 1)),
+            b'%' => Some((BinaryOperator::Remainder, 1)),
+            b'<' => Some((BinaryOperator::LessThan, 1)),
+            b'>' => Some((BinaryOperator::GreaterThan, 1)),
+            b'|' => Some((BinaryOperator::BitwiseOr, 1)),
+            b'&' => Some((BinaryOperator::BitwiseAnd, 1)),
+            b'^' => Some((BinaryOperator::BitwiseXor, 1)),
+            _ => None,
+        },
+    }
+}
+
+/// How tightly an operator binds; those of one level are taken from the left.
+fn precedence(operator: BinaryOperator) -> u8 {
+    match operator {
+        BinaryOperator::Multiplication | BinaryOperator::Division | BinaryOperator::Remainder => 9,
+        BinaryOperator::Addition | BinaryOperator::Subtraction => 8,
+        BinaryOperator::ShiftLeft | BinaryOperator::ShiftRight => 7,
+        BinaryOperator::LessThan | BinaryOperator::LessThanEqual => 6,
+        BinaryOperator::GreaterThan | BinaryOperator::GreaterThanEqual => 6,
+        BinaryOperator::Equality | BinaryOperator::Inequality => 6,
+        BinaryOperator::BitwiseAnd => 5,
+        BinaryOperator::BitwiseXor => 4,
+        BinaryOperator::BitwiseOr => 3,
+        BinaryOperator::ShortCircuitAnd => 2,
+        BinaryOperator::ShortCircuitOr => 1,
+    }
+}

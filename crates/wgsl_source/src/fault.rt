@@ -1,0 +1,147 @@
+//! What is wrong in a source.
+
+use std::alloc::{AllocError, Global};
+use std::fmt;
+
+/// What a place in a source asks for.
+#[derive(Clone, Copy, Debug, PartialEq, Eq)]
+pub enum Expected {
+    /// A declaration at the level of the module.
+    Declaration,
+    /// An identifier.
+    Name,
+    /// A type or a value.
+    Expression,
+    /// An address space.
+    AddressSpace,
+    /// An access mode.
+    AccessMode,
+    /// This character.
+    Symbol(char),
+    /// The `>` that ends a template list.
+    TemplateEnd,
+}
+
+impl fmt::Display for Expected {
+    fn fmt<W: fmt::Write>(&self, f: &mut fmt::Formatter<W>) -> fmt::Result {
+        match self {
+            Expected::Declaration => f.write_str("a declaration"),
+            Expected::Name => f.write_str("a name"),
+            Expected::Expression => f.write_str("a type or a value"),
+            Expected::AddressSpace => f.write_str("an address space"),
+            Expected::AccessMode => f.write_str("an access mode"),
+            Expected::Symbol(symbol) => write!(f, "`{symbol}`"),
+            Expected::TemplateEnd => f.write_str("`>`"),
+        }
+    }
+}
+
+/// Why a source is not read as it stands.
+#[derive(Clone, Copy, Debug, PartialEq, Eq)]
+pub enum Reason {
+    /// Something else stands there.
+    Expected(Expected),
+    /// A comment has no end.
+    OpenComment,
+    /// More brackets stand inside each other than are followed.
+    TooDeep,
+    /// Nothing has the name.
+    UnknownName,
+    /// Another declaration, or another member, has the name.
+    DuplicateName,
+    /// A declaration needs itself.
+    ContainsItself,
+    /// A value stands where a type belongs.
+    NotType,
+    /// A type, or what has no number here, stands where a number belongs.
+    NotNumber,
+    /// The type takes other arguments.
+    Arguments,
+    /// The type is no component of such a vector, matrix or atomic.
+    Component,
+    /// A count of elements is no number from 1 to 4294967295.
+    Count,
+    /// An attribute is no number from 0 to 4294967295.
+    Attribute,
+    /// The number is none of its kind.
+    Literal,
+    /// The value is none of the type.
+    Conversion,
+    /// The operator does not take these operands.
+    Operands,
+    /// The answer is no number of the kind.
+    Overflow,
+    /// A number is divided by zero.
+    Division,
+    /// More bits are shifted than the number has, or some are lost.
+    Shift,
+    /// The type has more parts than are followed.
+    TooLarge,
+}
+
+impl fmt::Display for Reason {
+    fn fmt<W: fmt::Write>(&self, f: &mut fmt::Formatter<W>) -> fmt::Result {
+        match self {
+            Reason::Expected(expected) => write!(f, "expected {expected}"),
+            Reason::OpenComment => f.write_str("this comment has no end"),
+            Reason::TooDeep => f.write_str("too many brackets inside each other"),
+            Reason::UnknownName => f.write_str("nothing has this name"),
+            Reason::DuplicateName => f.write_str("this name is there already"),
+            Reason::ContainsItself => f.write_str("this needs itself"),
+            Reason::NotType => f.write_str("this is no type"),
+            Reason::NotNumber => f.write_str("this is no integer that is known here"),
+            Reason::Arguments => f.write_str("this type takes other arguments"),
+            Reason::Component => f.write_str("this is no type of a component here"),
+            Reason::Count => f.write_str("a count is from 1 to 4294967295"),
+            Reason::Attribute => f.write_str("an attribute is from 0 to 4294967295"),
+            Reason::Literal => f.write_str("this number is too large for its kind"),
+            Reason::Conversion => f.write_str("this value is none of the type"),
+            Reason::Operands => f.write_str("the operator does not take these operands"),
+            Reason::Overflow => f.write_str("the answer is too large for its kind"),
+            Reason::Division => f.write_str("division by zero"),
+            Reason::Shift => f.write_str("bits are shifted out"),
+            Reason::TooLarge => f.write_str("this type has too many parts"),
+        }
+    }
+}
+
+/// A fault in a source: the bytes that it stands at, and what is wrong there. Where nothing is
+/// left of the source the bytes are none.
+#[derive(Clone, Copy, Debug, PartialEq, Eq)]
+pub struct Fault {
+    pub start: usize,
+    pub end: usize,
+    pub reason: Reason,
+}
+
+/// The most faults that are told of a source.
+const FAULTS: usize = 100;
+
+/// The faults that were found, in the order in which they were.
+#[derive(Drop)]
+pub(crate) struct Faults {
+    faults: Vec<Fault>,
+}
+
+impl Faults {
+    pub(crate) fn new(alloc: Global) -> Self {
+        Faults {
+            faults: Vec::new(alloc),
+        }
+    }
+
+    /// One more, where there are not too many.
+    pub(crate) fn add(&mut self, fault: Fault) -> Result<(), AllocError> {
+        if self.faults.len() < FAULTS {
+            self.faults.push(fault)?;
+        }
+        Ok(())
+    }
+
+    /// All of them, as they stand in the source.
+    pub(crate) fn into_sorted(self) -> Result<Vec<Fault>, AllocError> {
+        let mut faults = self.faults;
+        faults.sort_by_key(|fault| fault.start)?;
+        Ok(faults)
+    }
+}

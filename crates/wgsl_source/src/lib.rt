@@ -1,0 +1,23 @@
+//! Reads the declarations of a WGSL source: its structures, aliases, constants and variables, with
+//! the types that they name.
+#![tactic(auto)]
+
+mod cursor;
+mod declaration;
+mod expression;
+mod fault;
+mod lexer;
+mod literal;
+mod meaning;
+mod names;
+mod operator;
+mod order;
+mod place;
+mod resolve;
+mod source;
+mod templates;
+mod token;
+
+pub use fault::{Expected, Fault, Reason};
+pub use place::{Lines, Place};
+pub use source::{Item, ItemKind, Source, Variable};

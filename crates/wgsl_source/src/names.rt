@@ -1,0 +1,121 @@
+//! The names of types that the language has (WGSL: predeclared types and type-generators).
+
+use wgsl_rules::Type;
+
+/// What a name stands for that no declaration gives a meaning.
+#[derive(Clone, Copy)]
+pub(crate) enum Predeclared {
+    Scalar(Scalar),
+    /// A vector whose short name has its component in it.
+    Vec(u8, Scalar),
+    /// A matrix, columns before rows, whose short name has its component in it.
+    Mat(u8, u8, Scalar),
+    Generator(Generator),
+}
+
+/// A name that takes a template list.
+#[derive(Clone, Copy)]
+pub(crate) enum Generator {
+    Vec(u8),
+    Mat(u8, u8),
+    Array,
+    Atomic,
+}
+
+#[derive(Clone, Copy)]
+pub(crate) enum Scalar {
+    Bool,
+    I32,
+    U32,
+    F32,
+    F16,
+    I64,
+    U64,
+    F64,
+}
+
+impl Scalar {
+    pub(crate) fn ty(self) -> Type {
+        match self {
+            Scalar::Bool => Type::Bool,
+            Scalar::I32 => Type::I32,
+            Scalar::U32 => Type::U32,
+            Scalar::F32 => Type::F32,
+            Scalar::F16 => Type::F16,
+            Scalar::I64 => Type::I64,
+            Scalar::U64 => Type::U64,
+            Scalar::F64 => Type::F64,
+        }
+    }
+
+    // The last character of a short name.
+    fn of_letter(letter: &str) -> Option<Scalar> {
+        match letter {
+            "i" => Some(Scalar::I32),
+            "u" => Some(Scalar::U32),
+            "f" => Some(Scalar::F32),
+            "h" => Some(Scalar::F16),
+            _ => None,
+        }
+    }
+}
+
+/// What the language says that a name stands for; `None` where that is no type with a size.
+pub(crate) fn language_name(name: &str) -> Option<Predeclared> {
+    if let Some(scalar) = scalar_named(name) {
+        return Some(Predeclared::Scalar(scalar));
+    }
+    match name {
+        "array" => return Some(Predeclared::Generator(Generator::Array)),
+        "atomic" => return Some(Predeclared::Generator(Generator::Atomic)),
+        _ => {}
+    }
+    match name.strip_prefix("vec") {
+        Some(rest) => vector_named(rest),
+        None => matrix_named(name.strip_prefix("mat")?),
+    }
+}
+
+fn scalar_named(name: &str) -> Option<Scalar> {
+    match name {
+        "bool" => Some(Scalar::Bool),
+        "i32" => Some(Scalar::I32),
+        "u32" => Some(Scalar::U32),
+        "f32" => Some(Scalar::F32),
+        "f16" => Some(Scalar::F16),
+        "i64" => Some(Scalar::I64),
+        "u64" => Some(Scalar::U64),
+        "f64" => Some(Scalar::F64),
+        _ => None,
+    }
+}
+
+// A number of components, columns or rows at the front of a text, and the rest.
+fn split_dimension(text: &str) -> Option<(u8, &str)> {
+    if let Some(rest) = text.strip_prefix('2') {
+        return Some((2, rest));
+    }
+    if let Some(rest) = text.strip_prefix('3') {
+        return Some((3, rest));
+    }
+    Some((4, text.strip_prefix('4')?))
+}
+
+fn vector_named(rest: &str) -> Option<Predeclared> {
+    let (n, letter) = split_dimension(rest)?;
+    if letter.is_empty() {
+        return Some(Predeclared::Generator(Generator::Vec(n)));
+    }
+    Some(Predeclared::Vec(n, Scalar::of_letter(letter)?))
+}
+
+fn matrix_named(rest: &str) -> Option<Predeclared> {
+    let (columns, rest) = split_dimension(rest)?;
+    let (rows, letter) = split_dimension(rest.strip_prefix('x')?)?;
+    match letter {
+        "" => Some(Predeclared::Generator(Generator::Mat(columns, rows))),
+        "f" => Some(Predeclared::Mat(columns, rows, Scalar::F32)),
+        "h" => Some(Predeclared::Mat(columns, rows, Scalar::F16)),
+        _ => None,
+    }
+}

@@ -1,0 +1,60 @@
+//! Places in a source, as a person counts them.
+
+use std::alloc::{AllocError, Global};
+
+/// A place in a source: its line, and its column in that line in characters, both from 1.
+#[derive(Clone, Copy, Debug, PartialEq, Eq)]
+pub struct Place {
+    pub line: usize,
+    pub column: usize,
+}
+
+/// Where the lines of a source begin, in bytes.
+#[derive(Debug, Drop)]
+pub struct Lines {
+    starts: Vec<usize>,
+}
+
+impl Lines {
+    /// The lines of the text: each ends with LF, or where the text does.
+    pub fn new(alloc: Global, text: &str) -> Result<Self, AllocError> {
+        let mut starts = vec![in alloc; 0]?;
+        for (at, byte) in text.bytes().enumerate() {
+            if byte == b'\n' {
+                starts.push(at.saturating_add(1))?;
+            }
+        }
+        Ok(Lines { starts })
+    }
+
+    /// The place of a byte of the text, which is the text that the lines were made of.
+    pub fn place(&self, text: &str, at: usize) -> Place {
+        let line = self.line_at(at);
+        let before = text.get(self.start(line)..at).unwrap_or("");
+        Place {
+            line,
+            column: before.chars().count().saturating_add(1),
+        }
+    }
+
+    /// The text of a line, from 1, without its end.
+    pub fn line<'a>(&self, text: &'a str, line: usize) -> &'a str {
+        let whole = text.get(self.start(line)..).unwrap_or("");
+        match whole.split_once('\n') {
+            Some((line, _)) => line.strip_suffix('\r').unwrap_or(line),
+            None => whole,
+        }
+    }
+
+    // The line of the byte, from 1.
+    fn line_at(&self, at: usize) -> usize {
+        self.starts.partition_point(|start| *start <= at)
+    }
+
+    fn start(&self, line: usize) -> usize {
+        self.starts
+            .get(line.saturating_sub(1))
+            .copied()
+            .unwrap_or(usize::MAX)
+    }
+}

@@ -1,0 +1,5 @@
+//! What sources declare.
+
+mod declarations;
+mod faults;
+mod texts;

@@ -1,0 +1,120 @@
+//! Layouts for programs, as JSON.
+
+use crate::structures::{Asked, Laid, RuntimePart, runtime_member, runtime_part};
+use std::alloc::{AllocError, Global};
+use wgsl_rules::{AccessMode, AddressSpace, MemberLayout, StructMemberType, StructType};
+use wgsl_source::Variable;
+
+/// One object, with the structures and the variables in their order. A number that is not known is
+/// `null`.
+pub(crate) fn add_json(
+    alloc: Global,
+    text: &mut String,
+    asked: Asked<'_>,
+) -> Result<(), AllocError> {
+    text.push_str("{\n  \"structs\": [")?;
+    let mut count = 0usize;
+    for item in asked.items {
+        if let Some(Laid::Struct(ty)) = asked.laid(item) {
+            begin_object(text, &mut count)?;
+            add_struct(alloc, text, ty)?;
+        }
+    }
+    text.push_str("\n  ],\n  \"variables\": [")?;
+    count = 0;
+    for item in asked.items {
+        if let Some(Laid::Variable(name, variable)) = asked.laid(item) {
+            begin_object(text, &mut count)?;
+            add_variable(alloc, text, name, variable)?;
+        }
+    }
+    text.push_str("\n  ]\n}\n")
+}
+
+fn begin_object(text: &mut String, count: &mut usize) -> Result<(), AllocError> {
+    if *count > 0 {
+        text.push(',')?;
+    }
+    *count = count.saturating_add(1);
+    text.push_str("\n    ")
+}
+
+fn add_struct(alloc: Global, text: &mut String, ty: &StructType) -> Result<(), AllocError> {
+    let name = &ty.name;
+    write!(text, "{{\"name\": \"{name}\"")?;
+    let layouts = ty.member_layouts(alloc)?;
+    add_number(text, "size", ty.size_of())?;
+    add_number(text, "align", ty.align_of())?;
+    add_number(text, "least_binding", ty.least_binding())?;
+    add_runtime(text, runtime_member(alloc, ty)?)?;
+    text.push_str(", \"members\": [")?;
+    for (i, (member, layout)) in ty.members.iter().zip(layouts.iter()).enumerate() {
+        text.push_str(if i == 0 { "\n      " } else { ",\n      " })?;
+        add_member(text, member, *layout)?;
+    }
+    text.push_str("\n    ]}")
+}
+
+fn add_member(
+    text: &mut String,
+    member: &StructMemberType,
+    layout: MemberLayout,
+) -> Result<(), AllocError> {
+    let name = &member.name;
+    let ty = &member.ty;
+    write!(text, "{{\"name\": \"{name}\", \"type\": \"{ty}\"")?;
+    add_number(text, "offset", layout.offset)?;
+    add_number(text, "size", layout.size)?;
+    add_number(text, "align", layout.align)?;
+    add_number(text, "padding", layout.padding)?;
+    add_number(text, "stride", ty.stride())?;
+    text.push('}')
+}
+
+fn add_variable(
+    alloc: Global,
+    text: &mut String,
+    name: &str,
+    variable: &Variable,
+) -> Result<(), AllocError> {
+    let ty = &variable.ty;
+    write!(text, "{{\"name\": \"{name}\", \"type\": \"{ty}\"")?;
+    let space = match variable.space {
+        Some(AddressSpace::Uniform) => "uniform",
+        _ => "storage",
+    };
+    let access = match variable.access {
+        Some(AccessMode::ReadWrite) => "read_write",
+        Some(AccessMode::Write) => "write",
+        _ => "read",
+    };
+    write!(text, ", \"space\": \"{space}\", \"access\": \"{access}\"")?;
+    add_number(text, "group", variable.group)?;
+    add_number(text, "binding", variable.binding)?;
+    add_number(text, "size", ty.size_of())?;
+    add_number(text, "align", ty.align_of())?;
+    add_number(text, "least_binding", ty.least_binding())?;
+    add_number(text, "stride", ty.stride())?;
+    add_runtime(text, runtime_part(alloc, ty)?)?;
+    text.push('}')
+}
+
+// Of a runtime-sized array, where it begins and how far its elements lie apart.
+fn add_runtime(text: &mut String, runtime: Option<RuntimePart>) -> Result<(), AllocError> {
+    match runtime {
+        Some(RuntimePart { start, stride }) => {
+            write!(
+                text,
+                ", \"runtime\": {{\"offset\": {start}, \"stride\": {stride}}}"
+            )
+        }
+        None => Ok(()),
+    }
+}
+
+fn add_number(text: &mut String, key: &str, number: Option<u32>) -> Result<(), AllocError> {
+    match number {
+        Some(number) => write!(text, ", \"{key}\": {number}"),
+        None => write!(text, ", \"{key}\": null"),
+    }
+}

@@ -1,0 +1,128 @@
+//! Tells how the types of a WGSL source lie in the memory that a shader shares with its host.
+#![tactic(auto)]
+
+mod arguments;
+mod bytes;
+mod c;
+mod fields;
+mod json;
+mod report;
+mod rows;
+mod rust;
+mod structures;
+mod table;
+
+use arguments::{Arguments, Asked, arguments_of};
+use report::{Report, report_of};
+use std::alloc::{AllocError, Global};
+use std::process::ExitCode;
+use std::rt::{Env, Files};
+use std::{env, fs, io};
+
+const VERSION: &str = "wgsl_tool 0.1.0\n";
+
+const USAGE: &str = "\
+usage: wgsl_tool layout [--bytes | --json | --rust | --c] FILE [NAME ..]
+
+Prints where the members of each structure of a WGSL source stand in memory, and how large the
+buffers of its storage and uniform variables are. With names, prints these alone. The source is
+standard input where FILE is `-`.
+
+  --bytes     draws rows of 16 bytes
+  --json      the same for programs
+  --rust      structures of the host in Rust, whose offsets its compiler checks
+  --c         structures of the host in C, whose offsets its compiler checks
+  --help      prints this
+  --version   prints the version
+
+The status is 0, or 1 for faults in the source, 2 for wrong arguments, 3 for what cannot be read
+or written.
+";
+
+/// How the program ends.
+#[derive(Clone, Copy, Debug, PartialEq, Eq)]
+enum End {
+    Well,
+    Faults,
+    Usage,
+    Io,
+}
+
+impl End {
+    fn code(self) -> u8 {
+        match self {
+            End::Well => 0,
+            End::Faults => 1,
+            End::Usage => 2,
+            End::Io => 3,
+        }
+    }
+}
+
+fn main(rt: HostRuntime) -> ExitCode {
+    let end = match run(&rt) {
+        Ok(end) => end,
+        Err(_) => {
+            let _ = eprintln!(rt; "wgsl_tool: cannot read or write");
+            End::Io
+        }
+    };
+    ExitCode::from(end.code())
+}
+
+fn run<R: AllocGlobal + Input + Print + Eprint + Files + Env>(rt: &R) -> io::Result<End> {
+    let mut words = Vec::new(rt.alloc());
+    for word in env::args(rt)?.skip(1) {
+        words.push(word)?;
+    }
+    match arguments_of(words.as_slice()) {
+        None => {
+            eprint!(rt; "{USAGE}")?;
+            Ok(End::Usage)
+        }
+        Some(Asked::Help) => {
+            print!(rt; "{USAGE}")?;
+            Ok(End::Well)
+        }
+        Some(Asked::Version) => {
+            print!(rt; "{VERSION}")?;
+            Ok(End::Well)
+        }
+        Some(Asked::Layout(arguments)) => layout(rt, arguments),
+    }
+}
+
+// Reads the source and prints what it is asked for.
+fn layout<R: AllocGlobal + Input + Print + Eprint + Files>(
+    rt: &R,
+    arguments: Arguments<'_>,
+) -> io::Result<End> {
+    let source = match read(rt, arguments.file) {
+        Ok(source) => source,
+        Err(error) => {
+            let file = arguments.file;
+            eprintln!(rt; "wgsl_tool: {file}: {error}")?;
+            return Ok(End::Io);
+        }
+    };
+    let report = made(rt.alloc(), source.as_str(), arguments)?;
+    print!(rt; "{}", report.output)?;
+    eprint!(rt; "{}", report.errors)?;
+    Ok(if report.errors.is_empty() {
+        End::Well
+    } else {
+        End::Faults
+    })
+}
+
+fn made(alloc: Global, source: &str, arguments: Arguments<'_>) -> Result<Report, AllocError> {
+    report_of(alloc, source, arguments)
+}
+
+fn read<R: AllocGlobal + Input + Files>(rt: &R, file: &str) -> io::Result<String> {
+    if file == "-" {
+        io::read_to_string(rt.alloc(), rt.reader())
+    } else {
+        fs::read_to_string(rt, file)
+    }
+}

@@ -1,0 +1,107 @@
+//! The structures and variables that are asked for.
+
+use std::alloc::{AllocError, Global};
+use wgsl_rules::{AddressSpace, StructType, Type};
+use wgsl_source::{Item, ItemKind, Variable};
+
+/// The declarations of a source, and the names that are asked for; none are all.
+#[derive(Clone, Copy)]
+pub(crate) struct Asked<'a> {
+    pub(crate) items: &'a [Item],
+    names: &'a [String],
+}
+
+/// What has a layout.
+#[derive(Clone, Copy)]
+pub(crate) enum Laid<'a> {
+    Struct(&'a StructType),
+    Variable(&'a str, &'a Variable),
+}
+
+impl<'a> Asked<'a> {
+    pub(crate) fn new(items: &'a [Item], names: &'a [String]) -> Self {
+        Asked { items, names }
+    }
+
+    /// What a declaration is, if it is asked for and has a layout. Of variables those in storage and
+    /// uniform space have one.
+    pub(crate) fn laid(&self, item: &'a Item) -> Option<Laid<'a>> {
+        if !self.names.is_empty() && !self.is_named(item.name.as_str()) {
+            return None;
+        }
+        match &item.kind {
+            ItemKind::Struct(ty) => Some(Laid::Struct(structure(ty)?)),
+            ItemKind::Variable(variable) if is_shared(variable) => {
+                Some(Laid::Variable(item.name.as_str(), variable))
+            }
+            _ => None,
+        }
+    }
+
+    fn is_named(&self, name: &str) -> bool {
+        self.names.iter().any(|asked| asked.as_str() == name)
+    }
+}
+
+fn is_shared(variable: &Variable) -> bool {
+    matches!(
+        variable.space,
+        Some(AddressSpace::Storage | AddressSpace::Uniform)
+    )
+}
+
+/// The structure that a type is.
+pub(crate) fn structure(ty: &Type) -> Option<&StructType> {
+    match ty {
+        Type::Struct(inner) => Some(inner),
+        _ => None,
+    }
+}
+
+/// The structure that a type is, or that its elements are.
+pub(crate) fn innermost(ty: &Type) -> Option<&StructType> {
+    match ty {
+        Type::Struct(inner) => Some(inner),
+        Type::Array(element, _) => innermost(element),
+        _ => None,
+    }
+}
+
+/// Where the runtime-sized array begins that a type is or ends in, and how far its elements lie
+/// apart, in bytes.
+#[derive(Clone, Copy)]
+pub(crate) struct RuntimePart {
+    pub(crate) start: u32,
+    pub(crate) stride: u32,
+}
+
+/// The runtime-sized array that a structure ends in.
+pub(crate) fn runtime_member(
+    alloc: Global,
+    ty: &StructType,
+) -> Result<Option<RuntimePart>, AllocError> {
+    let layouts = ty.member_layouts(alloc)?;
+    Ok(match (ty.members.last(), layouts.last()) {
+        (Some(member), Some(layout)) => runtime_array(&member.ty, layout.offset),
+        (_, _) => None,
+    })
+}
+
+/// The runtime-sized array that a type is or ends in.
+pub(crate) fn runtime_part(alloc: Global, ty: &Type) -> Result<Option<RuntimePart>, AllocError> {
+    match structure(ty) {
+        Some(of_struct) => runtime_member(alloc, of_struct),
+        None => Ok(runtime_array(ty, Some(0))),
+    }
+}
+
+// The runtime-sized array that a type is which begins at this offset.
+fn runtime_array(ty: &Type, start: Option<u32>) -> Option<RuntimePart> {
+    match ty {
+        Type::Array(_, None) => Some(RuntimePart {
+            start: start?,
+            stride: ty.stride()?,
+        }),
+        _ => None,
+    }
+}

@@ -1,0 +1,211 @@
+//! Tables of layouts, as a person reads them.
+
+use crate::rows::{MemberRow, PaddingRow, Row, rows_of};
+use crate::structures::{Asked, Laid, RuntimePart, runtime_member, runtime_part, structure};
+use std::alloc::{AllocError, Global};
+use wgsl_rules::{AccessMode, AddressSpace, StructType, Type, UniformRule};
+use wgsl_source::Variable;
+
+/// A table of each structure and each variable, with an empty line between.
+pub(crate) fn add_tables(
+    alloc: Global,
+    text: &mut String,
+    asked: Asked<'_>,
+) -> Result<(), AllocError> {
+    for item in asked.items {
+        if let Some(laid) = asked.laid(item) {
+            if !text.is_empty() {
+                text.push_str("\n")?;
+            }
+            add_table(alloc, text, laid)?;
+        }
+    }
+    Ok(())
+}
+
+fn add_table(alloc: Global, text: &mut String, laid: Laid<'_>) -> Result<(), AllocError> {
+    match laid {
+        Laid::Struct(ty) => {
+            let name = &ty.name;
+            write!(text, "struct {name}: ")?;
+            add_measures(alloc, text, ty)?;
+            add_rows(alloc, text, ty)
+        }
+        Laid::Variable(name, variable) => {
+            add_variable(text, name, variable)?;
+            match structure(&variable.ty) {
+                Some(ty) => {
+                    add_measures(alloc, text, ty)?;
+                    add_rows(alloc, text, ty)?;
+                }
+                None => add_type_measures(alloc, text, &variable.ty)?,
+            }
+            match variable.space {
+                Some(AddressSpace::Uniform) => add_uniform_faults(alloc, text, &variable.ty),
+                _ => Ok(()),
+            }
+        }
+    }
+}
+
+// `@group(0) @binding(1) var<storage, read_write> name: type, `
+fn add_variable(text: &mut String, name: &str, variable: &Variable) -> Result<(), AllocError> {
+    if let Some(group) = variable.group {
+        write!(text, "@group({group}) ")?;
+    }
+    if let Some(binding) = variable.binding {
+        write!(text, "@binding({binding}) ")?;
+    }
+    match (variable.space, variable.access) {
+        (Some(AddressSpace::Uniform), _) => text.push_str("var<uniform> ")?,
+        (_, Some(AccessMode::ReadWrite)) => text.push_str("var<storage, read_write> ")?,
+        (_, Some(AccessMode::Write)) => text.push_str("var<storage, write> ")?,
+        (_, _) => text.push_str("var<storage, read> ")?,
+    }
+    let ty = &variable.ty;
+    write!(text, "{name}: {ty}, ")
+}
+
+// The size and the alignment of a structure, and how large a buffer of it is at least.
+fn add_measures(alloc: Global, text: &mut String, ty: &StructType) -> Result<(), AllocError> {
+    let runtime = runtime_member(alloc, ty)?;
+    add_size(text, ty.size_of(), runtime)?;
+    add_least(text, runtime, ty.least_binding())?;
+    add_align(text, ty.align_of())
+}
+
+fn add_type_measures(alloc: Global, text: &mut String, ty: &Type) -> Result<(), AllocError> {
+    let runtime = runtime_part(alloc, ty)?;
+    add_size(text, ty.size_of(), runtime)?;
+    add_least(text, runtime, ty.least_binding())?;
+    if let Some(stride) = ty.stride() {
+        write!(text, ", stride {stride}")?;
+    }
+    add_align(text, ty.align_of())
+}
+
+fn add_size(
+    text: &mut String,
+    size: Option<u32>,
+    runtime: Option<RuntimePart>,
+) -> Result<(), AllocError> {
+    match (size, runtime) {
+        (Some(size), _) => write!(text, "size {size}"),
+        (None, Some(RuntimePart { start, stride })) => write!(text, "size {start} + {stride} * n"),
+        (None, None) => text.push_str("no size"),
+    }
+}
+
+fn add_least(
+    text: &mut String,
+    runtime: Option<RuntimePart>,
+    least: Option<u32>,
+) -> Result<(), AllocError> {
+    match (runtime, least) {
+        (Some(_), Some(least)) => write!(text, ", least binding {least}"),
+        (_, _) => Ok(()),
+    }
+}
+
+fn add_align(text: &mut String, align: Option<u32>) -> Result<(), AllocError> {
+    match align {
+        Some(align) => writeln!(text, ", align {align}"),
+        None => text.push_str(", no alignment\n"),
+    }
+}
+
+fn add_rows(alloc: Global, text: &mut String, ty: &StructType) -> Result<(), AllocError> {
+    text.push_str("  offset    size   align\n")?;
+    let rows = rows_of(alloc, ty)?;
+    for row in &rows {
+        match row {
+            Row::Member(row) => add_member(text, row)?,
+            Row::Padding(row) => add_padding(text, *row)?,
+        }
+    }
+    Ok(())
+}
+
+fn add_member(text: &mut String, row: &MemberRow<'_>) -> Result<(), AllocError> {
+    add_number(text, row.offset)?;
+    add_number(text, row.layout.size.map(u64::from))?;
+    add_number(text, row.layout.align.map(u64::from))?;
+    add_indent(text, row.depth)?;
+    let name = &row.member.name;
+    let ty = &row.member.ty;
+    write!(text, "{name}: {ty}")?;
+    match ty.stride() {
+        Some(stride) => writeln!(text, ", stride {stride}"),
+        None => text.push_str("\n"),
+    }
+}
+
+fn add_padding(text: &mut String, row: PaddingRow) -> Result<(), AllocError> {
+    add_number(text, Some(row.offset))?;
+    add_number(text, Some(u64::from(row.size)))?;
+    text.push_str("        ")?;
+    add_indent(text, row.depth)?;
+    text.push_str("(padding)\n")
+}
+
+fn add_number(text: &mut String, number: Option<u64>) -> Result<(), AllocError> {
+    match number {
+        Some(number) => write!(text, "  {number:>6}"),
+        None => text.push_str("        "),
+    }
+}
+
+fn add_indent(text: &mut String, depth: usize) -> Result<(), AllocError> {
+    text.push_str("  ")?;
+    for _ in 0..depth {
+        text.push_str("  ")?;
+    }
+    Ok(())
+}
+
+// A line for each rule of the uniform address space that the type breaks.
+fn add_uniform_faults(alloc: Global, text: &mut String, ty: &Type) -> Result<(), AllocError> {
+    let Some(of_struct) = structure(ty) else {
+        return match ty.uniform_rule() {
+            Some(rule) => add_rule(text, "the type", rule),
+            None => Ok(()),
+        };
+    };
+    let faults = of_struct.uniform_faults(alloc)?;
+    for fault in &faults {
+        if let Some(member) = of_struct.members.get(fault.member) {
+            add_rule(text, member.name.as_str(), fault.rule)?;
+        }
+    }
+    Ok(())
+}
+
+fn add_rule(text: &mut String, name: &str, rule: UniformRule) -> Result<(), AllocError> {
+    write!(text, "  uniform: {name}: ")?;
+    match rule {
+        UniformRule::NotShared => text.push_str("no type that a uniform variable has\n"),
+        UniformRule::RuntimeSized => text.push_str("a runtime-sized array\n"),
+        UniformRule::NotKnown => text.push_str("a place that is not known\n"),
+        UniformRule::Stride(stride) => {
+            writeln!(
+                text,
+                "a stride of {stride} bytes, which is no multiple of 16"
+            )
+        }
+        UniformRule::Align(align) => {
+            writeln!(
+                text,
+                "an alignment of {align}, which is no multiple of what the type requires"
+            )
+        }
+        UniformRule::Offset(offset) => {
+            writeln!(
+                text,
+                "the offset {offset}, which is no multiple of what the type requires"
+            )
+        }
+        UniformRule::Distance(offset) => {
+            writeln!(text, "the offset {offset}, too near behind a structure")
+        }
+    }
+}
