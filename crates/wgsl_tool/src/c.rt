@@ -1,6 +1,6 @@
 //! Structures of the host in C.
 
-use crate::fields::{HostField, components_apart, fields_of};
+use crate::fields::{HostField, components_apart, fields_of, is_runtime_sized};
 use crate::structures::{Asked, Laid};
 use std::alloc::{AllocError, Global};
 use wgsl_rules::{StructType, Type};
@@ -54,7 +54,11 @@ fn add_field(text: &mut String, i: usize, field: &HostField<'_>) -> Result<(), A
     text.push(' ')?;
     add_name(text, field.name)?;
     add_counts(text, field.ty)?;
-    text.push_str(";\n")?;
+    text.push_str(if is_runtime_sized(field.ty) {
+        "; // the first of its elements\n"
+    } else {
+        ";\n"
+    })?;
     match field.behind {
         0 => Ok(()),
         behind => writeln!(text, "    uint8_t _padding{i}[{behind}];"),

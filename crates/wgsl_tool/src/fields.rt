@@ -54,3 +54,8 @@ pub(crate) fn components_apart(stride: Option<u32>, component: &Type) -> u32 {
         (_, _) => 0,
     }
 }
+
+/// Whether the type is a runtime-sized array.
+pub(crate) fn is_runtime_sized(ty: &Type) -> bool {
+    matches!(ty, Type::Array(_, None))
+}

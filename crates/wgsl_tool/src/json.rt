@@ -1,8 +1,9 @@
 //! Layouts for programs, as JSON.
 
 use crate::structures::{Asked, Laid, RuntimePart, runtime_member, runtime_part};
+use crate::uniform::{add_rule, broken_rules};
 use std::alloc::{AllocError, Global};
-use wgsl_rules::{AccessMode, AddressSpace, MemberLayout, StructMemberType, StructType};
+use wgsl_rules::{AccessMode, AddressSpace, MemberLayout, StructMemberType, StructType, Type};
 use wgsl_source::Variable;
 
 /// One object, with the structures and the variables in their order. A number that is not known is
@@ -96,7 +97,29 @@ fn add_variable(
     add_number(text, "least_binding", ty.least_binding())?;
     add_number(text, "stride", ty.stride())?;
     add_runtime(text, runtime_part(alloc, ty)?)?;
+    if variable.space == Some(AddressSpace::Uniform) {
+        add_broken_rules(alloc, text, name, ty)?;
+    }
     text.push('}')
+}
+
+// The rules of the uniform address space that the variable breaks.
+fn add_broken_rules(
+    alloc: Global,
+    text: &mut String,
+    name: &str,
+    ty: &Type,
+) -> Result<(), AllocError> {
+    text.push_str(", \"uniform_faults\": [")?;
+    let broken = broken_rules(alloc, name, ty)?;
+    for (i, one) in broken.iter().enumerate() {
+        let path = &one.path;
+        text.push_str(if i == 0 { "" } else { ", " })?;
+        write!(text, "{{\"member\": \"{path}\", \"fault\": \"")?;
+        add_rule(text, one.rule)?;
+        text.push_str("\"}")?;
+    }
+    text.push(']')
 }
 
 // Of a runtime-sized array, where it begins and how far its elements lie apart.

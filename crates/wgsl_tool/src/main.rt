@@ -11,6 +11,7 @@ mod rows;
 mod rust;
 mod structures;
 mod table;
+mod uniform;
 
 use arguments::{Arguments, Asked, arguments_of};
 use report::{Report, report_of};
@@ -29,14 +30,14 @@ buffers of its storage and uniform variables are. With names, prints these alone
 standard input where FILE is `-`.
 
   --bytes     draws rows of 16 bytes
-  --json      the same for programs
+  --json      the same as without a flag, for programs
   --rust      structures of the host in Rust, whose offsets its compiler checks
   --c         structures of the host in C, whose offsets its compiler checks
   --help      prints this
   --version   prints the version
 
-The status is 0, or 1 for faults in the source, 2 for wrong arguments, 3 for what cannot be read
-or written.
+The status is 0, or 1 for faults in the source and for names that it does not have or that have no
+layout, 2 for wrong arguments, 3 for what cannot be read or written.
 ";
 
 /// How the program ends.

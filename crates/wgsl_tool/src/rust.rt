@@ -1,6 +1,6 @@
 //! Structures of the host in Rust.
 
-use crate::fields::{HostField, components_apart, fields_of};
+use crate::fields::{HostField, components_apart, fields_of, is_runtime_sized};
 use crate::structures::{Asked, Laid};
 use std::alloc::{AllocError, Global};
 use wgsl_rules::{StructType, Type};
@@ -52,7 +52,11 @@ fn add_field(text: &mut String, i: usize, field: &HostField<'_>) -> Result<(), A
     add_name(text, field.name)?;
     text.push_str(": ")?;
     add_type(text, field.ty)?;
-    text.push_str(",\n")?;
+    text.push_str(if is_runtime_sized(field.ty) {
+        ", // the first of its elements\n"
+    } else {
+        ",\n"
+    })?;
     match field.behind {
         0 => Ok(()),
         behind => writeln!(text, "    pub _padding{i}: [u8; {behind}],"),

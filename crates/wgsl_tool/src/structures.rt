@@ -1,5 +1,6 @@
 //! The structures and variables that are asked for.
 
+use crate::rows::{Row, rows_of};
 use std::alloc::{AllocError, Global};
 use wgsl_rules::{AddressSpace, StructType, Type};
 use wgsl_source::{Item, ItemKind, Variable};
@@ -38,12 +39,69 @@ impl<'a> Asked<'a> {
         }
     }
 
+    /// Whether names are asked for.
+    pub(crate) fn is_by_name(&self) -> bool {
+        !self.names.is_empty()
+    }
+
     fn is_named(&self, name: &str) -> bool {
         self.names.iter().any(|asked| asked.as_str() == name)
     }
+
+    /// The names that are asked for, and those of the structures inside what they name; none where
+    /// none are asked for.
+    pub(crate) fn names_with_inner(&self, alloc: Global) -> Result<Vec<String>, AllocError> {
+        let mut names = Vec::new(alloc);
+        if !self.is_by_name() {
+            return Ok(names);
+        }
+        for name in self.names {
+            push_name(alloc, &mut names, name.as_str())?;
+        }
+        for item in self.items {
+            if let Some(laid) = self.laid(item) {
+                push_inner(alloc, &mut names, laid)?;
+            }
+        }
+        Ok(names)
+    }
 }
 
-fn is_shared(variable: &Variable) -> bool {
+// The names of the structures inside.
+fn push_inner(alloc: Global, names: &mut Vec<String>, laid: Laid<'_>) -> Result<(), AllocError> {
+    let outermost = match laid {
+        Laid::Struct(ty) => Some(ty),
+        Laid::Variable(_, variable) => innermost(&variable.ty),
+    };
+    let Some(outermost) = outermost else {
+        return Ok(());
+    };
+    push_name(alloc, names, outermost.name.as_str())?;
+    let rows = rows_of(alloc, outermost)?;
+    for row in &rows {
+        if let Some(inner) = inner_structure(*row) {
+            push_name(alloc, names, inner.name.as_str())?;
+        }
+    }
+    Ok(())
+}
+
+fn inner_structure(row: Row<'_>) -> Option<&StructType> {
+    match row {
+        Row::Member(row) => innermost(&row.member.ty),
+        Row::Padding(_) => None,
+    }
+}
+
+fn push_name(alloc: Global, names: &mut Vec<String>, name: &str) -> Result<(), AllocError> {
+    if !names.iter().any(|other| other.as_str() == name) {
+        names.push(String::from_str(alloc, name)?)?;
+    }
+    Ok(())
+}
+
+/// Whether the variable is one of storage or uniform space.
+pub(crate) fn is_shared(variable: &Variable) -> bool {
     matches!(
         variable.space,
         Some(AddressSpace::Storage | AddressSpace::Uniform)

@@ -2,8 +2,9 @@
 
 use crate::rows::{MemberRow, PaddingRow, Row, rows_of};
 use crate::structures::{Asked, Laid, RuntimePart, runtime_member, runtime_part, structure};
+use crate::uniform::{add_rule, broken_rules};
 use std::alloc::{AllocError, Global};
-use wgsl_rules::{AccessMode, AddressSpace, StructType, Type, UniformRule};
+use wgsl_rules::{AccessMode, AddressSpace, StructType, Type};
 use wgsl_source::Variable;
 
 /// A table of each structure and each variable, with an empty line between.
@@ -41,7 +42,7 @@ fn add_table(alloc: Global, text: &mut String, laid: Laid<'_>) -> Result<(), All
                 None => add_type_measures(alloc, text, &variable.ty)?,
             }
             match variable.space {
-                Some(AddressSpace::Uniform) => add_uniform_faults(alloc, text, &variable.ty),
+                Some(AddressSpace::Uniform) => add_broken_rules(alloc, text, name, &variable.ty),
                 _ => Ok(()),
             }
         }
@@ -69,9 +70,11 @@ fn add_variable(text: &mut String, name: &str, variable: &Variable) -> Result<()
 // The size and the alignment of a structure, and how large a buffer of it is at least.
 fn add_measures(alloc: Global, text: &mut String, ty: &StructType) -> Result<(), AllocError> {
     let runtime = runtime_member(alloc, ty)?;
+    let align = ty.align_of();
     add_size(text, ty.size_of(), runtime)?;
+    add_filled(text, runtime, align)?;
     add_least(text, runtime, ty.least_binding())?;
-    add_align(text, ty.align_of())
+    add_align(text, align)
 }
 
 fn add_type_measures(alloc: Global, text: &mut String, ty: &Type) -> Result<(), AllocError> {
@@ -91,8 +94,24 @@ fn add_size(
 ) -> Result<(), AllocError> {
     match (size, runtime) {
         (Some(size), _) => write!(text, "size {size}"),
+        (None, Some(RuntimePart { start: 0, stride })) => write!(text, "size {stride} * n"),
         (None, Some(RuntimePart { start, stride })) => write!(text, "size {start} + {stride} * n"),
         (None, None) => text.push_str("no size"),
+    }
+}
+
+// A structure is filled up to its alignment, whatever the count of elements.
+fn add_filled(
+    text: &mut String,
+    runtime: Option<RuntimePart>,
+    align: Option<u32>,
+) -> Result<(), AllocError> {
+    match (runtime, align) {
+        (Some(RuntimePart { start, stride }), Some(align))
+            if !start.is_multiple_of(align) || !stride.is_multiple_of(align) => {
+            write!(text, " filled up to {align}")
+        }
+        (_, _) => Ok(()),
     }
 }
 
@@ -163,49 +182,19 @@ fn add_indent(text: &mut String, depth: usize) -> Result<(), AllocError> {
     Ok(())
 }
 
-// A line for each rule of the uniform address space that the type breaks.
-fn add_uniform_faults(alloc: Global, text: &mut String, ty: &Type) -> Result<(), AllocError> {
-    let Some(of_struct) = structure(ty) else {
-        return match ty.uniform_rule() {
-            Some(rule) => add_rule(text, "the type", rule),
-            None => Ok(()),
-        };
-    };
-    let faults = of_struct.uniform_faults(alloc)?;
-    for fault in &faults {
-        if let Some(member) = of_struct.members.get(fault.member) {
-            add_rule(text, member.name.as_str(), fault.rule)?;
-        }
+// A line for each rule of the uniform address space that the variable breaks.
+fn add_broken_rules(
+    alloc: Global,
+    text: &mut String,
+    name: &str,
+    ty: &Type,
+) -> Result<(), AllocError> {
+    let broken = broken_rules(alloc, name, ty)?;
+    for one in &broken {
+        let path = &one.path;
+        write!(text, "  uniform: {path}: ")?;
+        add_rule(text, one.rule)?;
+        text.push('\n')?;
     }
     Ok(())
-}
-
-fn add_rule(text: &mut String, name: &str, rule: UniformRule) -> Result<(), AllocError> {
-    write!(text, "  uniform: {name}: ")?;
-    match rule {
-        UniformRule::NotShared => text.push_str("no type that a uniform variable has\n"),
-        UniformRule::RuntimeSized => text.push_str("a runtime-sized array\n"),
-        UniformRule::NotKnown => text.push_str("a place that is not known\n"),
-        UniformRule::Stride(stride) => {
-            writeln!(
-                text,
-                "a stride of {stride} bytes, which is no multiple of 16"
-            )
-        }
-        UniformRule::Align(align) => {
-            writeln!(
-                text,
-                "an alignment of {align}, which is no multiple of what the type requires"
-            )
-        }
-        UniformRule::Offset(offset) => {
-            writeln!(
-                text,
-                "the offset {offset}, which is no multiple of what the type requires"
-            )
-        }
-        UniformRule::Distance(offset) => {
-            writeln!(text, "the offset {offset}, too near behind a structure")
-        }
-    }
 }
