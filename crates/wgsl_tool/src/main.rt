@@ -26,11 +26,11 @@ const USAGE: &str = "\
 usage: wgsl_tool layout [--bytes | --json | --rust | --c] FILE [NAME ..]
 
 Prints where the members of each structure of a WGSL source stand in memory, and how large the
-buffers of its storage and uniform variables are. With names, prints these alone. The source is
-standard input where FILE is `-`.
+buffers of its storage and uniform variables are. With names, prints these alone; for programs,
+also the structures inside them. The source is standard input where FILE is `-`.
 
   --bytes     draws rows of 16 bytes
-  --json      the same as without a flag, for programs
+  --json      the same as without a flag, for programs to read
   --rust      structures of the host in Rust, whose offsets its compiler checks
   --c         structures of the host in C, whose offsets its compiler checks
   --help      prints this

@@ -35,22 +35,30 @@ pub(crate) fn report_of(
     match arguments.format {
         Format::Table => add_tables(alloc, &mut output, asked)?,
         Format::Bytes => add_bytes(alloc, &mut output, asked)?,
-        Format::Json => add_json(alloc, &mut output, asked)?,
-        Format::Rust => {
+        Format::Json | Format::Rust | Format::C => {
             let names = asked.names_with_inner(alloc)?;
             let asked = Asked::new(source.items.as_slice(), names.as_slice());
-            add_rust(alloc, &mut output, asked)?;
-        }
-        Format::C => {
-            let names = asked.names_with_inner(alloc)?;
-            let asked = Asked::new(source.items.as_slice(), names.as_slice());
-            add_c(alloc, &mut output, &source.order, asked)?;
+            add_for_programs(alloc, &mut output, arguments.format, &source.order, asked)?;
         }
     }
     let mut errors = String::new(alloc);
     add_faults(alloc, &mut errors, &source, text, arguments.file)?;
     add_missing(&mut errors, &source, arguments)?;
     Ok(Report { output, errors })
+}
+
+fn add_for_programs(
+    alloc: Global,
+    output: &mut String,
+    format: Format,
+    order: &Vec<usize>,
+    asked: Asked<'_>,
+) -> Result<(), AllocError> {
+    match format {
+        Format::Rust => add_rust(alloc, output, asked),
+        Format::C => add_c(alloc, output, order, asked),
+        _ => add_json(alloc, output, asked),
+    }
 }
 
 fn add_faults(
