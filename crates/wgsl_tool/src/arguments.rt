@@ -1,5 +1,9 @@
 //! What the words of a command ask for.
 
+ghost use Rattle.std.specs.Prelude.{◌≡◌, ◌≢◌, IfSome, IsNone, Some};
+ghost use Rattle.wgsl_tool.specs.Endings.{flag_of};
+ghost use Rattle.wgsl_tool.specs.declared.arguments.Format.{Format};
+
 /// How a layout is printed.
 #[derive(Clone, Copy, Debug, PartialEq, Eq)]
 pub(crate) enum Format {
@@ -53,7 +57,10 @@ fn is_help(word: &str) -> bool {
 }
 
 // The format that a flag asks for.
-fn format_of(word: &str) -> Option<Format> {
+fn format_of(word: &str) -> Option<Format>
+    ensures some { IfSome result (λ format. flag_of format ≡ Some word.now) }
+    ensures none { IsNone result → (format : Format) → flag_of format ≢ Some word.now }
+{
     match word {
         "--bytes" => Some(Format::Bytes),
         "--json" => Some(Format::Json),

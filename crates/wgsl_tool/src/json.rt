@@ -1,5 +1,8 @@
 //! Layouts for programs, as JSON.
 
+ghost use Rattle.std.specs.Prelude.{◌≡◌, ◌++◌, OnOk, string_bytes};
+ghost use Rattle.wgsl_tool.specs.Texts.{entry_text, runtime_entry};
+
 use crate::structures::{Asked, Laid, RuntimePart, runtime_member, runtime_part};
 use crate::uniform::{add_rule, broken_rules};
 use std::alloc::{AllocError, Global};
@@ -123,7 +126,9 @@ fn add_broken_rules(
 }
 
 // Of a runtime-sized array, where it begins and how far its elements lie apart.
-fn add_runtime(text: &mut String, runtime: Option<RuntimePart>) -> Result<(), AllocError> {
+fn add_runtime(text: &mut String, runtime: Option<RuntimePart>) -> Result<(), AllocError>
+    ensures { OnOk result (string_bytes text.new ≡ string_bytes text.old ++ runtime_entry runtime) }
+{
     match runtime {
         Some(RuntimePart { start, stride }) => {
             write!(
@@ -135,7 +140,9 @@ fn add_runtime(text: &mut String, runtime: Option<RuntimePart>) -> Result<(), Al
     }
 }
 
-fn add_number(text: &mut String, key: &str, number: Option<u32>) -> Result<(), AllocError> {
+fn add_number(text: &mut String, key: &str, number: Option<u32>) -> Result<(), AllocError>
+    ensures { OnOk result (string_bytes text.new ≡ string_bytes text.old ++ entry_text key.now number) }
+{
     match number {
         Some(number) => write!(text, ", \"{key}\": {number}"),
         None => write!(text, ", \"{key}\": null"),

@@ -1,8 +1,12 @@
 //! What is printed of a source.
 
+ghost use Rattle.std.specs.Prelude.{◌≡◌, ◌==◌, is_some, string_len, if◌then◌else◌};
+ghost use Rattle.wgsl_tool.specs.Kinds.{is_left_out};
+
 use crate::arguments::{Arguments, Format};
 use crate::bytes::add_bytes;
 use crate::c::add_c;
+use crate::end::End;
 use crate::json::add_json;
 use crate::rust::add_rust;
 use crate::structures::{Asked, is_shared};
@@ -21,6 +25,21 @@ const SHOWN: usize = 120;
 pub(crate) struct Report {
     pub(crate) output: String,
     pub(crate) errors: String,
+}
+
+impl Report {
+    ghost use Rattle.wgsl_tool.specs.declared.end.End.TheVariants.{Well, Faults};
+
+    /// How the program ends that prints it.
+    pub(crate) fn end(&self) -> End
+        ensures { result ≡ (if string_len self.now.errors == 0 then Well else Faults) }
+    {
+        if self.errors.is_empty() {
+            End::Well
+        } else {
+            End::Faults
+        }
+    }
 }
 
 /// What a source has of what is asked for, and all that is wrong in it.
@@ -145,7 +164,9 @@ fn add_missing(
 }
 
 // Why nothing is printed of a declaration; what has a fault is told among the faults.
-fn why_left_out(kind: &ItemKind) -> Option<&'static str> {
+fn why_left_out(kind: &ItemKind) -> Option<&'static str>
+    ensures { is_some result ≡ is_left_out kind.now }
+{
     match kind {
         ItemKind::Struct(_) | ItemKind::Faulty => None,
         ItemKind::Variable(variable) if is_shared(variable) => None,

@@ -1,5 +1,9 @@
 //! The structures and variables that are asked for.
 
+ghost use Rattle.std.specs.Prelude.{◌≡◌, is_some};
+ghost use Rattle.wgsl_rules.specs.View.{type_view};
+ghost use Rattle.wgsl_tool.specs.Kinds.{is_shared_space, is_structure, is_laid_out};
+
 use crate::rows::{Row, rows_of};
 use std::alloc::{AllocError, Global};
 use wgsl_rules::{AddressSpace, StructType, Type};
@@ -30,13 +34,7 @@ impl<'a> Asked<'a> {
         if !self.names.is_empty() && !self.is_named(item.name.as_str()) {
             return None;
         }
-        match &item.kind {
-            ItemKind::Struct(ty) => Some(Laid::Struct(structure(ty)?)),
-            ItemKind::Variable(variable) if is_shared(variable) => {
-                Some(Laid::Variable(item.name.as_str(), variable))
-            }
-            _ => None,
-        }
+        laid_of(item)
     }
 
     /// Whether names are asked for.
@@ -100,19 +98,47 @@ fn push_name(alloc: Global, names: &mut Vec<String>, name: &str) -> Result<(), A
     Ok(())
 }
 
+// What a declaration is, if it has a layout.
+fn laid_of(item: &Item) -> Option<Laid<'_>>
+    ensures { is_some result ≡ is_laid_out item.now.kind }
+{
+    match &item.kind {
+        ItemKind::Struct(ty) => match structure(ty) {
+            Some(ty) => Some(Laid::Struct(ty)),
+            None => None,
+        },
+        ItemKind::Variable(variable) if is_shared(variable) => {
+            Some(Laid::Variable(item.name.as_str(), variable))
+        }
+        ItemKind::Variable(_) | ItemKind::Alias(_) | ItemKind::Value(_) => None,
+        ItemKind::Skipped | ItemKind::Faulty => None,
+    }
+}
+
 /// Whether the variable is one of storage or uniform space.
-pub(crate) fn is_shared(variable: &Variable) -> bool {
-    matches!(
-        variable.space,
-        Some(AddressSpace::Storage | AddressSpace::Uniform)
-    )
+pub(crate) fn is_shared(variable: &Variable) -> bool
+    ensures { result ≡ is_shared_space variable.now.space }
+{
+    match variable.space {
+        Some(AddressSpace::Storage | AddressSpace::Uniform) => true,
+        Some(AddressSpace::Function | AddressSpace::Private) => false,
+        Some(AddressSpace::Workgroup | AddressSpace::Handle) => false,
+        None => false,
+    }
 }
 
 /// The structure that a type is.
-pub(crate) fn structure(ty: &Type) -> Option<&StructType> {
+pub(crate) fn structure(ty: &Type) -> Option<&StructType>
+    ensures { is_some result ≡ is_structure (type_view ty.now) }
+{
     match ty {
         Type::Struct(inner) => Some(inner),
-        _ => None,
+        Type::Bool | Type::AbstractInt | Type::AbstractFloat => None,
+        Type::I32 | Type::U32 | Type::F32 | Type::F16 => None,
+        Type::I64 | Type::U64 | Type::F64 => None,
+        Type::Array(_, _) | Type::Vec(_, _) | Type::Mat(_, _, _) => None,
+        Type::Atomic(_) | Type::Ptr(_, _, _) | Type::Ref(_, _, _) => None,
+        Type::Texture(_) | Type::Sampler(_) => None,
     }
 }
 

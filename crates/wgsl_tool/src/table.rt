@@ -1,5 +1,19 @@
 //! Tables of layouts, as a person reads them.
 
+ghost use Rattle.std.specs.Prelude.{◌≡◌, ◌++◌, Some, OnOk, codes, string_bytes};
+ghost use Rattle.wgsl_rules.specs.Places.{part_stride};
+ghost use Rattle.wgsl_rules.specs.Text.{type_text};
+ghost use Rattle.wgsl_rules.specs.View.{type_view};
+ghost use Rattle.wgsl_tool.specs.Texts.{
+  column_text,
+  indent_text,
+  stride_text,
+  runtime_text,
+  size_text,
+  least_text,
+  align_text,
+};
+
 use crate::rows::{MemberRow, PaddingRow, Row, rows_of};
 use crate::structures::{Asked, Laid, RuntimePart, runtime_member, runtime_part, structure};
 use crate::uniform::{add_rule, broken_rules};
@@ -91,12 +105,24 @@ fn add_size(
     text: &mut String,
     size: Option<u32>,
     runtime: Option<RuntimePart>,
-) -> Result<(), AllocError> {
+) -> Result<(), AllocError>
+    ensures { OnOk result (string_bytes text.new ≡ string_bytes text.old ++ size_text size runtime) }
+{
     match (size, runtime) {
         (Some(size), _) => write!(text, "size {size}"),
-        (None, Some(RuntimePart { start: 0, stride })) => write!(text, "size {stride} * n"),
-        (None, Some(RuntimePart { start, stride })) => write!(text, "size {start} + {stride} * n"),
+        (None, Some(part)) => add_runtime_size(text, part),
         (None, None) => text.push_str("no size"),
+    }
+}
+
+fn add_runtime_size(text: &mut String, part: RuntimePart) -> Result<(), AllocError>
+    ensures { OnOk result (string_bytes text.new ≡ string_bytes text.old ++ runtime_text part) }
+{
+    let RuntimePart { start, stride } = part;
+    if start == 0 {
+        write!(text, "size {stride} * n")
+    } else {
+        write!(text, "size {start} + {stride} * n")
     }
 }
 
@@ -119,14 +145,18 @@ fn add_least(
     text: &mut String,
     runtime: Option<RuntimePart>,
     least: Option<u32>,
-) -> Result<(), AllocError> {
+) -> Result<(), AllocError>
+    ensures { OnOk result (string_bytes text.new ≡ string_bytes text.old ++ least_text runtime least) }
+{
     match (runtime, least) {
         (Some(_), Some(least)) => write!(text, ", least binding {least}"),
         (_, _) => Ok(()),
     }
 }
 
-fn add_align(text: &mut String, align: Option<u32>) -> Result<(), AllocError> {
+fn add_align(text: &mut String, align: Option<u32>) -> Result<(), AllocError>
+    ensures { OnOk result (string_bytes text.new ≡ string_bytes text.old ++ align_text align) }
+{
     match align {
         Some(align) => writeln!(text, ", align {align}"),
         None => text.push_str(", no alignment\n"),
@@ -145,21 +175,31 @@ fn add_rows(alloc: Global, text: &mut String, ty: &StructType) -> Result<(), All
     Ok(())
 }
 
-fn add_member(text: &mut String, row: &MemberRow<'_>) -> Result<(), AllocError> {
+fn add_member(text: &mut String, row: &MemberRow<'_>) -> Result<(), AllocError>
+    ensures { OnOk result (string_bytes text.new ≡ string_bytes text.old ++ column_text row.now.offset ++ column_text row.now.layout.size ++ column_text row.now.layout.align ++ indent_text row.now.depth ++ (string_bytes row.now.member.now.name ++ (codes ": " ++ type_text (type_view row.now.member.now.ty))) ++ stride_text (part_stride (type_view row.now.member.now.ty))) }
+{
     add_number(text, row.offset)?;
-    add_number(text, row.layout.size.map(u64::from))?;
-    add_number(text, row.layout.align.map(u64::from))?;
+    add_number(text, wide(row.layout.size))?;
+    add_number(text, wide(row.layout.align))?;
     add_indent(text, row.depth)?;
     let name = &row.member.name;
     let ty = &row.member.ty;
     write!(text, "{name}: {ty}")?;
-    match ty.stride() {
+    add_stride(text, ty.stride())
+}
+
+fn add_stride(text: &mut String, stride: Option<u32>) -> Result<(), AllocError>
+    ensures { OnOk result (string_bytes text.new ≡ string_bytes text.old ++ stride_text stride) }
+{
+    match stride {
         Some(stride) => writeln!(text, ", stride {stride}"),
         None => text.push_str("\n"),
     }
 }
 
-fn add_padding(text: &mut String, row: PaddingRow) -> Result<(), AllocError> {
+fn add_padding(text: &mut String, row: PaddingRow) -> Result<(), AllocError>
+    ensures { OnOk result (string_bytes text.new ≡ string_bytes text.old ++ column_text (Some row.offset) ++ column_text (Some row.size) ++ codes "        " ++ indent_text row.depth ++ codes "(padding)\n") }
+{
     add_number(text, Some(row.offset))?;
     add_number(text, Some(u64::from(row.size)))?;
     text.push_str("        ")?;
@@ -167,14 +207,27 @@ fn add_padding(text: &mut String, row: PaddingRow) -> Result<(), AllocError> {
     text.push_str("(padding)\n")
 }
 
-fn add_number(text: &mut String, number: Option<u64>) -> Result<(), AllocError> {
+fn wide(number: Option<u32>) -> Option<u64>
+    ensures { result ≡ number }
+{
+    match number {
+        Some(number) => Some(u64::from(number)),
+        None => None,
+    }
+}
+
+fn add_number(text: &mut String, number: Option<u64>) -> Result<(), AllocError>
+    ensures { OnOk result (string_bytes text.new ≡ string_bytes text.old ++ column_text number) }
+{
     match number {
         Some(number) => write!(text, "  {number:>6}"),
         None => text.push_str("        "),
     }
 }
 
-fn add_indent(text: &mut String, depth: usize) -> Result<(), AllocError> {
+fn add_indent(text: &mut String, depth: usize) -> Result<(), AllocError>
+    ensures { OnOk result (string_bytes text.new ≡ string_bytes text.old ++ indent_text depth) }
+{
     text.push_str("  ")?;
     for _ in 0..depth {
         text.push_str("  ")?;

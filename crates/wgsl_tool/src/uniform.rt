@@ -1,6 +1,9 @@
 //! What is broken of the rules that the uniform address space has (WGSL: address space layout
 //! constraints).
 
+ghost use Rattle.std.specs.Prelude.{◌≡◌, ◌++◌, OnOk, string_bytes};
+ghost use Rattle.wgsl_tool.specs.Texts.{rule_text};
+
 use std::alloc::{AllocError, Global};
 use wgsl_rules::{StructType, Type, UniformRule};
 
@@ -81,7 +84,9 @@ fn broken_inside(ty: &Type, rule: UniformRule) -> Option<&StructType> {
 }
 
 /// The words for a rule that is broken.
-pub(crate) fn add_rule(text: &mut String, rule: UniformRule) -> Result<(), AllocError> {
+pub(crate) fn add_rule(text: &mut String, rule: UniformRule) -> Result<(), AllocError>
+    ensures { OnOk result (string_bytes text.new ≡ string_bytes text.old ++ rule_text rule) }
+{
     match rule {
         UniformRule::NotShared => text.push_str("no type that a uniform variable has"),
         UniformRule::RuntimeSized => text.push_str("a runtime-sized array"),
