@@ -109,7 +109,8 @@ impl Meaning {
 /// An integer from 0 on.
 pub(crate) fn natural(number: LiteralInstance) -> Option<u32> {
     match number {
-        LiteralInstance::AbstractInt(n) | LiteralInstance::I64(n) => u32::try_from(n).ok(),
+        LiteralInstance::AbstractInt(n) => u32::try_from(n).ok(),
+        LiteralInstance::I64(n) => u32::try_from(n).ok(),
         LiteralInstance::I32(n) => u32::try_from(n).ok(),
         LiteralInstance::U32(n) => Some(n),
         LiteralInstance::U64(n) => u32::try_from(n).ok(),
