@@ -15,13 +15,14 @@ struct Loop {
 
 const ZERO = 4 / (2 - 2);
 
-struct Counted {
-    a: array<u32, -1>,
-	b: vec2<Good>,
-}
-
 struct Needs {
     bad: Bad,
 }
+
+struct Tabbed {
+	a: vec5u,
+}
+
+struct Good { c: u32 }
 
 var<uniform> good: Good
