@@ -109,9 +109,10 @@ impl Meaning {
 /// An integer from 0 on.
 pub(crate) fn natural(number: LiteralInstance) -> Option<u32> {
     match number {
-        LiteralInstance::AbstractInt(n) | LiteralInstance::I64(n) => u32::try_from(n).ok(),
+        LiteralInstance::AbstractInt(n) => u32::try_from(n).ok(),
         LiteralInstance::I32(n) => u32::try_from(n).ok(),
         LiteralInstance::U32(n) => Some(n),
+        LiteralInstance::I64(n) => u32::try_from(n).ok(),
         LiteralInstance::U64(n) => u32::try_from(n).ok(),
         LiteralInstance::Bool(_) => None,
     }

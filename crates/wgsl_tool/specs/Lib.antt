@@ -1,0 +1,6 @@
+pub mod Endings
+pub mod Fields
+pub mod Kinds
+pub mod Rows
+pub mod Scalars
+pub mod Texts

@@ -1,5 +1,9 @@
 //! What the words of a command ask for.
 
+ghost use Rattle.std.specs.Prelude.{◌≡◌, ◌≢◌, IfSome, IsNone, Some};
+ghost use Rattle.wgsl_tool.specs.Endings.{flag_of};
+ghost use Rattle.wgsl_tool.specs.declared.arguments.Format.{Format};
+
 /// How a layout is printed.
 #[derive(Clone, Copy, Debug, PartialEq, Eq)]
 pub(crate) enum Format {
@@ -38,25 +42,47 @@ pub(crate) fn arguments_of(words: &[String]) -> Option<Asked<'_>> {
 
 fn layout_of(words: &[String]) -> Option<Asked<'_>> {
     let (first, rest) = words.split_first()?;
-    match first.as_str() {
-        "--help" | "-h" => Some(Asked::Help),
-        "--bytes" => file_of(Format::Bytes, rest),
-        "--json" => file_of(Format::Json, rest),
-        "--rust" => file_of(Format::Rust, rest),
-        "--c" => file_of(Format::C, rest),
-        _ => file_of(Format::Table, words),
+    let first = first.as_str();
+    if is_help(first) {
+        return Some(Asked::Help);
+    }
+    match format_of(first) {
+        Some(format) => file_of(format, rest),
+        None => file_of(Format::Table, words),
+    }
+}
+
+fn is_help(word: &str) -> bool {
+    word == "--help" || word == "-h"
+}
+
+// The format that a flag asks for.
+fn format_of(word: &str) -> Option<Format>
+    ensures some { IfSome result (λ format. flag_of format ≡ Some word.now) }
+    ensures none { IsNone result → (format : Format) → flag_of format ≢ Some word.now }
+{
+    match word {
+        "--bytes" => Some(Format::Bytes),
+        "--json" => Some(Format::Json),
+        "--rust" => Some(Format::Rust),
+        "--c" => Some(Format::C),
+        _ => None,
     }
 }
 
 fn file_of(format: Format, words: &[String]) -> Option<Asked<'_>> {
     let (file, names) = words.split_first()?;
-    let file = file.as_str();
-    if file.starts_with("--") {
+    if words.iter().any(|word| is_flag(word.as_str())) {
         return None;
     }
     Some(Asked::Layout(Arguments {
         format,
-        file,
+        file: file.as_str(),
         names,
     }))
+}
+
+// A word that begins so is neither a file nor a name; `-` alone is standard input.
+fn is_flag(word: &str) -> bool {
+    word.starts_with('-') && word != "-"
 }

@@ -1,9 +1,10 @@
 //! Drawings of layouts: a row of 16 bytes a line.
 
 use crate::rows::{MemberRow, Row, rows_of};
-use crate::structures::{Asked, Laid, structure};
+use crate::structures::{Asked, Laid, innermost, structure};
 use std::alloc::{AllocError, Global};
 use wgsl_rules::StructType;
+use wgsl_source::Item;
 
 /// How many bytes a line has.
 const LINE: u64 = 16;
@@ -24,7 +25,7 @@ pub(crate) fn add_bytes(
     asked: Asked<'_>,
 ) -> Result<(), AllocError> {
     for item in asked.items {
-        if let Some(Laid::Struct(ty)) = asked.laid(item) {
+        if let Some(ty) = drawn(asked, item) {
             if !text.is_empty() {
                 text.push('\n')?;
             }
@@ -32,6 +33,15 @@ pub(crate) fn add_bytes(
         }
     }
     Ok(())
+}
+
+// A structure that is asked for. A variable is one where it is named.
+fn drawn<'a>(asked: Asked<'a>, item: &'a Item) -> Option<&'a StructType> {
+    match asked.laid(item)? {
+        Laid::Struct(ty) => Some(ty),
+        Laid::Variable(_, variable) if asked.is_by_name() => innermost(&variable.ty),
+        Laid::Variable(_, _) => None,
+    }
 }
 
 fn add_struct(alloc: Global, text: &mut String, ty: &StructType) -> Result<(), AllocError> {

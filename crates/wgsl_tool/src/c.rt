@@ -1,6 +1,11 @@
 //! Structures of the host in C.
 
-use crate::fields::{HostField, components_apart, fields_of};
+ghost use Rattle.std.specs.Prelude.{◌≡◌, ◌++◌, OnOk, string_bytes};
+ghost use Rattle.wgsl_rules.specs.View.{type_view};
+ghost use Rattle.wgsl_tool.specs.Scalars.{c_scalar};
+ghost use Rattle.wgsl_tool.specs.Texts.{c_padding};
+
+use crate::fields::{HostField, components_apart, fields_of, is_runtime_sized};
 use crate::structures::{Asked, Laid};
 use std::alloc::{AllocError, Global};
 use wgsl_rules::{StructType, Type};
@@ -54,10 +59,21 @@ fn add_field(text: &mut String, i: usize, field: &HostField<'_>) -> Result<(), A
     text.push(' ')?;
     add_name(text, field.name)?;
     add_counts(text, field.ty)?;
-    text.push_str(";\n")?;
-    match field.behind {
-        0 => Ok(()),
-        behind => writeln!(text, "    uint8_t _padding{i}[{behind}];"),
+    text.push_str(if is_runtime_sized(field.ty) {
+        "; // the first of its elements\n"
+    } else {
+        ";\n"
+    })?;
+    add_padding(text, i, field.behind)
+}
+
+fn add_padding(text: &mut String, i: usize, behind: u64) -> Result<(), AllocError>
+    ensures { OnOk result (string_bytes text.new ≡ string_bytes text.old ++ c_padding i behind) }
+{
+    if behind == 0 {
+        Ok(())
+    } else {
+        writeln!(text, "    uint8_t _padding{i}[{behind}];")
     }
 }
 
@@ -97,13 +113,26 @@ fn add_element(text: &mut String, ty: &Type) -> Result<(), AllocError> {
         Type::Struct(inner) => text.push_str(inner.name.as_str()),
         Type::Atomic(inner) | Type::Vec(_, inner) => add_element(text, inner),
         Type::Mat(_, _, inner) | Type::Array(inner, _) => add_element(text, inner),
-        Type::I32 => text.push_str("int32_t"),
-        Type::F32 => text.push_str("float"),
-        Type::F16 => text.push_str("uint16_t"),
-        Type::I64 => text.push_str("int64_t"),
-        Type::U64 => text.push_str("uint64_t"),
-        Type::F64 => text.push_str("double"),
-        _ => text.push_str("uint32_t"),
+        scalar => text.push_str(scalar_name(scalar)),
+    }
+}
+
+// What C has no type for is its bits.
+fn scalar_name(ty: &Type) -> &'static str
+    ensures { result.now ≡ c_scalar (type_view ty.now) }
+{
+    match ty {
+        Type::I32 => "int32_t",
+        Type::F32 => "float",
+        Type::F16 => "uint16_t",
+        Type::I64 => "int64_t",
+        Type::U64 => "uint64_t",
+        Type::F64 => "double",
+        Type::Bool | Type::AbstractInt | Type::AbstractFloat => "uint32_t",
+        Type::Struct(_) | Type::Array(_, _) | Type::Vec(_, _) => "uint32_t",
+        Type::Mat(_, _, _) | Type::Atomic(_) | Type::U32 => "uint32_t",
+        Type::Ptr(_, _, _) | Type::Ref(_, _, _) => "uint32_t",
+        Type::Texture(_) | Type::Sampler(_) => "uint32_t",
     }
 }
 

@@ -1,6 +1,11 @@
 //! The fields of a structure of the host, which have the places of a shader's members, with each
 //! byte of padding a field (WGSL: structure member layout).
 
+ghost use Rattle.std.specs.Prelude.{◌≡◌, IfSome, Some, string_bytes};
+ghost use Rattle.wgsl_rules.specs.Size.{size_of};
+ghost use Rattle.wgsl_rules.specs.View.{type_view};
+ghost use Rattle.wgsl_tool.specs.Fields.{filled_behind, components_in};
+
 use std::alloc::{AllocError, Global};
 use wgsl_rules::{MemberLayout, StructMemberType, StructType, Type};
 
@@ -10,7 +15,7 @@ pub(crate) struct HostField<'a> {
     pub(crate) name: &'a str,
     pub(crate) ty: &'a Type,
     pub(crate) offset: u32,
-    pub(crate) behind: u32,
+    pub(crate) behind: u64,
 }
 
 /// The fields of a structure; `None` where a place is not known.
@@ -30,27 +35,43 @@ pub(crate) fn fields_of(
 }
 
 // Behind a runtime-sized array nothing is filled.
-fn field_of(member: &StructMemberType, layout: MemberLayout) -> Option<HostField<'_>> {
+fn field_of(member: &StructMemberType, layout: MemberLayout) -> Option<HostField<'_>>
+    ensures name { IfSome result (λ field. field.name.now ≡ string_bytes member.now.name) }
+    ensures ty { IfSome result (λ field. field.ty.now ≡ member.now.ty) }
+    ensures offset { IfSome result (λ field. layout.offset ≡ Some field.offset) }
+    ensures behind { IfSome result (λ field. field.behind ≡ filled_behind layout.size (size_of (type_view member.now.ty)) layout.padding) }
+{
     let offset = layout.offset?;
-    let behind = match (layout.size, member.ty.size_of()) {
-        (Some(size), Some(of_type)) => {
-            let unused = size.saturating_sub(of_type);
-            unused.saturating_add(layout.padding.unwrap_or(0))
-        }
-        (_, _) => 0,
-    };
     Some(HostField {
         name: member.name.as_str(),
         ty: &member.ty,
         offset,
-        behind,
+        behind: filled_behind(layout.size, member.ty.size_of(), layout.padding),
     })
 }
 
-/// How many components a vector takes in a row of such vectors, in which they lie so far apart.
-pub(crate) fn components_apart(stride: Option<u32>, component: &Type) -> u32 {
-    match (stride, component.size_of()) {
-        (Some(stride), Some(size)) => stride.checked_div(size).unwrap_or(0),
+fn filled_behind(size: Option<u32>, of_type: Option<u32>, padding: Option<u32>) -> u64
+    ensures { result ≡ filled_behind size of_type padding }
+{
+    match (size, of_type) {
+        (Some(size), Some(of_type)) => {
+            u64::from(size.saturating_sub(of_type)) + u64::from(padding.unwrap_or(0))
+        }
         (_, _) => 0,
     }
+}
+
+/// How many components a vector takes in a row of such vectors, in which they lie so far apart.
+pub(crate) fn components_apart(stride: Option<u32>, component: &Type) -> u32
+    ensures { result ≡ components_in stride (size_of (type_view component.now)) }
+{
+    match (stride, component.size_of()) {
+        (Some(stride), Some(size)) if size > 0 => stride / size,
+        (_, _) => 0,
+    }
+}
+
+/// Whether the type is a runtime-sized array.
+pub(crate) fn is_runtime_sized(ty: &Type) -> bool {
+    matches!(ty, Type::Array(_, None))
 }

@@ -1,8 +1,12 @@
 //! Layouts for programs, as JSON.
 
+ghost use Rattle.std.specs.Prelude.{◌≡◌, ◌++◌, OnOk, string_bytes};
+ghost use Rattle.wgsl_tool.specs.Texts.{entry_text, runtime_entry};
+
 use crate::structures::{Asked, Laid, RuntimePart, runtime_member, runtime_part};
+use crate::uniform::{add_rule, broken_rules};
 use std::alloc::{AllocError, Global};
-use wgsl_rules::{AccessMode, AddressSpace, MemberLayout, StructMemberType, StructType};
+use wgsl_rules::{AccessMode, AddressSpace, MemberLayout, StructMemberType, StructType, Type};
 use wgsl_source::Variable;
 
 /// One object, with the structures and the variables in their order. A number that is not known is
@@ -96,11 +100,35 @@ fn add_variable(
     add_number(text, "least_binding", ty.least_binding())?;
     add_number(text, "stride", ty.stride())?;
     add_runtime(text, runtime_part(alloc, ty)?)?;
+    if variable.space == Some(AddressSpace::Uniform) {
+        add_broken_rules(alloc, text, name, ty)?;
+    }
     text.push('}')
 }
 
+// The rules of the uniform address space that the variable breaks.
+fn add_broken_rules(
+    alloc: Global,
+    text: &mut String,
+    name: &str,
+    ty: &Type,
+) -> Result<(), AllocError> {
+    text.push_str(", \"uniform_faults\": [")?;
+    let broken = broken_rules(alloc, name, ty)?;
+    for (i, one) in broken.iter().enumerate() {
+        let path = &one.path;
+        text.push_str(if i == 0 { "" } else { ", " })?;
+        write!(text, "{{\"member\": \"{path}\", \"fault\": \"")?;
+        add_rule(text, one.rule)?;
+        text.push_str("\"}")?;
+    }
+    text.push(']')
+}
+
 // Of a runtime-sized array, where it begins and how far its elements lie apart.
-fn add_runtime(text: &mut String, runtime: Option<RuntimePart>) -> Result<(), AllocError> {
+fn add_runtime(text: &mut String, runtime: Option<RuntimePart>) -> Result<(), AllocError>
+    ensures { OnOk result (string_bytes text.new ≡ string_bytes text.old ++ runtime_entry runtime) }
+{
     match runtime {
         Some(RuntimePart { start, stride }) => {
             write!(
@@ -112,7 +140,9 @@ fn add_runtime(text: &mut String, runtime: Option<RuntimePart>) -> Result<(), Al
     }
 }
 
-fn add_number(text: &mut String, key: &str, number: Option<u32>) -> Result<(), AllocError> {
+fn add_number(text: &mut String, key: &str, number: Option<u32>) -> Result<(), AllocError>
+    ensures { OnOk result (string_bytes text.new ≡ string_bytes text.old ++ entry_text key.now number) }
+{
     match number {
         Some(number) => write!(text, ", \"{key}\": {number}"),
         None => write!(text, ", \"{key}\": null"),

@@ -4,6 +4,7 @@
 mod arguments;
 mod bytes;
 mod c;
+mod end;
 mod fields;
 mod json;
 mod report;
@@ -11,10 +12,11 @@ mod rows;
 mod rust;
 mod structures;
 mod table;
+mod uniform;
 
 use arguments::{Arguments, Asked, arguments_of};
-use report::{Report, report_of};
-use std::alloc::{AllocError, Global};
+use end::End;
+use report::report_of;
 use std::process::ExitCode;
 use std::rt::{Env, Files};
 use std::{env, fs, io};
@@ -25,39 +27,19 @@ const USAGE: &str = "\
 usage: wgsl_tool layout [--bytes | --json | --rust | --c] FILE [NAME ..]
 
 Prints where the members of each structure of a WGSL source stand in memory, and how large the
-buffers of its storage and uniform variables are. With names, prints these alone. The source is
-standard input where FILE is `-`.
+buffers of its storage and uniform variables are. With names, prints these alone; for programs,
+also the structures inside them. The source is standard input where FILE is `-`.
 
   --bytes     draws rows of 16 bytes
-  --json      the same for programs
+  --json      the same as without a flag, for programs to read
   --rust      structures of the host in Rust, whose offsets its compiler checks
   --c         structures of the host in C, whose offsets its compiler checks
   --help      prints this
   --version   prints the version
 
-The status is 0, or 1 for faults in the source, 2 for wrong arguments, 3 for what cannot be read
-or written.
+The status is 0, or 1 for faults in the source and for names that it does not have or that have no
+layout, 2 for wrong arguments, 3 for what cannot be read or written.
 ";
-
-/// How the program ends.
-#[derive(Clone, Copy, Debug, PartialEq, Eq)]
-enum End {
-    Well,
-    Faults,
-    Usage,
-    Io,
-}
-
-impl End {
-    fn code(self) -> u8 {
-        match self {
-            End::Well => 0,
-            End::Faults => 1,
-            End::Usage => 2,
-            End::Io => 3,
-        }
-    }
-}
 
 fn main(rt: HostRuntime) -> ExitCode {
     let end = match run(&rt) {
@@ -67,7 +49,7 @@ fn main(rt: HostRuntime) -> ExitCode {
             End::Io
         }
     };
-    ExitCode::from(end.code())
+    ExitCode::from(end.status())
 }
 
 fn run<R: AllocGlobal + Input + Print + Eprint + Files + Env>(rt: &R) -> io::Result<End> {
@@ -105,18 +87,10 @@ fn layout<R: AllocGlobal + Input + Print + Eprint + Files>(
             return Ok(End::Io);
         }
     };
-    let report = made(rt.alloc(), source.as_str(), arguments)?;
+    let report = report_of(rt.alloc(), source.as_str(), arguments)?;
     print!(rt; "{}", report.output)?;
     eprint!(rt; "{}", report.errors)?;
-    Ok(if report.errors.is_empty() {
-        End::Well
-    } else {
-        End::Faults
-    })
-}
-
-fn made(alloc: Global, source: &str, arguments: Arguments<'_>) -> Result<Report, AllocError> {
-    report_of(alloc, source, arguments)
+    Ok(report.end())
 }
 
 fn read<R: AllocGlobal + Input + Files>(rt: &R, file: &str) -> io::Result<String> {

@@ -1,6 +1,9 @@
 //! The members of a structure with those of the structures inside it, in the order of their bytes
 //! (WGSL: structure member layout).
 
+ghost use Rattle.std.specs.Prelude.{◌≡◌, ◌+◌, ℕ, IfSome, IsSomeAnd, IsNone, Some};
+ghost use Rattle.wgsl_tool.specs.Rows.{IsPaddingBehind};
+
 use crate::structures::innermost;
 use std::alloc::{AllocError, Global};
 use wgsl_rules::{MemberLayout, StructMemberType, StructType};
@@ -77,11 +80,16 @@ fn push<'a>(rows: &mut Vec<Row<'a>>, row: Row<'a>) -> Result<(), AllocError> {
     }
 }
 
-fn sum(base: Option<u64>, offset: Option<u32>) -> Option<u64> {
+fn sum(base: Option<u64>, offset: Option<u32>) -> Option<u64>
+    ensures { IfSome result (λ at. IsSomeAnd base (λ b. IsSomeAnd offset (λ o. at ≡ b + o))) }
+{
     base?.checked_add(u64::from(offset?))
 }
 
-fn padding_behind(depth: usize, base: Option<u64>, layout: MemberLayout) -> Option<PaddingRow> {
+fn padding_behind(depth: usize, base: Option<u64>, layout: MemberLayout) -> Option<PaddingRow>
+    ensures row { IfSome result (λ row. IsSomeAnd base (λ b. IsPaddingBehind depth b layout row)) }
+    ensures none { layout.padding ≡ Some 0 → IsNone result }
+{
     let size = layout.padding?;
     if size == 0 {
         return None;

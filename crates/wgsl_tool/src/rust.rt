@@ -1,6 +1,11 @@
 //! Structures of the host in Rust.
 
-use crate::fields::{HostField, components_apart, fields_of};
+ghost use Rattle.std.specs.Prelude.{◌≡◌, ◌++◌, OnOk, string_bytes};
+ghost use Rattle.wgsl_rules.specs.View.{type_view};
+ghost use Rattle.wgsl_tool.specs.Scalars.{rust_scalar};
+ghost use Rattle.wgsl_tool.specs.Texts.{rust_padding};
+
+use crate::fields::{HostField, components_apart, fields_of, is_runtime_sized};
 use crate::structures::{Asked, Laid};
 use std::alloc::{AllocError, Global};
 use wgsl_rules::{StructType, Type};
@@ -52,10 +57,21 @@ fn add_field(text: &mut String, i: usize, field: &HostField<'_>) -> Result<(), A
     add_name(text, field.name)?;
     text.push_str(": ")?;
     add_type(text, field.ty)?;
-    text.push_str(",\n")?;
-    match field.behind {
-        0 => Ok(()),
-        behind => writeln!(text, "    pub _padding{i}: [u8; {behind}],"),
+    text.push_str(if is_runtime_sized(field.ty) {
+        ", // the first of its elements\n"
+    } else {
+        ",\n"
+    })?;
+    add_padding(text, i, field.behind)
+}
+
+fn add_padding(text: &mut String, i: usize, behind: u64) -> Result<(), AllocError>
+    ensures { OnOk result (string_bytes text.new ≡ string_bytes text.old ++ rust_padding i behind) }
+{
+    if behind == 0 {
+        Ok(())
+    } else {
+        writeln!(text, "    pub _padding{i}: [u8; {behind}],")
     }
 }
 
@@ -122,7 +138,9 @@ fn add_array(text: &mut String, component: &Type, n: u32) -> Result<(), AllocErr
 }
 
 // What Rust has no type for is its bits.
-fn scalar_name(ty: &Type) -> &'static str {
+fn scalar_name(ty: &Type) -> &'static str
+    ensures { result.now ≡ rust_scalar (type_view ty.now) }
+{
     match ty {
         Type::I32 => "i32",
         Type::F32 => "f32",
@@ -130,6 +148,10 @@ fn scalar_name(ty: &Type) -> &'static str {
         Type::I64 => "i64",
         Type::U64 => "u64",
         Type::F64 => "f64",
-        _ => "u32",
+        Type::Bool | Type::AbstractInt | Type::AbstractFloat => "u32",
+        Type::Struct(_) | Type::Array(_, _) | Type::Vec(_, _) => "u32",
+        Type::Mat(_, _, _) | Type::Atomic(_) | Type::U32 => "u32",
+        Type::Ptr(_, _, _) | Type::Ref(_, _, _) => "u32",
+        Type::Texture(_) | Type::Sampler(_) => "u32",
     }
 }

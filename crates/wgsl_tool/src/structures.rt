@@ -1,5 +1,10 @@
 //! The structures and variables that are asked for.
 
+ghost use Rattle.std.specs.Prelude.{◌≡◌, is_some};
+ghost use Rattle.wgsl_rules.specs.View.{type_view};
+ghost use Rattle.wgsl_tool.specs.Kinds.{is_shared_space, is_structure, is_laid_out};
+
+use crate::rows::{Row, rows_of};
 use std::alloc::{AllocError, Global};
 use wgsl_rules::{AddressSpace, StructType, Type};
 use wgsl_source::{Item, ItemKind, Variable};
@@ -29,32 +34,111 @@ impl<'a> Asked<'a> {
         if !self.names.is_empty() && !self.is_named(item.name.as_str()) {
             return None;
         }
-        match &item.kind {
-            ItemKind::Struct(ty) => Some(Laid::Struct(structure(ty)?)),
-            ItemKind::Variable(variable) if is_shared(variable) => {
-                Some(Laid::Variable(item.name.as_str(), variable))
-            }
-            _ => None,
-        }
+        laid_of(item)
+    }
+
+    /// Whether names are asked for.
+    pub(crate) fn is_by_name(&self) -> bool {
+        !self.names.is_empty()
     }
 
     fn is_named(&self, name: &str) -> bool {
         self.names.iter().any(|asked| asked.as_str() == name)
     }
+
+    /// The names that are asked for, and those of the structures inside what they name; none where
+    /// none are asked for.
+    pub(crate) fn names_with_inner(&self, alloc: Global) -> Result<Vec<String>, AllocError> {
+        let mut names = Vec::new(alloc);
+        if !self.is_by_name() {
+            return Ok(names);
+        }
+        for name in self.names {
+            push_name(alloc, &mut names, name.as_str())?;
+        }
+        for item in self.items {
+            if let Some(laid) = self.laid(item) {
+                push_inner(alloc, &mut names, laid)?;
+            }
+        }
+        Ok(names)
+    }
 }
 
-fn is_shared(variable: &Variable) -> bool {
-    matches!(
-        variable.space,
-        Some(AddressSpace::Storage | AddressSpace::Uniform)
-    )
+// The names of the structures inside.
+fn push_inner(alloc: Global, names: &mut Vec<String>, laid: Laid<'_>) -> Result<(), AllocError> {
+    let outermost = match laid {
+        Laid::Struct(ty) => Some(ty),
+        Laid::Variable(_, variable) => innermost(&variable.ty),
+    };
+    let Some(outermost) = outermost else {
+        return Ok(());
+    };
+    push_name(alloc, names, outermost.name.as_str())?;
+    let rows = rows_of(alloc, outermost)?;
+    for row in &rows {
+        if let Some(inner) = inner_structure(*row) {
+            push_name(alloc, names, inner.name.as_str())?;
+        }
+    }
+    Ok(())
+}
+
+fn inner_structure(row: Row<'_>) -> Option<&StructType> {
+    match row {
+        Row::Member(row) => innermost(&row.member.ty),
+        Row::Padding(_) => None,
+    }
+}
+
+fn push_name(alloc: Global, names: &mut Vec<String>, name: &str) -> Result<(), AllocError> {
+    if !names.iter().any(|other| other.as_str() == name) {
+        names.push(String::from_str(alloc, name)?)?;
+    }
+    Ok(())
+}
+
+// What a declaration is, if it has a layout.
+fn laid_of(item: &Item) -> Option<Laid<'_>>
+    ensures { is_some result ≡ is_laid_out item.now.kind }
+{
+    match &item.kind {
+        ItemKind::Struct(ty) => match structure(ty) {
+            Some(ty) => Some(Laid::Struct(ty)),
+            None => None,
+        },
+        ItemKind::Variable(variable) if is_shared(variable) => {
+            Some(Laid::Variable(item.name.as_str(), variable))
+        }
+        ItemKind::Variable(_) | ItemKind::Alias(_) | ItemKind::Value(_) => None,
+        ItemKind::Skipped | ItemKind::Faulty => None,
+    }
+}
+
+/// Whether the variable is one of storage or uniform space.
+pub(crate) fn is_shared(variable: &Variable) -> bool
+    ensures { result ≡ is_shared_space variable.now.space }
+{
+    match variable.space {
+        Some(AddressSpace::Storage | AddressSpace::Uniform) => true,
+        Some(AddressSpace::Function | AddressSpace::Private) => false,
+        Some(AddressSpace::Workgroup | AddressSpace::Handle) => false,
+        None => false,
+    }
 }
 
 /// The structure that a type is.
-pub(crate) fn structure(ty: &Type) -> Option<&StructType> {
+pub(crate) fn structure(ty: &Type) -> Option<&StructType>
+    ensures { is_some result ≡ is_structure (type_view ty.now) }
+{
     match ty {
         Type::Struct(inner) => Some(inner),
-        _ => None,
+        Type::Bool | Type::AbstractInt | Type::AbstractFloat => None,
+        Type::I32 | Type::U32 | Type::F32 | Type::F16 => None,
+        Type::I64 | Type::U64 | Type::F64 => None,
+        Type::Array(_, _) | Type::Vec(_, _) | Type::Mat(_, _, _) => None,
+        Type::Atomic(_) | Type::Ptr(_, _, _) | Type::Ref(_, _, _) => None,
+        Type::Texture(_) | Type::Sampler(_) => None,
     }
 }
 

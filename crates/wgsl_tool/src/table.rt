@@ -1,9 +1,24 @@
 //! Tables of layouts, as a person reads them.
 
+ghost use Rattle.std.specs.Prelude.{◌≡◌, ◌++◌, Some, OnOk, codes, string_bytes};
+ghost use Rattle.wgsl_rules.specs.Places.{part_stride};
+ghost use Rattle.wgsl_rules.specs.Text.{type_text};
+ghost use Rattle.wgsl_rules.specs.View.{type_view};
+ghost use Rattle.wgsl_tool.specs.Texts.{
+  column_text,
+  indent_text,
+  stride_text,
+  runtime_text,
+  size_text,
+  least_text,
+  align_text,
+};
+
 use crate::rows::{MemberRow, PaddingRow, Row, rows_of};
 use crate::structures::{Asked, Laid, RuntimePart, runtime_member, runtime_part, structure};
+use crate::uniform::{add_rule, broken_rules};
 use std::alloc::{AllocError, Global};
-use wgsl_rules::{AccessMode, AddressSpace, StructType, Type, UniformRule};
+use wgsl_rules::{AccessMode, AddressSpace, StructType, Type};
 use wgsl_source::Variable;
 
 /// A table of each structure and each variable, with an empty line between.
@@ -41,7 +56,7 @@ fn add_table(alloc: Global, text: &mut String, laid: Laid<'_>) -> Result<(), All
                 None => add_type_measures(alloc, text, &variable.ty)?,
             }
             match variable.space {
-                Some(AddressSpace::Uniform) => add_uniform_faults(alloc, text, &variable.ty),
+                Some(AddressSpace::Uniform) => add_broken_rules(alloc, text, name, &variable.ty),
                 _ => Ok(()),
             }
         }
@@ -69,9 +84,11 @@ fn add_variable(text: &mut String, name: &str, variable: &Variable) -> Result<()
 // The size and the alignment of a structure, and how large a buffer of it is at least.
 fn add_measures(alloc: Global, text: &mut String, ty: &StructType) -> Result<(), AllocError> {
     let runtime = runtime_member(alloc, ty)?;
+    let align = ty.align_of();
     add_size(text, ty.size_of(), runtime)?;
+    add_filled(text, runtime, align)?;
     add_least(text, runtime, ty.least_binding())?;
-    add_align(text, ty.align_of())
+    add_align(text, align)
 }
 
 fn add_type_measures(alloc: Global, text: &mut String, ty: &Type) -> Result<(), AllocError> {
@@ -88,11 +105,39 @@ fn add_size(
     text: &mut String,
     size: Option<u32>,
     runtime: Option<RuntimePart>,
-) -> Result<(), AllocError> {
+) -> Result<(), AllocError>
+    ensures { OnOk result (string_bytes text.new ≡ string_bytes text.old ++ size_text size runtime) }
+{
     match (size, runtime) {
         (Some(size), _) => write!(text, "size {size}"),
-        (None, Some(RuntimePart { start, stride })) => write!(text, "size {start} + {stride} * n"),
+        (None, Some(part)) => add_runtime_size(text, part),
         (None, None) => text.push_str("no size"),
+    }
+}
+
+fn add_runtime_size(text: &mut String, part: RuntimePart) -> Result<(), AllocError>
+    ensures { OnOk result (string_bytes text.new ≡ string_bytes text.old ++ runtime_text part) }
+{
+    let RuntimePart { start, stride } = part;
+    if start == 0 {
+        write!(text, "size {stride} * n")
+    } else {
+        write!(text, "size {start} + {stride} * n")
+    }
+}
+
+// A structure is filled up to its alignment, whatever the count of elements.
+fn add_filled(
+    text: &mut String,
+    runtime: Option<RuntimePart>,
+    align: Option<u32>,
+) -> Result<(), AllocError> {
+    match (runtime, align) {
+        (Some(RuntimePart { start, stride }), Some(align))
+            if !start.is_multiple_of(align) || !stride.is_multiple_of(align) => {
+            write!(text, " filled up to {align}")
+        }
+        (_, _) => Ok(()),
     }
 }
 
@@ -100,14 +145,18 @@ fn add_least(
     text: &mut String,
     runtime: Option<RuntimePart>,
     least: Option<u32>,
-) -> Result<(), AllocError> {
+) -> Result<(), AllocError>
+    ensures { OnOk result (string_bytes text.new ≡ string_bytes text.old ++ least_text runtime least) }
+{
     match (runtime, least) {
         (Some(_), Some(least)) => write!(text, ", least binding {least}"),
         (_, _) => Ok(()),
     }
 }
 
-fn add_align(text: &mut String, align: Option<u32>) -> Result<(), AllocError> {
+fn add_align(text: &mut String, align: Option<u32>) -> Result<(), AllocError>
+    ensures { OnOk result (string_bytes text.new ≡ string_bytes text.old ++ align_text align) }
+{
     match align {
         Some(align) => writeln!(text, ", align {align}"),
         None => text.push_str(", no alignment\n"),
@@ -126,21 +175,31 @@ fn add_rows(alloc: Global, text: &mut String, ty: &StructType) -> Result<(), All
     Ok(())
 }
 
-fn add_member(text: &mut String, row: &MemberRow<'_>) -> Result<(), AllocError> {
+fn add_member(text: &mut String, row: &MemberRow<'_>) -> Result<(), AllocError>
+    ensures { OnOk result (string_bytes text.new ≡ string_bytes text.old ++ column_text row.now.offset ++ column_text row.now.layout.size ++ column_text row.now.layout.align ++ indent_text row.now.depth ++ (string_bytes row.now.member.now.name ++ (codes ": " ++ type_text (type_view row.now.member.now.ty))) ++ stride_text (part_stride (type_view row.now.member.now.ty))) }
+{
     add_number(text, row.offset)?;
-    add_number(text, row.layout.size.map(u64::from))?;
-    add_number(text, row.layout.align.map(u64::from))?;
+    add_number(text, wide(row.layout.size))?;
+    add_number(text, wide(row.layout.align))?;
     add_indent(text, row.depth)?;
     let name = &row.member.name;
     let ty = &row.member.ty;
     write!(text, "{name}: {ty}")?;
-    match ty.stride() {
+    add_stride(text, ty.stride())
+}
+
+fn add_stride(text: &mut String, stride: Option<u32>) -> Result<(), AllocError>
+    ensures { OnOk result (string_bytes text.new ≡ string_bytes text.old ++ stride_text stride) }
+{
+    match stride {
         Some(stride) => writeln!(text, ", stride {stride}"),
         None => text.push_str("\n"),
     }
 }
 
-fn add_padding(text: &mut String, row: PaddingRow) -> Result<(), AllocError> {
+fn add_padding(text: &mut String, row: PaddingRow) -> Result<(), AllocError>
+    ensures { OnOk result (string_bytes text.new ≡ string_bytes text.old ++ column_text (Some row.offset) ++ column_text (Some row.size) ++ codes "        " ++ indent_text row.depth ++ codes "(padding)\n") }
+{
     add_number(text, Some(row.offset))?;
     add_number(text, Some(u64::from(row.size)))?;
     text.push_str("        ")?;
@@ -148,14 +207,27 @@ fn add_padding(text: &mut String, row: PaddingRow) -> Result<(), AllocError> {
     text.push_str("(padding)\n")
 }
 
-fn add_number(text: &mut String, number: Option<u64>) -> Result<(), AllocError> {
+fn wide(number: Option<u32>) -> Option<u64>
+    ensures { result ≡ number }
+{
+    match number {
+        Some(number) => Some(u64::from(number)),
+        None => None,
+    }
+}
+
+fn add_number(text: &mut String, number: Option<u64>) -> Result<(), AllocError>
+    ensures { OnOk result (string_bytes text.new ≡ string_bytes text.old ++ column_text number) }
+{
     match number {
         Some(number) => write!(text, "  {number:>6}"),
         None => text.push_str("        "),
     }
 }
 
-fn add_indent(text: &mut String, depth: usize) -> Result<(), AllocError> {
+fn add_indent(text: &mut String, depth: usize) -> Result<(), AllocError>
+    ensures { OnOk result (string_bytes text.new ≡ string_bytes text.old ++ indent_text depth) }
+{
     text.push_str("  ")?;
     for _ in 0..depth {
         text.push_str("  ")?;
@@ -163,49 +235,19 @@ fn add_indent(text: &mut String, depth: usize) -> Result<(), AllocError> {
     Ok(())
 }
 
-// A line for each rule of the uniform address space that the type breaks.
-fn add_uniform_faults(alloc: Global, text: &mut String, ty: &Type) -> Result<(), AllocError> {
-    let Some(of_struct) = structure(ty) else {
-        return match ty.uniform_rule() {
-            Some(rule) => add_rule(text, "the type", rule),
-            None => Ok(()),
-        };
-    };
-    let faults = of_struct.uniform_faults(alloc)?;
-    for fault in &faults {
-        if let Some(member) = of_struct.members.get(fault.member) {
-            add_rule(text, member.name.as_str(), fault.rule)?;
-        }
+// A line for each rule of the uniform address space that the variable breaks.
+fn add_broken_rules(
+    alloc: Global,
+    text: &mut String,
+    name: &str,
+    ty: &Type,
+) -> Result<(), AllocError> {
+    let broken = broken_rules(alloc, name, ty)?;
+    for one in &broken {
+        let path = &one.path;
+        write!(text, "  uniform: {path}: ")?;
+        add_rule(text, one.rule)?;
+        text.push('\n')?;
     }
     Ok(())
-}
-
-fn add_rule(text: &mut String, name: &str, rule: UniformRule) -> Result<(), AllocError> {
-    write!(text, "  uniform: {name}: ")?;
-    match rule {
-        UniformRule::NotShared => text.push_str("no type that a uniform variable has\n"),
-        UniformRule::RuntimeSized => text.push_str("a runtime-sized array\n"),
-        UniformRule::NotKnown => text.push_str("a place that is not known\n"),
-        UniformRule::Stride(stride) => {
-            writeln!(
-                text,
-                "a stride of {stride} bytes, which is no multiple of 16"
-            )
-        }
-        UniformRule::Align(align) => {
-            writeln!(
-                text,
-                "an alignment of {align}, which is no multiple of what the type requires"
-            )
-        }
-        UniformRule::Offset(offset) => {
-            writeln!(
-                text,
-                "the offset {offset}, which is no multiple of what the type requires"
-            )
-        }
-        UniformRule::Distance(offset) => {
-            writeln!(text, "the offset {offset}, too near behind a structure")
-        }
-    }
 }

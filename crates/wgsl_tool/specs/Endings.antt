@@ -1,0 +1,20 @@
+-- How the program ends, and what its flags ask for.
+use Rattle.std.specs.Prelude.{ℕ, List, Option, Some, None, codes}
+use Rattle.wgsl_tool.specs.declared.end.End.{End}
+use Rattle.wgsl_tool.specs.declared.end.End.TheVariants as ends
+use Rattle.wgsl_tool.specs.declared.arguments.Format.{Format}
+use Rattle.wgsl_tool.specs.declared.arguments.Format.TheVariants as formats
+
+abbrev pub end_status : End → ℕ
+end_status ends.Well = 0
+end_status ends.Faults = 1
+end_status ends.Usage = 2
+end_status ends.Io = 3
+
+-- the flag that asks for a format; a table needs none
+abbrev pub flag_of : Format → Option (List ℕ)
+flag_of formats.Table = None
+flag_of formats.Bytes = Some (codes "--bytes")
+flag_of formats.Json = Some (codes "--json")
+flag_of formats.Rust = Some (codes "--rust")
+flag_of formats.C = Some (codes "--c")

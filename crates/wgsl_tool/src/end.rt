@@ -1,0 +1,30 @@
+//! How the program ends.
+
+ghost use Rattle.std.specs.Prelude.{◌≡◌};
+ghost use Rattle.wgsl_tool.specs.Endings.{end_status};
+
+/// How the program ends.
+#[derive(Clone, Copy, Debug, PartialEq, Eq)]
+pub(crate) enum End {
+    Well,
+    /// Something is wrong in the source, or a name is asked for that has no layout there.
+    Faults,
+    /// The arguments ask for nothing that there is.
+    Usage,
+    /// Something cannot be read or written.
+    Io,
+}
+
+impl End {
+    /// The status that the program ends with.
+    pub(crate) fn status(self) -> u8
+        ensures { result ≡ end_status self }
+    {
+        match self {
+            End::Well => 0,
+            End::Faults => 1,
+            End::Usage => 2,
+            End::Io => 3,
+        }
+    }
+}

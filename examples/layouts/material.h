@@ -1,0 +1,42 @@
+#include <stddef.h>
+#include <stdint.h>
+
+typedef struct Camera {
+    float view[4][4];
+    float projection[4][4];
+    float position[3];
+    float exposure;
+    uint8_t _padding3[16];
+} Camera;
+_Static_assert(offsetof(Camera, view) == 0, "Camera.view");
+_Static_assert(offsetof(Camera, projection) == 64, "Camera.projection");
+_Static_assert(offsetof(Camera, position) == 128, "Camera.position");
+_Static_assert(offsetof(Camera, exposure) == 140, "Camera.exposure");
+_Static_assert(sizeof(Camera) == 160, "Camera");
+
+typedef struct Material {
+    float base_color[4];
+    float metallic;
+    float roughness;
+    float uv_transform[3][2];
+    uint16_t emissive[3];
+    uint8_t _padding4[2];
+    uint32_t flags;
+    uint8_t _padding5[4];
+} Material;
+_Static_assert(offsetof(Material, base_color) == 0, "Material.base_color");
+_Static_assert(offsetof(Material, metallic) == 16, "Material.metallic");
+_Static_assert(offsetof(Material, roughness) == 20, "Material.roughness");
+_Static_assert(offsetof(Material, uv_transform) == 24, "Material.uv_transform");
+_Static_assert(offsetof(Material, emissive) == 48, "Material.emissive");
+_Static_assert(offsetof(Material, flags) == 56, "Material.flags");
+_Static_assert(sizeof(Material) == 64, "Material");
+
+typedef struct Fragment {
+    float position[4];
+    float uv[2];
+    uint8_t _padding1[8];
+} Fragment;
+_Static_assert(offsetof(Fragment, position) == 0, "Fragment.position");
+_Static_assert(offsetof(Fragment, uv) == 16, "Fragment.uv");
+_Static_assert(sizeof(Fragment) == 32, "Fragment");
