@@ -1,5 +1,7 @@
 //! What sources declare.
 
 mod declarations;
+mod expressions;
 mod faults;
+mod reasons;
 mod texts;

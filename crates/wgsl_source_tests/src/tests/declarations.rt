@@ -33,7 +33,7 @@ const ROWS: [(&str, &str); 25] = [
     ),
     ("const N = (2 + 3) * 4 - 1;", "N = 19"),
     (
-        "const N = 1 << 4 | 3; const M = 0x1Fu & 0x18u;",
+        "const N = (1 << 4) | 3; const M = 0x1Fu & 0x18u;",
         "N = 19; M = 24u",
     ),
     ("const N = 7 / 2 % 2; const M = -3 - -4;", "N = 1; M = 1"),
