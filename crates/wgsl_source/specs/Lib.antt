@@ -1,2 +1,5 @@
+pub mod Cursors
+pub mod Names
+pub mod Numbers
 pub mod Operators
 pub mod Texts

@@ -1,6 +1,6 @@
 //! What is wrong in a source.
 
-ghost use Rattle.std.specs.Prelude.{Some};
+ghost use Rattle.std.specs.Prelude.{◌≡◌, ◌≤◌, [], ◌∷◌, ◌++◌, nat_lt, if◌then◌else◌, Some, IfOk, OnOk, OnErr, vec_len};
 ghost use Rattle.wgsl_source.specs.Texts.{expected_text, reason_text};
 
 use std::alloc::{AllocError, Global};
@@ -128,6 +128,7 @@ const FAULTS: usize = 100;
 #[derive(Drop)]
 pub(crate) struct Faults {
     faults: Vec<Fault>,
+    ghost bounded: { vec_len faults ≤ 100 },
 }
 
 impl Faults {
@@ -138,7 +139,11 @@ impl Faults {
     }
 
     /// One more, where there are not too many.
-    pub(crate) fn add(&mut self, fault: Fault) -> Result<(), AllocError> {
+    pub(crate) fn add(&mut self, fault: Fault) -> Result<(), AllocError>
+        ensures ok { OnOk result (self.new.faults.items ≡
+            (if nat_lt (vec_len self.old.faults) 100 then self.old.faults.items ++ fault ∷ [] else self.old.faults.items)) }
+        ensures err { OnErr result (self.new.faults.items ≡ self.old.faults.items) }
+    {
         if self.faults.len() < FAULTS {
             self.faults.push(fault)?;
         }
@@ -146,7 +151,9 @@ impl Faults {
     }
 
     /// All of them, as they stand in the source.
-    pub(crate) fn into_sorted(self) -> Result<Vec<Fault>, AllocError> {
+    pub(crate) fn into_sorted(self) -> Result<Vec<Fault>, AllocError>
+        ensures { IfOk result (λ faults. vec_len faults ≤ 100) }
+    {
         let mut faults = self.faults;
         faults.sort_by_key(|fault| fault.start)?;
         Ok(faults)

@@ -1,5 +1,10 @@
 //! The numbers that a source writes (WGSL: numeric literals).
 
+ghost use Rattle.std.specs.Prelude.{◌≡◌, ◌++◌};
+ghost use Rattle.std.specs.Option.{option_map};
+ghost use Rattle.wgsl_scalar.specs.Literals.{literal_of as value_of};
+ghost use Rattle.wgsl_source.specs.Numbers.{suffix_text, number_in, Reads, ReadsDecimal};
+
 use wgsl_scalar::LiteralInstance;
 
 /// What a numeric literal is.
@@ -52,7 +57,9 @@ fn hexadecimal(text: &str) -> Option<&str> {
     }
 }
 
-fn split_suffix(text: &str) -> (&str, Suffix) {
+fn split_suffix(text: &str) -> (&str, Suffix)
+    ensures { text.now ≡ result.0.now ++ suffix_text result.1 }
+{
     if let Some(digits) = text.strip_suffix("li") {
         return (digits, Suffix::I64);
     }
@@ -68,18 +75,34 @@ fn split_suffix(text: &str) -> (&str, Suffix) {
     }
 }
 
-// A decimal number of more than one digit does not begin with 0.
 fn number_of(digits: &str) -> Option<u64> {
     match hexadecimal(digits) {
-        Some(digits) => u64::from_str_radix(digits, 16).ok(),
-        None if digits.len() > 1 && digits.starts_with('0') => None,
-        None => digits.parse().ok(),
+        Some(digits) => hexadecimal_number(digits),
+        None => decimal_number(digits),
     }
+}
+
+fn hexadecimal_number(digits: &str) -> Option<u64>
+    ensures { Reads 16 digits.now result }
+{
+    u64::from_str_radix(digits, 16).ok()
+}
+
+// A number of more than one digit does not begin with 0.
+fn decimal_number(digits: &str) -> Option<u64>
+    ensures { ReadsDecimal digits.now result }
+{
+    if digits.len() > 1 && digits.starts_with('0') {
+        return None;
+    }
+    digits.parse().ok()
 }
 
 impl Suffix {
     // The number of the kind, where it is one.
-    fn literal(self, number: u64) -> Option<LiteralInstance> {
+    fn literal(self, number: u64) -> Option<LiteralInstance>
+        ensures { option_map value_of result ≡ number_in self number }
+    {
         match self {
             Suffix::None => Some(LiteralInstance::AbstractInt(i64::try_from(number).ok()?)),
             Suffix::I32 => Some(LiteralInstance::I32(i32::try_from(number).ok()?)),
