@@ -47,7 +47,7 @@ pub enum Reason {
     TooDeep,
     /// Nothing has the name.
     UnknownName,
-    /// Another declaration, or another member, has the name.
+    /// Another declaration, member or attribute has the name.
     DuplicateName,
     /// A declaration needs itself.
     ContainsItself,

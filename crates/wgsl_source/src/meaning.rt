@@ -110,9 +110,9 @@ impl Meaning {
 pub(crate) fn natural(number: LiteralInstance) -> Option<u32> {
     match number {
         LiteralInstance::AbstractInt(n) => u32::try_from(n).ok(),
+        LiteralInstance::I64(n) => u32::try_from(n).ok(),
         LiteralInstance::I32(n) => u32::try_from(n).ok(),
         LiteralInstance::U32(n) => Some(n),
-        LiteralInstance::I64(n) => u32::try_from(n).ok(),
         LiteralInstance::U64(n) => u32::try_from(n).ok(),
         LiteralInstance::Bool(_) => None,
     }

@@ -140,10 +140,11 @@ impl Resolver<'_> {
         };
         match declared.kind {
             Kind::Struct { first, end } => self.structure(declared.name, first, end),
-            Kind::Alias(span) => self.expression(span),
-            Kind::Value(ty, value) => self.value(declared.name, ty, value),
+            Kind::Alias(span) => self.ty(span),
+            Kind::Constant(ty, value) => self.value(declared.name, ty, value),
+            Kind::Override(ty, value) => self.overridden(declared.name, ty, value),
             Kind::Variable(variable) => match variable.ty {
-                Some(span) => self.expression(span),
+                Some(span) => self.ty(span),
                 None => Ok(Meaning::Other(declared.name)),
             },
             Kind::Function => Ok(Meaning::Other(declared.name)),
@@ -217,11 +218,35 @@ impl Resolver<'_> {
         }
     }
 
-    fn value(&self, name: usize, ty: Option<Span>, value: Option<Span>) -> Result<Meaning, Stop> {
+    // What a type stands for.
+    fn ty(&self, span: Span) -> Result<Meaning, Stop> {
+        match self.expression(span)? {
+            Meaning::Number(_) => Err(self.fault(span.token, Reason::NotType)),
+            meaning => Ok(meaning),
+        }
+    }
+
+    // A host may give another value than the one by default, so that none is known.
+    fn overridden(
+        &self,
+        name: usize,
+        ty: Option<Span>,
+        value: Option<Span>,
+    ) -> Result<Meaning, Stop> {
         let Some(value) = value else {
             return Ok(Meaning::Other(name));
         };
-        let meaning = self.expression(value)?;
+        match self.value(name, ty, value)? {
+            Meaning::Faulty => Ok(Meaning::Faulty),
+            _ => Ok(Meaning::Other(name)),
+        }
+    }
+
+    fn value(&self, name: usize, ty: Option<Span>, value: Span) -> Result<Meaning, Stop> {
+        let meaning = match self.expression(value)? {
+            Meaning::Type(_) => return Err(self.fault(value.token, Reason::NotNumber)),
+            meaning => meaning,
+        };
         let Some(ty) = ty else {
             return Ok(meaning);
         };
