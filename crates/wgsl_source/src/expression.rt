@@ -265,8 +265,8 @@ impl<'a> Expressions<'a> {
 
     fn begin(&mut self, open: Open) -> Result<Next, Stop> {
         if self.open.len() >= DEPTH {
-            let at = self.cursor.position();
-            return Err(self.cursor.fault_at(at, Reason::TooDeep).into());
+            let bracket = self.cursor.position().saturating_sub(1);
+            return Err(self.cursor.fault_at(bracket, Reason::TooDeep).into());
         }
         push_open(&mut self.open, open)?;
         Ok(Next::Operand)

@@ -1,5 +1,8 @@
 //! What is wrong in a source.
 
+ghost use Rattle.std.specs.Prelude.{Some};
+ghost use Rattle.wgsl_source.specs.Texts.{expected_text, reason_text};
+
 use std::alloc::{AllocError, Global};
 use std::fmt;
 
@@ -23,6 +26,8 @@ pub enum Expected {
 }
 
 impl fmt::Display for Expected {
+    ghost output = { λ expected. Some (expected_text expected) };
+
     fn fmt<W: fmt::Write>(&self, f: &mut fmt::Formatter<W>) -> fmt::Result {
         match self {
             Expected::Declaration => f.write_str("a declaration"),
@@ -80,6 +85,8 @@ pub enum Reason {
 }
 
 impl fmt::Display for Reason {
+    ghost output = { λ reason. Some (reason_text reason) };
+
     fn fmt<W: fmt::Write>(&self, f: &mut fmt::Formatter<W>) -> fmt::Result {
         match self {
             Reason::Expected(expected) => write!(f, "expected {expected}"),
@@ -94,7 +101,7 @@ impl fmt::Display for Reason {
             Reason::Component => f.write_str("this is no type of a component here"),
             Reason::Count => f.write_str("a count is from 1 to 4294967295"),
             Reason::Attribute => f.write_str("an attribute is from 0 to 4294967295"),
-            Reason::Literal => f.write_str("this number is too large for its kind"),
+            Reason::Literal => f.write_str("this is no number of its kind"),
             Reason::Conversion => f.write_str("this value is none of the type"),
             Reason::Operands => f.write_str("the operator does not take these operands"),
             Reason::Overflow => f.write_str("the answer is too large for its kind"),

@@ -120,8 +120,21 @@ fn blank_len(rest: &[u8]) -> usize {
 
 /// A comment as far as its line goes.
 fn line_comment_len(rest: &[u8]) -> usize {
-    let is_end = |byte: &u8| matches!(*byte, b'\n' | 0x0b | 0x0c | b'\r');
-    rest.iter().position(is_end).unwrap_or(rest.len())
+    for at in 0..rest.len() {
+        if begins_line_break(&rest[at..]) {
+            return at;
+        }
+    }
+    rest.len()
+}
+
+// Line feed, vertical tab, form feed, carriage return, the next line, and the separators of lines
+// and of paragraphs (WGSL: blankspace and line breaks).
+fn begins_line_break(rest: &[u8]) -> bool {
+    matches!(
+        rest,
+        [b'\n' | 0x0b | 0x0c | b'\r', ..] | [0xc2, 0x85, ..] | [0xe2, 0x80, 0xa8 | 0xa9, ..]
+    )
 }
 
 /// A comment with those inside it, up to its `*/`; `None` where it has no end.

@@ -68,9 +68,11 @@ fn split_suffix(text: &str) -> (&str, Suffix) {
     }
 }
 
+// A decimal number of more than one digit does not begin with 0.
 fn number_of(digits: &str) -> Option<u64> {
     match hexadecimal(digits) {
         Some(digits) => u64::from_str_radix(digits, 16).ok(),
+        None if digits.len() > 1 && digits.starts_with('0') => None,
         None => digits.parse().ok(),
     }
 }
