@@ -1,5 +1,6 @@
 //! What sources declare.
 
+mod attributes;
 mod declarations;
 mod faults;
 mod recovery;

@@ -61,7 +61,7 @@ const ROWS: [(&str, &str); 26] = [
     ),
     (
         "const N = 4294967296u;",
-        "N faulty; 1:11 this number is too large for its kind",
+        "N faulty; 1:11 this is no number of its kind",
     ),
     (
         "const N: u32 = -1;",
