@@ -117,7 +117,9 @@ fn kind_of(kind: Kind, binding: Binding, meaning: Meaning) -> ItemKind {
                 group: binding.group,
                 binding: binding.binding,
             }),
-            Kind::Alias(_) | Kind::Value(_, _) | Kind::Function => ItemKind::Alias(sized.ty),
+            Kind::Alias(_) | Kind::Constant(_, _) | Kind::Override(_, _) | Kind::Function => {
+                ItemKind::Alias(sized.ty)
+            }
         },
         Meaning::Number(number) => ItemKind::Value(number),
         Meaning::Other(_) => ItemKind::Skipped,

@@ -40,8 +40,8 @@ const ROWS: [(&str, &str); 26] = [
         "A faulty; B faulty; 1:24 this needs itself",
     ),
     (
-        "alias A = 3; struct S { a: A }",
-        "A = 3; S faulty; 1:25 this is no type",
+        "const N = 3; struct S { a: N }",
+        "N = 3; S faulty; 1:25 this is no type",
     ),
     (
         "alias A = vec2<bool>; alias B = vec2<A>;",
