@@ -2,4 +2,5 @@ pub mod Cursors
 pub mod Names
 pub mod Numbers
 pub mod Operators
+pub mod Places
 pub mod Texts

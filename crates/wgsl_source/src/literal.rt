@@ -1,9 +1,9 @@
 //! The numbers that a source writes (WGSL: numeric literals).
 
-ghost use Rattle.std.specs.Prelude.{◌≡◌, ◌++◌};
+ghost use Rattle.std.specs.Prelude.{◌≡◌, ◌++◌, ℕ, List, MatchOption};
 ghost use Rattle.std.specs.Option.{option_map};
 ghost use Rattle.wgsl_scalar.specs.Literals.{literal_of as value_of};
-ghost use Rattle.wgsl_source.specs.Numbers.{suffix_text, number_in, Reads, ReadsDecimal};
+ghost use Rattle.wgsl_source.specs.Numbers.{suffix_text, number_in, IsHexadecimal, Reads, ReadsDecimal, ReadsNumeral, Means};
 
 use wgsl_scalar::LiteralInstance;
 
@@ -28,7 +28,9 @@ enum Suffix {
 }
 
 /// What the text of a numeric literal stands for.
-pub(crate) fn literal_of(text: &str) -> Literal {
+pub(crate) fn literal_of(text: &str) -> Literal
+    ensures { Means text.now result }
+{
     if is_float(text) {
         return Literal::Float;
     }
@@ -50,7 +52,11 @@ fn is_float(text: &str) -> bool {
 }
 
 // The digits of a hexadecimal number.
-fn hexadecimal(text: &str) -> Option<&str> {
+fn hexadecimal(text: &str) -> Option<&str>
+    ensures { MatchOption result
+        ((digits : List ℕ) → ¬ IsHexadecimal text.now digits)
+        (λ digits. IsHexadecimal text.now digits.now) }
+{
     match text.strip_prefix("0x") {
         Some(digits) => Some(digits),
         None => text.strip_prefix("0X"),
@@ -75,7 +81,9 @@ fn split_suffix(text: &str) -> (&str, Suffix)
     }
 }
 
-fn number_of(digits: &str) -> Option<u64> {
+fn number_of(digits: &str) -> Option<u64>
+    ensures { ReadsNumeral digits.now result }
+{
     match hexadecimal(digits) {
         Some(digits) => hexadecimal_number(digits),
         None => decimal_number(digits),
