@@ -154,10 +154,7 @@ impl<'a> Reader<'a> {
             "override" => self.overridden(first_step),
             "var" => self.variable(first_step, attributes),
             "fn" => self.function(first_step),
-            "const_assert" | "enable" | "requires" | "diagnostic" => {
-                self.cursor().skip_declaration();
-                Ok(())
-            }
+            "const_assert" | "enable" | "requires" | "diagnostic" => self.skip_declaration(),
             ";" => {
                 self.cursor().advance();
                 Ok(())
@@ -202,6 +199,7 @@ impl<'a> Reader<'a> {
             _ => {
                 if self.cursor().token().is_symbol(b'(') {
                     self.cursor().skip_group();
+                    self.check_closed(name)?;
                 }
             }
         }
@@ -377,7 +375,25 @@ impl<'a> Reader<'a> {
     fn function(&mut self, first_step: usize) -> Result<(), Stop> {
         self.cursor().advance();
         let name = self.cursor().expect_name()?;
-        self.cursor().skip_declaration();
+        self.skip_declaration()?;
         self.add(name, Kind::Function, first_step)
+    }
+
+    // Passes over what says nothing of types.
+    fn skip_declaration(&mut self) -> Result<(), Stop> {
+        let start = self.cursor().position();
+        self.cursor().skip_declaration();
+        self.check_closed(start)
+    }
+
+    // The brackets are closed that stand behind the token of this number.
+    fn check_closed(&mut self, start: usize) -> Result<(), Stop> {
+        for (open, close) in [(b'{', b'}'), (b'(', b')'), (b'[', b']')] {
+            if self.cursor().is_open(start, open, close) {
+                let symbol = Expected::Symbol(char::from(close));
+                return Err(self.cursor().expected(symbol));
+            }
+        }
+        Ok(())
     }
 }

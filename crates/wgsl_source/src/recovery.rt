@@ -34,21 +34,22 @@ impl<'a> Cursor<'a> {
         if self.position() == start {
             self.advance();
         }
-        if self.is_in_braces(start) {
+        if self.is_open(start, b'{', b'}') {
             self.leave_braces();
         } else {
             self.leave_declaration();
         }
     }
 
-    // Whether braces are open that stand behind the token of this number.
-    fn is_in_braces(&self, start: usize) -> bool {
+    /// Whether such a bracket has no end that stands between the token of this number and here.
+    pub(crate) fn is_open(&self, start: usize, open: u8, close: u8) -> bool {
         let mut depth = 0usize;
         for at in start..self.position() {
-            match self.token_at(at).kind {
-                TokenKind::Symbol(b'{') => depth = depth.saturating_add(1),
-                TokenKind::Symbol(b'}') => depth = depth.saturating_sub(1),
-                _ => {}
+            let token = self.token_at(at);
+            if token.is_symbol(open) {
+                depth = depth.saturating_add(1);
+            } else if token.is_symbol(close) {
+                depth = depth.saturating_sub(1);
             }
         }
         depth > 0

@@ -530,11 +530,17 @@ impl Arguments {
 
 // Whether a member of the type may have this size (WGSL: size attribute).
 fn takes_size(ty: &Type, size: u32) -> bool {
-    match (ty, ty.size_of()) {
-        (Type::Array(_, None), _) => false,
-        (_, Some(least)) => least <= size,
-        (_, None) => true,
+    if is_runtime_sized(ty) {
+        return false;
     }
+    match ty.size_of() {
+        Some(least) => least <= size,
+        None => true,
+    }
+}
+
+fn is_runtime_sized(ty: &Type) -> bool {
+    matches!(ty, Type::Array(_, None))
 }
 
 fn is_member_aligned(member: &StructMemberType) -> bool {

@@ -112,6 +112,27 @@ const OTHERS: [(&str, &str); 13] = [
     ),
 ];
 
+const BRACKETS: [(&str, &str); 6] = [
+    (
+        "fn f() { if (a) { return; } const N = 1;",
+        "1:41 expected `}`",
+    ),
+    ("fn f(a: i32 { return; } const N = 1;", "1:37 expected `)`"),
+    ("const_assert (1 < 2; const N = 1;", "1:34 expected `)`"),
+    (
+        "@workgroup_size(64 fn f() { } const N = 1;",
+        "1:43 expected `)`",
+    ),
+    (
+        "struct S { @location(0 a: u32 } const N = 1;",
+        "N = 1; 1:33 expected `)`",
+    ),
+    (
+        "@fragment fn f(@location(0) a: array<i32, 2>) { { } } const N = 1;",
+        "f skipped; N = 1",
+    ),
+];
+
 #[test]
 fn faults_of_members_are_told_once(rt: HostRuntime) {
     for (source, wanted) in &MEMBERS {
@@ -122,6 +143,13 @@ fn faults_of_members_are_told_once(rt: HostRuntime) {
 #[test]
 fn faults_of_declarations_are_told_once(rt: HostRuntime) {
     for (source, wanted) in &OTHERS {
+        assert_declares(&rt, rt.alloc(), source, wanted);
+    }
+}
+
+#[test]
+fn brackets_of_what_is_skipped_are_closed(rt: HostRuntime) {
+    for (source, wanted) in &BRACKETS {
         assert_declares(&rt, rt.alloc(), source, wanted);
     }
 }
