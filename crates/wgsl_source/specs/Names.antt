@@ -2,7 +2,6 @@
 use Rattle.std.specs.Prelude.{◌≡◌, ℕ, ◌+◌, ◌≤◌, List, [], ◌∷◌, ◌++◌, ⊤, codes}
 use Rattle.wgsl_rules.specs.Types as types
 use Rattle.wgsl_rules.specs.Types.{Ty}
-use Rattle.wgsl_source.specs.declared.names.Generator.{Generator}
 use Rattle.wgsl_source.specs.declared.names.Generator.TheVariants as generators
 use Rattle.wgsl_source.specs.declared.names.Predeclared.{Predeclared}
 use Rattle.wgsl_source.specs.declared.names.Predeclared.TheVariants as named

@@ -1,5 +1,5 @@
 -- What a numeric literal stands for (WGSL: numeric literals).
-use Rattle.std.specs.Prelude.{◌≡◌, ℕ, ◌^◌, ◌<◌, ◌⊎◌, ⊤, ℤ, pos, Bool, ◌&&◌, ◌==◌, nat_lt, Option, Some, None, List, ◌++◌, codes, if◌then◌else◌, length, slice_index, SomeIff, MatchBool}
+use Rattle.std.specs.Prelude.{◌≡◌, ℕ, ◌^◌, ◌<◌, ◌⊎◌, ⊤, pos, Bool, ◌&&◌, ◌==◌, nat_lt, Option, Some, None, List, ◌++◌, codes, if◌then◌else◌, length, slice_index, SomeIff, MatchBool}
 use Rattle.std.specs.Str.Parse.{IsNumeral, digits_value, without_leading_plus}
 use Rattle.wgsl_rules.specs.Kinds as kinds
 use Rattle.wgsl_rules.specs.Kinds.{Kind, in_kind}

@@ -1,4 +1,4 @@
-use Rattle.std.proofs.Common.{sym, subst, arith, ℕ, List, ◌≢◌, All}
+use Rattle.std.proofs.Common.{arith}
 use Rattle.std.proofs.lemmas.Str.Pattern.{split_parts, strip_suffix_char}
 use Rattle.wgsl_source.proofs.LineEnds.{lacks_feed, all_from_zero}
 use Rattle.wgsl_source.proofs.place.Lines.line.Goals as goal
