@@ -4,6 +4,7 @@ mod attributes;
 mod declarations;
 mod expressions;
 mod faults;
+mod growth;
 mod reasons;
 mod recovery;
 mod texts;

@@ -11,7 +11,7 @@ pub(super) fn assert_declares(rt: &impl Abort, alloc: Global, source: &str, want
     assert_eq!(rt; text.as_str(), wanted, "of {source}");
 }
 
-fn text_of(alloc: Global, source: &str) -> Result<String, AllocError> {
+pub(super) fn text_of(alloc: Global, source: &str) -> Result<String, AllocError> {
     let read = Source::read(alloc, source)?;
     let lines = Lines::new(alloc, source)?;
     let mut text = String::new(alloc);
