@@ -1,6 +1,5 @@
 -- What a name stands for is one.
-use Rattle.std.proofs.Common.{◌≡◌, ◌≢◌, ℕ, zero, suc, ◌+◌, ◌≤◌, List, [], ◌∷◌, ◌++◌, Option, Some, codes, arith, sym, ◌∙◌, subst}
-use Rattle.std.proofs.lemmas.Grind.{common_steps}
+use Rattle.std.proofs.Common.{◌≡◌, ◌≢◌, ℕ, zero, suc, List, ◌∷◌, ◌++◌, Option, Some, codes, arith, subst}
 use Rattle.wgsl_source.specs.Names.{scalar_text, BeginsWithDimension, NamesVector, NamesMatrix, Names}
 use Rattle.wgsl_source.specs.declared.names.Generator.TheVariants as generators
 use Rattle.wgsl_source.specs.declared.names.Predeclared.{Predeclared}
