@@ -136,11 +136,10 @@ impl<'a> Reader<'a> {
 
     fn declaration(&mut self) -> Result<(), Stop> {
         let first_step = self.expressions.steps.len();
-        let start = self.cursor().position();
         match self.attributes() {
             Ok(attributes) => self.declared(first_step, attributes),
             Err(stop) => {
-                self.cursor().skip_to_declaration(start);
+                self.cursor().skip_to_declaration();
                 Err(stop)
             }
         }

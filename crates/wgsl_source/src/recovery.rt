@@ -10,12 +10,9 @@ impl<'a> Cursor<'a> {
         is_declaration_word(self.word()) && !self.second().is_symbol(b':')
     }
 
-    /// Goes on from a fault in attributes, which begin at the token of this number: behind the word
-    /// that begins their declaration, where one does.
-    pub(crate) fn skip_to_declaration(&mut self, start: usize) {
-        if self.is_behind_word(start) {
-            return;
-        }
+    /// Goes on from a fault in attributes: behind the word that begins their declaration, where one
+    /// does.
+    pub(crate) fn skip_to_declaration(&mut self) {
         for _ in self.position()..self.len() {
             match self.token().kind {
                 TokenKind::Symbol(b';' | b'{') => return,
@@ -29,16 +26,6 @@ impl<'a> Cursor<'a> {
                 }
             }
         }
-    }
-
-    // Whether a word that begins a declaration stands between the token of this number and here.
-    fn is_behind_word(&self, start: usize) -> bool {
-        for at in start..self.position() {
-            if is_declaration_word(self.text_at(at)) {
-                return true;
-            }
-        }
-        false
     }
 
     /// Goes on from a fault in a declaration that began at the token of this number: behind its

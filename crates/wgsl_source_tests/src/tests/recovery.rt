@@ -112,7 +112,7 @@ const OTHERS: [(&str, &str); 13] = [
     ),
 ];
 
-const BRACKETS: [(&str, &str); 7] = [
+const BRACKETS: [(&str, &str); 6] = [
     (
         "fn f() { if (a) { return; } const N = 1;",
         "1:41 expected `}`",
@@ -126,10 +126,6 @@ const BRACKETS: [(&str, &str); 7] = [
     (
         "struct S { @location(0 a: u32 } const N = 1;",
         "N = 1; 1:33 expected `)`",
-    ),
-    (
-        "@foo( struct S { a: u32 } const N = 1;",
-        "N = 1; 1:27 expected `)`",
     ),
     (
         "@fragment fn f(@location(0) a: array<i32, 2>) { { } } const N = 1;",
