@@ -1,7 +1,8 @@
 //! The names of types that the language has (WGSL: predeclared types and type-generators).
 
-ghost use Rattle.std.specs.Prelude.{◌≡◌, Some, IfSome};
+ghost use Rattle.std.specs.Prelude.{◌≡◌, ℕ, List, Some, IfSome, IsSomeAnd};
 ghost use Rattle.wgsl_rules.specs.View.{type_view};
+ghost use Rattle.wgsl_source.specs.declared.names.Predeclared.{Predeclared};
 ghost use Rattle.wgsl_source.specs.declared.names.Scalar.{Scalar};
 ghost use Rattle.wgsl_source.specs.Names.{
   scalar_type,
@@ -65,7 +66,8 @@ impl Scalar {
 
     // The last character of a short name.
     fn of_letter(letter: &str) -> Option<Scalar>
-        ensures { IfSome result (λ scalar. IsLetter scalar letter.now) }
+        ensures letter { IfSome result (λ scalar. IsLetter scalar letter.now) }
+        ensures each { (s : Scalar) → IsLetter s letter.now → result ≡ Some s }
     {
         match letter {
             "i" => Some(Scalar::I32),
@@ -79,7 +81,8 @@ impl Scalar {
 
 /// What the language says that a name stands for; `None` where that is no type with a size.
 pub(crate) fn language_name(name: &str) -> Option<Predeclared>
-    ensures { IfSome result (Names name.now) }
+    ensures names { IfSome result (Names name.now) }
+    ensures each { (p : Predeclared) → Names name.now p → result ≡ Some p }
 {
     if let Some(scalar) = scalar_named(name) {
         return Some(Predeclared::Scalar(scalar));
@@ -114,7 +117,8 @@ fn scalar_named(name: &str) -> Option<Scalar>
 
 // A number of components, columns or rows at the front of a text, and the rest.
 fn split_dimension(text: &str) -> Option<(u8, &str)>
-    ensures { IfSome result (λ p. BeginsWithDimension text.now p.0 p.1.now) }
+    ensures parts { IfSome result (λ p. BeginsWithDimension text.now p.0 p.1.now) }
+    ensures each { (n : ℕ) (rest : List ℕ) → BeginsWithDimension text.now n rest → IsSomeAnd result (λ p. (p.0 ≡ n) × (p.1.now ≡ rest)) }
 {
     if let Some(rest) = text.strip_prefix('2') {
         return Some((2, rest));
@@ -126,7 +130,8 @@ fn split_dimension(text: &str) -> Option<(u8, &str)>
 }
 
 fn vector_named(rest: &str) -> Option<Predeclared>
-    ensures { IfSome result (NamesVector rest.now) }
+    ensures names { IfSome result (NamesVector rest.now) }
+    ensures each { (p : Predeclared) → NamesVector rest.now p → result ≡ Some p }
 {
     let (n, letter) = split_dimension(rest)?;
     if letter.is_empty() {
@@ -136,7 +141,8 @@ fn vector_named(rest: &str) -> Option<Predeclared>
 }
 
 fn matrix_named(rest: &str) -> Option<Predeclared>
-    ensures { IfSome result (NamesMatrix rest.now) }
+    ensures names { IfSome result (NamesMatrix rest.now) }
+    ensures each { (p : Predeclared) → NamesMatrix rest.now p → result ≡ Some p }
 {
     let (columns, rest) = split_dimension(rest)?;
     let (rows, letter) = split_dimension(rest.strip_prefix('x')?)?;

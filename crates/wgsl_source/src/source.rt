@@ -42,7 +42,8 @@ pub enum ItemKind {
     Value(LiteralInstance),
     /// A variable whose type has a size.
     Variable(Variable),
-    /// A function, a float, a texture, and whatever else has no type with a size and no integer.
+    /// A function, an `override`, a float, a texture, and whatever else has no type with a size and
+    /// no integer that is known.
     Skipped,
     /// What has a fault, or needs something that has.
     Faulty,
