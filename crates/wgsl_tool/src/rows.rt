@@ -8,8 +8,9 @@ use crate::structures::innermost;
 use std::alloc::{AllocError, Global};
 use wgsl_rules::{MemberLayout, StructMemberType, StructType};
 
-/// How deep structures inside structures are followed.
-const DEPTH: usize = 64;
+/// How deep structures inside structures are followed. Shaders that nest types more than 15 deep are
+/// no longer taken everywhere (WGSL: limits).
+pub(crate) const DEPTH: usize = 16;
 
 /// A row of a structure's table, at bytes from the start of the whole.
 #[derive(Clone, Copy)]
