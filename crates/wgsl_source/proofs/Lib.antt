@@ -1,1 +1,4 @@
+pub mod LineEnds
+pub mod LineStarts
+pub mod Numerals
 pub mod OperatorLemmas

@@ -1,6 +1,6 @@
 -- Operators: their places among each other, and what they answer for literals (WGSL: operator
 -- precedence and associativity; const-expressions).
-use Rattle.std.specs.Prelude.{◌≡◌, Bool, Option, Some, None, Result, Ok, Err, IsErrAnd}
+use Rattle.std.specs.Prelude.{◌≡◌, ℕ, Bool, Option, Some, None, Result, Ok, Err, IsErrAnd}
 use Rattle.wgsl_rules.specs.Refusals as refusals
 use Rattle.wgsl_rules.specs.Refusals.{Refusal, Outcome, and_then}
 use Rattle.wgsl_rules.specs.Values.{Val, truth}
@@ -18,6 +18,27 @@ use Rattle.wgsl_scalar.specs.Shifts.{shifted_left, shifted_right}
 use Rattle.wgsl_scalar.specs.declared.literal.LiteralInstance.{LiteralInstance}
 use Rattle.wgsl_source.specs.declared.fault.Reason.{Reason}
 use Rattle.wgsl_source.specs.declared.fault.Reason.TheVariants as reasons
+
+-- how tightly an operator binds: the levels of the standard, from the loosest on
+abbrev pub precedence_of : BinaryOperator → ℕ
+precedence_of between.ShortCircuitOr = 1
+precedence_of between.ShortCircuitAnd = 2
+precedence_of between.BitwiseOr = 3
+precedence_of between.BitwiseXor = 4
+precedence_of between.BitwiseAnd = 5
+precedence_of between.Equality = 6
+precedence_of between.Inequality = 6
+precedence_of between.LessThan = 6
+precedence_of between.LessThanEqual = 6
+precedence_of between.GreaterThan = 6
+precedence_of between.GreaterThanEqual = 6
+precedence_of between.ShiftLeft = 7
+precedence_of between.ShiftRight = 7
+precedence_of between.Addition = 8
+precedence_of between.Subtraction = 8
+precedence_of between.Multiplication = 9
+precedence_of between.Division = 9
+precedence_of between.Remainder = 9
 
 -- the reason that tells a refusal
 abbrev pub reason_for : Refusal → Reason

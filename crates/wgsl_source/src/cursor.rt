@@ -179,36 +179,4 @@ impl<'a> Cursor<'a> {
             }
         }
     }
-
-    /// Goes on from a fault in a declaration that began at the token of this number: to the next
-    /// declaration, behind a `;` or behind braces.
-    pub(crate) fn recover(&mut self, start: usize) {
-        if self.at == start {
-            self.advance();
-        }
-        for _ in self.at..self.tokens.len() {
-            match self.token().kind {
-                TokenKind::Symbol(b'{') => {
-                    self.skip_group();
-                    return;
-                }
-                TokenKind::Symbol(b'(' | b'[') => self.skip_group(),
-                TokenKind::Symbol(b';') => {
-                    self.advance();
-                    return;
-                }
-                TokenKind::Name if begins_declaration(self.word()) => return,
-                _ => {
-                    self.advance();
-                }
-            }
-        }
-    }
-}
-
-fn begins_declaration(word: &str) -> bool {
-    matches!(
-        word,
-        "struct" | "alias" | "const" | "override" | "var" | "fn" | "const_assert"
-    )
 }

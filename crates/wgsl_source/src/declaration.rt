@@ -3,7 +3,7 @@
 
 use crate::cursor::{Cursor, Stop};
 use crate::expression::{Expressions, Span, Step};
-use crate::fault::{Expected, Faults};
+use crate::fault::{Expected, Faults, Reason};
 use crate::token::TokenKind;
 use std::alloc::{AllocError, Global};
 use wgsl_rules::{AccessMode, AddressSpace};
@@ -41,8 +41,10 @@ pub(crate) enum Kind {
     Struct { first: usize, end: usize },
     /// Another name for a type.
     Alias(Span),
-    /// A `const` or an `override`: the type that is given, and the value.
-    Value(Option<Span>, Option<Span>),
+    /// A `const`: the type, where one is given, and the value.
+    Constant(Option<Span>, Span),
+    /// An `override`: the type and the value that it has by default, where they are given.
+    Override(Option<Span>, Option<Span>),
     Variable(Variable),
     Function,
 }
@@ -134,17 +136,25 @@ impl<'a> Reader<'a> {
 
     fn declaration(&mut self) -> Result<(), Stop> {
         let first_step = self.expressions.steps.len();
-        let attributes = self.attributes()?;
+        match self.attributes() {
+            Ok(attributes) => self.declared(first_step, attributes),
+            Err(stop) => {
+                self.cursor().skip_to_declaration();
+                Err(stop)
+            }
+        }
+    }
+
+    // Reads what stands behind attributes.
+    fn declared(&mut self, first_step: usize, attributes: Attributes) -> Result<(), Stop> {
         match self.cursor().word() {
             "struct" => self.structure(first_step),
             "alias" => self.alias(first_step),
-            "const" | "override" => self.value(first_step),
+            "const" => self.constant(first_step),
+            "override" => self.overridden(first_step),
             "var" => self.variable(first_step, attributes),
             "fn" => self.function(first_step),
-            "const_assert" | "enable" | "requires" | "diagnostic" => {
-                self.cursor().skip_declaration();
-                Ok(())
-            }
+            "const_assert" | "enable" | "requires" | "diagnostic" => self.skip_declaration(),
             ";" => {
                 self.cursor().advance();
                 Ok(())
@@ -182,17 +192,26 @@ impl<'a> Reader<'a> {
     fn attribute(&mut self, attributes: &mut Attributes) -> Result<(), Stop> {
         let name = self.cursor().expect_name()?;
         match self.cursor().text_at(name) {
-            "align" => attributes.align = Some(self.argument()?),
-            "size" => attributes.size = Some(self.argument()?),
-            "group" => attributes.group = Some(self.argument()?),
-            "binding" => attributes.binding = Some(self.argument()?),
+            "align" => attributes.align = Some(self.argument_of(name, attributes.align)?),
+            "size" => attributes.size = Some(self.argument_of(name, attributes.size)?),
+            "group" => attributes.group = Some(self.argument_of(name, attributes.group)?),
+            "binding" => attributes.binding = Some(self.argument_of(name, attributes.binding)?),
             _ => {
                 if self.cursor().token().is_symbol(b'(') {
                     self.cursor().skip_group();
+                    self.check_closed(name)?;
                 }
             }
         }
         Ok(())
+    }
+
+    // The argument of an attribute that stands once.
+    fn argument_of(&mut self, name: usize, before: Option<Span>) -> Result<Span, Stop> {
+        if before.is_some() {
+            return Err(Stop::At(self.cursor().fault_at(name, Reason::DuplicateName)));
+        }
+        self.argument()
     }
 
     // An expression in brackets.
@@ -209,22 +228,32 @@ impl<'a> Reader<'a> {
         let name = self.cursor().expect_name()?;
         self.cursor().expect_symbol(b'{')?;
         let first = self.members.len();
-        for _ in self.cursor().position()..self.cursor().len() {
-            if self.cursor().token().is_symbol(b'}') {
-                break;
-            }
-            self.member()?;
-            if !self.cursor().take_symbol(b',') {
-                break;
-            }
-        }
+        self.members()?;
         self.cursor().expect_symbol(b'}')?;
         let end = self.members.len();
         self.add(name, Kind::Struct { first, end }, first_step)
     }
 
+    // One or more.
+    fn members(&mut self) -> Result<(), Stop> {
+        self.member()?;
+        for _ in self.cursor().position()..self.cursor().len() {
+            if !self.cursor().take_symbol(b',') || self.cursor().token().is_symbol(b'}') {
+                break;
+            }
+            self.member()?;
+        }
+        Ok(())
+    }
+
+    // Where a declaration begins in place of a member, the structure has no end.
     fn member(&mut self) -> Result<(), Stop> {
+        let start = self.expressions.cursor;
         let attributes = self.attributes()?;
+        if self.cursor().begins_declaration() {
+            self.expressions.cursor = start;
+            return Err(start.expected(Expected::Symbol('}')));
+        }
         let name = self.cursor().expect_name()?;
         self.cursor().expect_symbol(b':')?;
         let ty = self.expressions.expression()?;
@@ -247,13 +276,23 @@ impl<'a> Reader<'a> {
         self.add(name, Kind::Alias(ty), first_step)
     }
 
-    fn value(&mut self, first_step: usize) -> Result<(), Stop> {
+    fn constant(&mut self, first_step: usize) -> Result<(), Stop> {
+        self.cursor().advance();
+        let name = self.cursor().expect_name()?;
+        let ty = self.given_type()?;
+        self.cursor().expect_symbol(b'=')?;
+        let value = self.expressions.expression()?;
+        self.cursor().expect_symbol(b';')?;
+        self.add(name, Kind::Constant(ty, value), first_step)
+    }
+
+    fn overridden(&mut self, first_step: usize) -> Result<(), Stop> {
         self.cursor().advance();
         let name = self.cursor().expect_name()?;
         let ty = self.given_type()?;
         let value = self.given_value()?;
         self.cursor().expect_symbol(b';')?;
-        self.add(name, Kind::Value(ty, value), first_step)
+        self.add(name, Kind::Override(ty, value), first_step)
     }
 
     fn variable(&mut self, first_step: usize, attributes: Attributes) -> Result<(), Stop> {
@@ -336,7 +375,25 @@ impl<'a> Reader<'a> {
     fn function(&mut self, first_step: usize) -> Result<(), Stop> {
         self.cursor().advance();
         let name = self.cursor().expect_name()?;
-        self.cursor().skip_declaration();
+        self.skip_declaration()?;
         self.add(name, Kind::Function, first_step)
+    }
+
+    // Passes over what says nothing of types.
+    fn skip_declaration(&mut self) -> Result<(), Stop> {
+        let start = self.cursor().position();
+        self.cursor().skip_declaration();
+        self.check_closed(start)
+    }
+
+    // The brackets are closed that stand behind the token of this number.
+    fn check_closed(&mut self, start: usize) -> Result<(), Stop> {
+        for (open, close) in [(b'{', b'}'), (b'(', b')'), (b'[', b']')] {
+            if self.cursor().is_open(start, open, close) {
+                let symbol = Expected::Symbol(char::from(close));
+                return Err(self.cursor().expected(symbol));
+            }
+        }
+        Ok(())
     }
 }

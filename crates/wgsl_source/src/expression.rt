@@ -1,6 +1,12 @@
 //! Reads types and values into steps that are done one after the other (WGSL: expression grammar;
 //! operator precedence and associativity).
 
+ghost use Rattle.std.specs.Prelude.{◌≡◌, ◌∷◌, [], take, Some, IsSome, IfSome};
+ghost use Rattle.wgsl_rules.specs.Text.{unary_text, binary_text};
+ghost use Rattle.wgsl_rules.specs.declared.syntax.BinaryOperator.{BinaryOperator};
+ghost use Rattle.wgsl_rules.specs.declared.syntax.UnaryOperator.{UnaryOperator};
+ghost use Rattle.wgsl_source.specs.Operators.{precedence_of};
+
 use crate::cursor::{Cursor, Stop};
 use crate::fault::{Expected, Reason};
 use crate::token::TokenKind;
@@ -322,7 +328,10 @@ fn push_step(steps: &mut Vec<Step>, step: Step) -> Result<(), Stop> {
     }
 }
 
-fn unary_operator(symbol: u8) -> Option<UnaryOperator> {
+fn unary_operator(symbol: u8) -> Option<UnaryOperator>
+    ensures text { IfSome result (λ op. unary_text op ≡ symbol ∷ []) }
+    ensures each { (op : UnaryOperator) → unary_text op ≡ symbol ∷ [] → result ≡ Some op }
+{
     match symbol {
         b'!' => Some(UnaryOperator::LogicalNegation),
         b'-' => Some(UnaryOperator::Negation),
@@ -333,35 +342,59 @@ fn unary_operator(symbol: u8) -> Option<UnaryOperator> {
     }
 }
 
-/// The operator of a character, and of the one right behind it, and how many of the two it has.
-fn binary_operator(symbol: u8, behind: u8) -> Option<(BinaryOperator, usize)> {
+/// The operator of a character and of the one right behind it, else that of the first alone, and
+/// how many of the two it has.
+fn binary_operator(symbol: u8, behind: u8) -> Option<(BinaryOperator, usize)>
+    ensures text { IfSome result (λ p. binary_text p.0 ≡ take p.1 (symbol ∷ behind ∷ [])) }
+    ensures longest { (op : BinaryOperator) → binary_text op ≡ symbol ∷ behind ∷ [] → result ≡ Some (op, 2) }
+    ensures one { (op : BinaryOperator) → binary_text op ≡ symbol ∷ [] → IsSome result }
+{
+    match operator_of_two(symbol, behind) {
+        Some(operator) => Some((operator, 2)),
+        None => Some((operator_of_one(symbol)?, 1)),
+    }
+}
+
+fn operator_of_two(symbol: u8, behind: u8) -> Option<BinaryOperator>
+    ensures text { IfSome result (λ op. binary_text op ≡ symbol ∷ behind ∷ []) }
+    ensures each { (op : BinaryOperator) → binary_text op ≡ symbol ∷ behind ∷ [] → result ≡ Some op }
+{
     match (symbol, behind) {
-        (b'|', b'|') => Some((BinaryOperator::ShortCircuitOr, 2)),
-        (b'&', b'&') => Some((BinaryOperator::ShortCircuitAnd, 2)),
-        (b'=', b'=') => Some((BinaryOperator::Equality, 2)),
-        (b'!', b'=') => Some((BinaryOperator::Inequality, 2)),
-        (b'<', b'=') => Some((BinaryOperator::LessThanEqual, 2)),
-        (b'>', b'=') => Some((BinaryOperator::GreaterThanEqual, 2)),
-        (b'<', b'<') => Some((BinaryOperator::ShiftLeft, 2)),
-        (b'>', b'>') => Some((BinaryOperator::ShiftRight, 2)),
-        _ => match symbol {
-            b'+' => Some((BinaryOperator::Addition, 1)),
-            b'-' => Some((BinaryOperator::Subtraction, 1)),
-            b'*' => Some((BinaryOperator::Multiplication, 1)),
-            b'/' => Some((BinaryOperator::Division, 1)),
-            b'%' => Some((BinaryOperator::Remainder, 1)),
-            b'<' => Some((BinaryOperator::LessThan, 1)),
-            b'>' => Some((BinaryOperator::GreaterThan, 1)),
-            b'|' => Some((BinaryOperator::BitwiseOr, 1)),
-            b'&' => Some((BinaryOperator::BitwiseAnd, 1)),
-            b'^' => Some((BinaryOperator::BitwiseXor, 1)),
-            _ => None,
-        },
+        (b'|', b'|') => Some(BinaryOperator::ShortCircuitOr),
+        (b'&', b'&') => Some(BinaryOperator::ShortCircuitAnd),
+        (b'=', b'=') => Some(BinaryOperator::Equality),
+        (b'!', b'=') => Some(BinaryOperator::Inequality),
+        (b'<', b'=') => Some(BinaryOperator::LessThanEqual),
+        (b'>', b'=') => Some(BinaryOperator::GreaterThanEqual),
+        (b'<', b'<') => Some(BinaryOperator::ShiftLeft),
+        (b'>', b'>') => Some(BinaryOperator::ShiftRight),
+        _ => None,
+    }
+}
+
+fn operator_of_one(symbol: u8) -> Option<BinaryOperator>
+    ensures text { IfSome result (λ op. binary_text op ≡ symbol ∷ []) }
+    ensures each { (op : BinaryOperator) → binary_text op ≡ symbol ∷ [] → result ≡ Some op }
+{
+    match symbol {
+        b'+' => Some(BinaryOperator::Addition),
+        b'-' => Some(BinaryOperator::Subtraction),
+        b'*' => Some(BinaryOperator::Multiplication),
+        b'/' => Some(BinaryOperator::Division),
+        b'%' => Some(BinaryOperator::Remainder),
+        b'<' => Some(BinaryOperator::LessThan),
+        b'>' => Some(BinaryOperator::GreaterThan),
+        b'|' => Some(BinaryOperator::BitwiseOr),
+        b'&' => Some(BinaryOperator::BitwiseAnd),
+        b'^' => Some(BinaryOperator::BitwiseXor),
+        _ => None,
     }
 }
 
 /// How tightly an operator binds; those of one level are taken from the left.
-fn precedence(operator: BinaryOperator) -> u8 {
+fn precedence(operator: BinaryOperator) -> u8
+    ensures { result ≡ precedence_of operator }
+{
     match operator {
         BinaryOperator::Multiplication | BinaryOperator::Division | BinaryOperator::Remainder => 9,
         BinaryOperator::Addition | BinaryOperator::Subtraction => 8,

@@ -1,6 +1,6 @@
 //! What is wrong in a source.
 
-ghost use Rattle.std.specs.Prelude.{Some};
+ghost use Rattle.std.specs.Prelude.{◌≡◌, ◌≤◌, [], ◌∷◌, ◌++◌, nat_lt, if◌then◌else◌, Some, IfOk, OnOk, OnErr, vec_len};
 ghost use Rattle.wgsl_source.specs.Texts.{expected_text, reason_text};
 
 use std::alloc::{AllocError, Global};
@@ -52,7 +52,7 @@ pub enum Reason {
     TooDeep,
     /// Nothing has the name.
     UnknownName,
-    /// Another declaration, or another member, has the name.
+    /// Another declaration, member or attribute has the name.
     DuplicateName,
     /// A declaration needs itself.
     ContainsItself,
@@ -68,6 +68,12 @@ pub enum Reason {
     Count,
     /// An attribute is no number from 0 to 4294967295.
     Attribute,
+    /// An align attribute is no power of 2.
+    Align,
+    /// A size attribute is less than the type takes, or the type has no fixed size.
+    Size,
+    /// An align attribute in a type that is stored is no multiple of the alignment of its member.
+    Misaligned,
     /// The number is none of its kind.
     Literal,
     /// The value is none of the type.
@@ -101,6 +107,9 @@ impl fmt::Display for Reason {
             Reason::Component => f.write_str("this is no type of a component here"),
             Reason::Count => f.write_str("a count is from 1 to 4294967295"),
             Reason::Attribute => f.write_str("an attribute is from 0 to 4294967295"),
+            Reason::Align => f.write_str("an alignment is a power of 2"),
+            Reason::Size => f.write_str("the type takes another size"),
+            Reason::Misaligned => f.write_str("a member needs another alignment"),
             Reason::Literal => f.write_str("this is no number of its kind"),
             Reason::Conversion => f.write_str("this value is none of the type"),
             Reason::Operands => f.write_str("the operator does not take these operands"),
@@ -128,6 +137,7 @@ const FAULTS: usize = 100;
 #[derive(Drop)]
 pub(crate) struct Faults {
     faults: Vec<Fault>,
+    ghost bounded: { vec_len faults ≤ 100 },
 }
 
 impl Faults {
@@ -138,7 +148,11 @@ impl Faults {
     }
 
     /// One more, where there are not too many.
-    pub(crate) fn add(&mut self, fault: Fault) -> Result<(), AllocError> {
+    pub(crate) fn add(&mut self, fault: Fault) -> Result<(), AllocError>
+        ensures ok { OnOk result (self.new.faults.items ≡
+            (if nat_lt (vec_len self.old.faults) 100 then self.old.faults.items ++ fault ∷ [] else self.old.faults.items)) }
+        ensures err { OnErr result (self.new.faults.items ≡ self.old.faults.items) }
+    {
         if self.faults.len() < FAULTS {
             self.faults.push(fault)?;
         }
@@ -146,7 +160,9 @@ impl Faults {
     }
 
     /// All of them, as they stand in the source.
-    pub(crate) fn into_sorted(self) -> Result<Vec<Fault>, AllocError> {
+    pub(crate) fn into_sorted(self) -> Result<Vec<Fault>, AllocError>
+        ensures { IfOk result (λ faults. vec_len faults ≤ 100) }
+    {
         let mut faults = self.faults;
         faults.sort_by_key(|fault| fault.start)?;
         Ok(faults)

@@ -13,6 +13,7 @@ mod names;
 mod operator;
 mod order;
 mod place;
+mod recovery;
 mod resolve;
 mod source;
 mod templates;

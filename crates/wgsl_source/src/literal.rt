@@ -1,5 +1,10 @@
 //! The numbers that a source writes (WGSL: numeric literals).
 
+ghost use Rattle.std.specs.Prelude.{◌≡◌, ◌++◌, ℕ, List, MatchOption};
+ghost use Rattle.std.specs.Option.{option_map};
+ghost use Rattle.wgsl_scalar.specs.Literals.{literal_of as value_of};
+ghost use Rattle.wgsl_source.specs.Numbers.{suffix_text, number_in, IsHexadecimal, Reads, ReadsDecimal, ReadsNumeral, Means};
+
 use wgsl_scalar::LiteralInstance;
 
 /// What a numeric literal is.
@@ -23,7 +28,9 @@ enum Suffix {
 }
 
 /// What the text of a numeric literal stands for.
-pub(crate) fn literal_of(text: &str) -> Literal {
+pub(crate) fn literal_of(text: &str) -> Literal
+    ensures { Means text.now result }
+{
     if is_float(text) {
         return Literal::Float;
     }
@@ -45,14 +52,20 @@ fn is_float(text: &str) -> bool {
 }
 
 // The digits of a hexadecimal number.
-fn hexadecimal(text: &str) -> Option<&str> {
+fn hexadecimal(text: &str) -> Option<&str>
+    ensures { MatchOption result
+        ((digits : List ℕ) → ¬ IsHexadecimal text.now digits)
+        (λ digits. IsHexadecimal text.now digits.now) }
+{
     match text.strip_prefix("0x") {
         Some(digits) => Some(digits),
         None => text.strip_prefix("0X"),
     }
 }
 
-fn split_suffix(text: &str) -> (&str, Suffix) {
+fn split_suffix(text: &str) -> (&str, Suffix)
+    ensures { text.now ≡ result.0.now ++ suffix_text result.1 }
+{
     if let Some(digits) = text.strip_suffix("li") {
         return (digits, Suffix::I64);
     }
@@ -68,18 +81,36 @@ fn split_suffix(text: &str) -> (&str, Suffix) {
     }
 }
 
-// A decimal number of more than one digit does not begin with 0.
-fn number_of(digits: &str) -> Option<u64> {
+fn number_of(digits: &str) -> Option<u64>
+    ensures { ReadsNumeral digits.now result }
+{
     match hexadecimal(digits) {
-        Some(digits) => u64::from_str_radix(digits, 16).ok(),
-        None if digits.len() > 1 && digits.starts_with('0') => None,
-        None => digits.parse().ok(),
+        Some(digits) => hexadecimal_number(digits),
+        None => decimal_number(digits),
     }
+}
+
+fn hexadecimal_number(digits: &str) -> Option<u64>
+    ensures { Reads 16 digits.now result }
+{
+    u64::from_str_radix(digits, 16).ok()
+}
+
+// A number of more than one digit does not begin with 0.
+fn decimal_number(digits: &str) -> Option<u64>
+    ensures { ReadsDecimal digits.now result }
+{
+    if digits.len() > 1 && digits.starts_with('0') {
+        return None;
+    }
+    digits.parse().ok()
 }
 
 impl Suffix {
     // The number of the kind, where it is one.
-    fn literal(self, number: u64) -> Option<LiteralInstance> {
+    fn literal(self, number: u64) -> Option<LiteralInstance>
+        ensures { option_map value_of result ≡ number_in self number }
+    {
         match self {
             Suffix::None => Some(LiteralInstance::AbstractInt(i64::try_from(number).ok()?)),
             Suffix::I32 => Some(LiteralInstance::I32(i32::try_from(number).ok()?)),

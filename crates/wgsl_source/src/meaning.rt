@@ -14,6 +14,8 @@ const NODES: usize = 4096;
 pub(crate) struct SizedType {
     pub(crate) ty: Type,
     pub(crate) nodes: usize,
+    /// Whether each align attribute in it is a multiple of the alignment of its member's type.
+    pub(crate) is_aligned: bool,
 }
 
 /// What a name, a type or a value stands for.
@@ -29,13 +31,18 @@ pub(crate) enum Meaning {
 
 impl SizedType {
     pub(crate) fn scalar(ty: Type) -> SizedType {
-        SizedType { ty, nodes: 1 }
+        SizedType {
+            ty,
+            nodes: 1,
+            is_aligned: true,
+        }
     }
 
     pub(crate) fn copy(&self, alloc: Global) -> Result<SizedType, AllocError> {
         Ok(SizedType {
             ty: self.ty.clone(alloc)?,
             nodes: self.nodes,
+            is_aligned: self.is_aligned,
         })
     }
 
@@ -50,7 +57,11 @@ impl SizedType {
             Predeclared::Mat(c, r, scalar) => Type::Mat(c, r, Box::new(alloc, scalar.ty())?),
             Predeclared::Generator(_) => return Ok(None),
         };
-        Ok(Some(SizedType { ty, nodes: 2 }))
+        Ok(Some(SizedType {
+            ty,
+            nodes: 2,
+            is_aligned: true,
+        }))
     }
 
     /// The type of the generator of this one, with the count that is given.
@@ -70,6 +81,7 @@ impl SizedType {
         Ok(SizedType {
             ty,
             nodes: self.nodes.saturating_add(1),
+            is_aligned: self.is_aligned,
         })
     }
 
@@ -110,9 +122,9 @@ impl Meaning {
 pub(crate) fn natural(number: LiteralInstance) -> Option<u32> {
     match number {
         LiteralInstance::AbstractInt(n) => u32::try_from(n).ok(),
+        LiteralInstance::I64(n) => u32::try_from(n).ok(),
         LiteralInstance::I32(n) => u32::try_from(n).ok(),
         LiteralInstance::U32(n) => Some(n),
-        LiteralInstance::I64(n) => u32::try_from(n).ok(),
         LiteralInstance::U64(n) => u32::try_from(n).ok(),
         LiteralInstance::Bool(_) => None,
     }

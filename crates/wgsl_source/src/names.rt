@@ -1,5 +1,18 @@
 //! The names of types that the language has (WGSL: predeclared types and type-generators).
 
+ghost use Rattle.std.specs.Prelude.{◌≡◌, Some, IfSome};
+ghost use Rattle.wgsl_rules.specs.View.{type_view};
+ghost use Rattle.wgsl_source.specs.declared.names.Scalar.{Scalar};
+ghost use Rattle.wgsl_source.specs.Names.{
+  scalar_type,
+  scalar_text,
+  IsLetter,
+  BeginsWithDimension,
+  NamesVector,
+  NamesMatrix,
+  Names,
+};
+
 use wgsl_rules::Type;
 
 /// What a name stands for that no declaration gives a meaning.
@@ -35,7 +48,9 @@ pub(crate) enum Scalar {
 }
 
 impl Scalar {
-    pub(crate) fn ty(self) -> Type {
+    pub(crate) fn ty(self) -> Type
+        ensures { type_view result ≡ scalar_type self }
+    {
         match self {
             Scalar::Bool => Type::Bool,
             Scalar::I32 => Type::I32,
@@ -49,7 +64,9 @@ impl Scalar {
     }
 
     // The last character of a short name.
-    fn of_letter(letter: &str) -> Option<Scalar> {
+    fn of_letter(letter: &str) -> Option<Scalar>
+        ensures { IfSome result (λ scalar. IsLetter scalar letter.now) }
+    {
         match letter {
             "i" => Some(Scalar::I32),
             "u" => Some(Scalar::U32),
@@ -61,7 +78,9 @@ impl Scalar {
 }
 
 /// What the language says that a name stands for; `None` where that is no type with a size.
-pub(crate) fn language_name(name: &str) -> Option<Predeclared> {
+pub(crate) fn language_name(name: &str) -> Option<Predeclared>
+    ensures { IfSome result (Names name.now) }
+{
     if let Some(scalar) = scalar_named(name) {
         return Some(Predeclared::Scalar(scalar));
     }
@@ -76,7 +95,10 @@ pub(crate) fn language_name(name: &str) -> Option<Predeclared> {
     }
 }
 
-fn scalar_named(name: &str) -> Option<Scalar> {
+fn scalar_named(name: &str) -> Option<Scalar>
+    ensures text { IfSome result (λ scalar. name.now ≡ scalar_text scalar) }
+    ensures each { (s : Scalar) → name.now ≡ scalar_text s → result ≡ Some s }
+{
     match name {
         "bool" => Some(Scalar::Bool),
         "i32" => Some(Scalar::I32),
@@ -91,7 +113,9 @@ fn scalar_named(name: &str) -> Option<Scalar> {
 }
 
 // A number of components, columns or rows at the front of a text, and the rest.
-fn split_dimension(text: &str) -> Option<(u8, &str)> {
+fn split_dimension(text: &str) -> Option<(u8, &str)>
+    ensures { IfSome result (λ p. BeginsWithDimension text.now p.0 p.1.now) }
+{
     if let Some(rest) = text.strip_prefix('2') {
         return Some((2, rest));
     }
@@ -101,7 +125,9 @@ fn split_dimension(text: &str) -> Option<(u8, &str)> {
     Some((4, text.strip_prefix('4')?))
 }
 
-fn vector_named(rest: &str) -> Option<Predeclared> {
+fn vector_named(rest: &str) -> Option<Predeclared>
+    ensures { IfSome result (NamesVector rest.now) }
+{
     let (n, letter) = split_dimension(rest)?;
     if letter.is_empty() {
         return Some(Predeclared::Generator(Generator::Vec(n)));
@@ -109,7 +135,9 @@ fn vector_named(rest: &str) -> Option<Predeclared> {
     Some(Predeclared::Vec(n, Scalar::of_letter(letter)?))
 }
 
-fn matrix_named(rest: &str) -> Option<Predeclared> {
+fn matrix_named(rest: &str) -> Option<Predeclared>
+    ensures { IfSome result (NamesMatrix rest.now) }
+{
     let (columns, rest) = split_dimension(rest)?;
     let (rows, letter) = split_dimension(rest.strip_prefix('x')?)?;
     match letter {

@@ -1,6 +1,10 @@
 //! Places in a source, as a person counts them.
 
+ghost use Rattle.std.specs.Prelude.{◌≡◌, ◌≤◌, ℕ, List, IfOk, length, All, ◌≢◌};
+ghost use Rattle.wgsl_source.specs.Places.{line_starts};
+
 use std::alloc::{AllocError, Global};
+use std::marker::Model;
 
 /// A place in a source: its line, and its column in that line in characters, both from 1.
 #[derive(Clone, Copy, Debug, PartialEq, Eq)]
@@ -15,12 +19,21 @@ pub struct Lines {
     starts: Vec<usize>,
 }
 
+// Where they begin.
+impl Model for Lines {
+    ghost Value = { List ℕ };
+
+    ghost view = { λ lines. lines.starts.items };
+}
+
 impl Lines {
     /// The lines of the text: each ends with LF, or where the text does.
-    pub fn new(alloc: Global, text: &str) -> Result<Self, AllocError> {
+    pub fn new(alloc: Global, text: &str) -> Result<Self, AllocError>
+        ensures { IfOk result (λ lines. lines ≡ line_starts text.now) }
+    {
         let mut starts = vec![in alloc; 0]?;
-        for (at, byte) in text.bytes().enumerate() {
-            if byte == b'\n' {
+        for (at, byte) in text.as_bytes().iter().enumerate() {
+            if *byte == b'\n' {
                 starts.push(at.saturating_add(1))?;
             }
         }
@@ -28,7 +41,10 @@ impl Lines {
     }
 
     /// The place of a byte of the text, which is the text that the lines were made of.
-    pub fn place(&self, text: &str, at: usize) -> Place {
+    pub fn place(&self, text: &str, at: usize) -> Place
+        ensures line { result.line ≤ length self.now }
+        ensures column { 1 ≤ result.column }
+    {
         let line = self.line_at(at);
         let before = text.get(self.start(line)..at).unwrap_or("");
         Place {
@@ -38,7 +54,9 @@ impl Lines {
     }
 
     /// The text of a line, from 1, without its end.
-    pub fn line<'a>(&self, text: &'a str, line: usize) -> &'a str {
+    pub fn line<'a>(&self, text: &'a str, line: usize) -> &'a str
+        ensures { All (λ byte. byte ≢ 10) result.now }
+    {
         let whole = text.get(self.start(line)..).unwrap_or("");
         match whole.split_once('\n') {
             Some((line, _)) => line.strip_suffix('\r').unwrap_or(line),
@@ -47,7 +65,9 @@ impl Lines {
     }
 
     // The line of the byte, from 1.
-    fn line_at(&self, at: usize) -> usize {
+    fn line_at(&self, at: usize) -> usize
+        ensures { result ≤ length self.now }
+    {
         self.starts.partition_point(|start| *start <= at)
     }
 

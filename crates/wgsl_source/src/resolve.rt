@@ -11,7 +11,7 @@ use crate::operator::{binary, unary};
 use crate::order::{names_of, order_of};
 use std::alloc::{AllocError, Global};
 use std::collections::BTreeMap;
-use wgsl_rules::{BinaryOperator, StructMemberType, StructType, Type, UnaryOperator};
+use wgsl_rules::{AddressSpace, BinaryOperator, StructMemberType, StructType, Type, UnaryOperator};
 use wgsl_scalar::LiteralInstance;
 
 /// The numbers by which a host names a variable, where they are given.
@@ -140,10 +140,11 @@ impl Resolver<'_> {
         };
         match declared.kind {
             Kind::Struct { first, end } => self.structure(declared.name, first, end),
-            Kind::Alias(span) => self.expression(span),
-            Kind::Value(ty, value) => self.value(declared.name, ty, value),
+            Kind::Alias(span) => self.ty(span),
+            Kind::Constant(ty, value) => self.value(declared.name, ty, value),
+            Kind::Override(ty, value) => self.overridden(declared.name, ty, value),
             Kind::Variable(variable) => match variable.ty {
-                Some(span) => self.expression(span),
+                Some(span) => self.stored(variable.space, span),
                 None => Ok(Meaning::Other(declared.name)),
             },
             Kind::Function => Ok(Meaning::Other(declared.name)),
@@ -155,11 +156,14 @@ impl Resolver<'_> {
         self.check_names(declared)?;
         let mut members = Vec::with_capacity(self.alloc, declared.len())?;
         let mut nodes = 1usize;
+        let mut is_aligned = true;
         for member in declared {
             match self.expression(member.ty)? {
                 Meaning::Type(sized) => {
                     nodes = nodes.saturating_add(sized.nodes);
+                    is_aligned = is_aligned && sized.is_aligned;
                     let member = self.member(member, sized.ty)?;
+                    is_aligned = is_aligned && is_member_aligned(&member);
                     members.push(member).map_err(AllocError::from)?;
                 }
                 Meaning::Number(_) => return Err(self.fault(member.name, Reason::NotType)),
@@ -173,7 +177,12 @@ impl Resolver<'_> {
             members,
         };
         let ty = Type::Struct(Box::new(self.alloc, ty).map_err(AllocError::from)?);
-        self.limited(name, SizedType { ty, nodes })
+        let sized = SizedType {
+            ty,
+            nodes,
+            is_aligned,
+        };
+        self.limited(name, sized)
     }
 
     // No two members have one name.
@@ -191,8 +200,8 @@ impl Resolver<'_> {
     }
 
     fn member(&self, member: &Member, ty: Type) -> Result<StructMemberType, Stop> {
-        let size = self.attribute(member.attributes.size)?;
-        let align = self.attribute(member.attributes.align)?;
+        let size = self.size(member.attributes.size, &ty)?;
+        let align = self.align(member.attributes.align)?;
         let name = String::from_str(self.alloc, self.cursor.text_at(member.name))?;
         Ok(StructMemberType {
             name,
@@ -200,6 +209,26 @@ impl Resolver<'_> {
             size,
             align,
         })
+    }
+
+    fn size(&self, span: Option<Span>, ty: &Type) -> Result<Option<u32>, Stop> {
+        let size = self.attribute(span)?;
+        match (span, size) {
+            (Some(span), Some(size)) if !takes_size(ty, size) => {
+                Err(self.fault(span.token, Reason::Size))
+            }
+            (_, _) => Ok(size),
+        }
+    }
+
+    fn align(&self, span: Option<Span>) -> Result<Option<u32>, Stop> {
+        let align = self.attribute(span)?;
+        match (span, align) {
+            (Some(span), Some(align)) if !align.is_power_of_two() => {
+                Err(self.fault(span.token, Reason::Align))
+            }
+            (_, _) => Ok(align),
+        }
     }
 
     // The number that an attribute gives.
@@ -217,11 +246,46 @@ impl Resolver<'_> {
         }
     }
 
-    fn value(&self, name: usize, ty: Option<Span>, value: Option<Span>) -> Result<Meaning, Stop> {
+    // What a type stands for.
+    fn ty(&self, span: Span) -> Result<Meaning, Stop> {
+        match self.expression(span)? {
+            Meaning::Number(_) => Err(self.fault(span.token, Reason::NotType)),
+            meaning => Ok(meaning),
+        }
+    }
+
+    // The type of a variable (WGSL: alignment of members). The rules of the uniform address space
+    // are told of the type.
+    fn stored(&self, space: Option<AddressSpace>, span: Span) -> Result<Meaning, Stop> {
+        match (space, self.ty(span)?) {
+            (Some(AddressSpace::Storage), Meaning::Type(sized)) if !sized.is_aligned => {
+                Err(self.fault(span.token, Reason::Misaligned))
+            }
+            (_, meaning) => Ok(meaning),
+        }
+    }
+
+    // A host may give another value than the one by default, so that none is known.
+    fn overridden(
+        &self,
+        name: usize,
+        ty: Option<Span>,
+        value: Option<Span>,
+    ) -> Result<Meaning, Stop> {
         let Some(value) = value else {
             return Ok(Meaning::Other(name));
         };
-        let meaning = self.expression(value)?;
+        match self.value(name, ty, value)? {
+            Meaning::Faulty => Ok(Meaning::Faulty),
+            _ => Ok(Meaning::Other(name)),
+        }
+    }
+
+    fn value(&self, name: usize, ty: Option<Span>, value: Span) -> Result<Meaning, Stop> {
+        let meaning = match self.expression(value)? {
+            Meaning::Type(_) => return Err(self.fault(value.token, Reason::NotNumber)),
+            meaning => meaning,
+        };
         let Some(ty) = ty else {
             return Ok(meaning);
         };
@@ -461,6 +525,28 @@ impl Arguments {
                 Arguments::More
             }
         }
+    }
+}
+
+// Whether a member of the type may have this size (WGSL: size attribute).
+fn takes_size(ty: &Type, size: u32) -> bool {
+    if is_runtime_sized(ty) {
+        return false;
+    }
+    match ty.size_of() {
+        Some(least) => least <= size,
+        None => true,
+    }
+}
+
+fn is_runtime_sized(ty: &Type) -> bool {
+    matches!(ty, Type::Array(_, None))
+}
+
+fn is_member_aligned(member: &StructMemberType) -> bool {
+    match (member.align, member.ty.align_of()) {
+        (Some(align), Some(least)) => align.is_multiple_of(least),
+        (_, _) => true,
     }
 }
 

@@ -1,5 +1,7 @@
 //! What a source declares.
 
+ghost use Rattle.std.specs.Prelude.{◌≤◌, IfOk, vec_len};
+
 use crate::cursor::Cursor;
 use crate::declaration::{Declaration, Kind, read_module};
 use crate::fault::{Fault, Faults};
@@ -63,7 +65,9 @@ impl Source {
     /// at most 100 faults are told, in the order of their places.
     ///
     /// The only error is that memory is wanting.
-    pub fn read(alloc: Global, text: &str) -> Result<Source, AllocError> {
+    pub fn read(alloc: Global, text: &str) -> Result<Source, AllocError>
+        ensures { IfOk result (λ source. vec_len source.faults ≤ 100) }
+    {
         let mut faults = Faults::new(alloc);
         let Lexed { mut tokens, fault } = tokens_of(alloc, text)?;
         if let Some(fault) = fault {
@@ -117,7 +121,9 @@ fn kind_of(kind: Kind, binding: Binding, meaning: Meaning) -> ItemKind {
                 group: binding.group,
                 binding: binding.binding,
             }),
-            Kind::Alias(_) | Kind::Value(_, _) | Kind::Function => ItemKind::Alias(sized.ty),
+            Kind::Alias(_) | Kind::Constant(_, _) | Kind::Override(_, _) | Kind::Function => {
+                ItemKind::Alias(sized.ty)
+            }
         },
         Meaning::Number(number) => ItemKind::Value(number),
         Meaning::Other(_) => ItemKind::Skipped,

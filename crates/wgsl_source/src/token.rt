@@ -1,5 +1,7 @@
 //! The tokens of a source (WGSL: tokens).
 
+ghost use Rattle.std.specs.Prelude.{◌≡◌, ◌↔◌, IsTrue};
+
 /// What a token is.
 #[derive(Clone, Copy, PartialEq, Eq)]
 pub(crate) enum TokenKind {
@@ -28,12 +30,16 @@ pub(crate) struct Token {
 
 impl Token {
     /// Whether it is this character.
-    pub(crate) fn is_symbol(&self, symbol: u8) -> bool {
+    pub(crate) fn is_symbol(&self, symbol: u8) -> bool
+        ensures { IsTrue result ↔ (self.now.kind ≡ TokenKind.Symbol symbol) }
+    {
         self.kind == TokenKind::Symbol(symbol)
     }
 
     /// Whether it is this character, and stands right behind the other token.
-    pub(crate) fn is_joined(&self, before: Token, symbol: u8) -> bool {
+    pub(crate) fn is_joined(&self, before: Token, symbol: u8) -> bool
+        ensures { IsTrue result ↔ ((self.now.kind ≡ TokenKind.Symbol symbol) × (before.end ≡ self.now.start)) }
+    {
         self.is_symbol(symbol) && before.end == self.start
     }
 }

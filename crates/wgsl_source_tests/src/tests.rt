@@ -1,5 +1,9 @@
 //! What sources declare.
 
+mod attributes;
 mod declarations;
+mod expressions;
 mod faults;
+mod reasons;
+mod recovery;
 mod texts;

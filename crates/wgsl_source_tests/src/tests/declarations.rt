@@ -2,7 +2,7 @@
 
 use crate::tests::texts::assert_declares;
 
-const ROWS: [(&str, &str); 25] = [
+const ROWS: [(&str, &str); 27] = [
     ("", ""),
     ("struct S { a: u32, b: vec3<u32> }", "S a:u32 b:vec3<u32>"),
     ("struct S { a: u32, b: vec3<u32>, };", "S a:u32 b:vec3<u32>"),
@@ -33,11 +33,23 @@ const ROWS: [(&str, &str); 25] = [
     ),
     ("const N = (2 + 3) * 4 - 1;", "N = 19"),
     (
-        "const N = 1 << 4 | 3; const M = 0x1Fu & 0x18u;",
+        "const N = (1 << 4) | 3; const M = 0x1Fu & 0x18u;",
         "N = 19; M = 24u",
     ),
     ("const N = 7 / 2 % 2; const M = -3 - -4;", "N = 1; M = 1"),
-    ("override n: u32 = 3; override m: f32;", "n = 3u; m skipped"),
+    // A host may give an override another value.
+    (
+        "override n: u32 = 3; override m: f32;",
+        "n skipped; m skipped",
+    ),
+    (
+        "@id(7) override n: u32; const M = n + 1; struct S { a: array<u32, n>, }",
+        "n skipped; M skipped; S skipped",
+    ),
+    (
+        "override n = 4; var<workgroup> w: array<f32, n>; alias A = array<u32, n * 2>;",
+        "n skipped; w skipped; A skipped",
+    ),
     (
         "const PI = 3.14; const E = 1e3; const H = 0x1p4;",
         "PI skipped; E skipped; H skipped",
@@ -53,7 +65,7 @@ const ROWS: [(&str, &str); 25] = [
     ),
     (
         "@group(0) @binding(1) var<storage, read_write> data: array<u32>;",
-        "data: array<u32>",
+        "data: array<u32> @group(0) @binding(1)",
     ),
     (
         "var<uniform> u: mat2x2h; var<private> p: i32 = 1;",

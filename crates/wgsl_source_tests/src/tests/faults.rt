@@ -40,8 +40,8 @@ const ROWS: [(&str, &str); 26] = [
         "A faulty; B faulty; 1:24 this needs itself",
     ),
     (
-        "alias A = 3; struct S { a: A }",
-        "A = 3; S faulty; 1:25 this is no type",
+        "const N = 3; struct S { a: N }",
+        "N = 3; S faulty; 1:25 this is no type",
     ),
     (
         "alias A = vec2<bool>; alias B = vec2<A>;",
@@ -61,7 +61,7 @@ const ROWS: [(&str, &str); 26] = [
     ),
     (
         "const N = 4294967296u;",
-        "N faulty; 1:11 this number is too large for its kind",
+        "N faulty; 1:11 this is no number of its kind",
     ),
     (
         "const N: u32 = -1;",

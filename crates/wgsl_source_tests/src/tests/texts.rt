@@ -44,10 +44,25 @@ fn add_item(text: &mut String, item: &Item) -> Result<(), AllocError> {
         ItemKind::Value(number) => write!(text, " = {number}"),
         ItemKind::Variable(variable) => {
             let ty = &variable.ty;
-            write!(text, ": {ty}")
+            write!(text, ": {ty}")?;
+            add_binding(text, variable.group, variable.binding)
         }
         ItemKind::Skipped => text.push_str(" skipped"),
         ItemKind::Faulty => text.push_str(" faulty"),
+    }
+}
+
+fn add_binding(
+    text: &mut String,
+    group: Option<u32>,
+    binding: Option<u32>,
+) -> Result<(), AllocError> {
+    if let Some(group) = group {
+        write!(text, " @group({group})")?;
+    }
+    match binding {
+        Some(binding) => write!(text, " @binding({binding})"),
+        None => Ok(()),
     }
 }
 
