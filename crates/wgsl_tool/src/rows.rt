@@ -1,7 +1,7 @@
 //! The members of a structure with those of the structures inside it, in the order of their bytes
 //! (WGSL: structure member layout).
 
-ghost use Rattle.std.specs.Prelude.{◌≡◌, ◌+◌, ℕ, IfSome, IsSomeAnd, IsNone, Some};
+ghost use Rattle.std.specs.Prelude.{◌≡◌, ◌+◌, IfSome, IsSomeAnd, IsNone, Some};
 ghost use Rattle.wgsl_tool.specs.Rows.{IsPaddingBehind};
 
 use crate::structures::innermost;
