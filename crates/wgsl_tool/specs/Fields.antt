@@ -1,5 +1,5 @@
 -- The fields of structures of the host.
-use Rattle.std.specs.Prelude.{ℕ, ◌+◌, ◌-◌, ◌/◌, ◌==◌, Option, Some, None, unwrap_or, if◌then◌else◌}
+use Rattle.std.specs.Prelude.{ℕ, ◌+◌, ◌-◌, ◌/◌, ◌==◌, Option, Some, unwrap_or, if◌then◌else◌}
 
 -- the bytes behind a value: what a member of this size has behind one of its type, and the padding behind the member
 abbrev pub filled_behind : Option ℕ → Option ℕ → Option ℕ → ℕ

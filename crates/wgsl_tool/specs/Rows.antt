@@ -1,5 +1,5 @@
 -- The rows of a structure's table.
-use Rattle.std.specs.Prelude.{ℕ, ◌+◌, ◌≡◌, ◌<◌, Option, Some, None, option_and_then}
+use Rattle.std.specs.Prelude.{ℕ, ◌+◌, ◌≡◌, ◌<◌, Some}
 use Rattle.wgsl_rules.specs.declared.places.MemberLayout.{MemberLayout}
 use Rattle.wgsl_tool.specs.declared.rows.PaddingRow.{PaddingRow}
 

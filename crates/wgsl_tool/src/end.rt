@@ -11,7 +11,7 @@ pub(crate) enum End {
     Faults,
     /// The arguments ask for nothing that there is.
     Usage,
-    /// Something cannot be read or written.
+    /// Something cannot be read or written, or memory is wanting.
     Io,
 }
 

@@ -38,14 +38,14 @@ also the structures inside them. The source is standard input where FILE is `-`.
   --version   prints the version
 
 The status is 0, or 1 for faults in the source and for names that it does not have or that have no
-layout, 2 for wrong arguments, 3 for what cannot be read or written.
+layout, 2 for wrong arguments, 3 for what cannot be read or written and where memory is wanting.
 ";
 
 fn main(rt: HostRuntime) -> ExitCode {
     let end = match run(&rt) {
         Ok(end) => end,
-        Err(_) => {
-            let _ = eprintln!(rt; "wgsl_tool: cannot read or write");
+        Err(error) => {
+            let _ = eprintln!(rt; "wgsl_tool: {error}");
             End::Io
         }
     };

@@ -1,15 +1,16 @@
 //! The members of a structure with those of the structures inside it, in the order of their bytes
 //! (WGSL: structure member layout).
 
-ghost use Rattle.std.specs.Prelude.{◌≡◌, ◌+◌, ℕ, IfSome, IsSomeAnd, IsNone, Some};
+ghost use Rattle.std.specs.Prelude.{◌≡◌, ◌+◌, IfSome, IsSomeAnd, IsNone, Some};
 ghost use Rattle.wgsl_tool.specs.Rows.{IsPaddingBehind};
 
 use crate::structures::innermost;
 use std::alloc::{AllocError, Global};
 use wgsl_rules::{MemberLayout, StructMemberType, StructType};
 
-/// How deep structures inside structures are followed.
-const DEPTH: usize = 64;
+/// How deep structures inside structures are followed. Shaders that nest types more than 15 deep are
+/// no longer taken everywhere (WGSL: limits).
+pub(crate) const DEPTH: usize = 16;
 
 /// A row of a structure's table, at bytes from the start of the whole.
 #[derive(Clone, Copy)]

@@ -4,11 +4,9 @@
 ghost use Rattle.std.specs.Prelude.{◌≡◌, ◌++◌, OnOk, string_bytes};
 ghost use Rattle.wgsl_tool.specs.Texts.{rule_text};
 
+use crate::rows::DEPTH;
 use std::alloc::{AllocError, Global};
 use wgsl_rules::{StructType, Type, UniformRule};
-
-/// How deep structures inside structures are followed.
-const DEPTH: usize = 64;
 
 /// A rule that is broken, and the names of the members that lead to where it is.
 #[derive(Drop)]
