@@ -190,11 +190,10 @@ impl Store {
         requires { IsKept self.now (reference_of reference.now) }
         ensures { Answers (option_map (λ b. b.now)) result (read_bytes self.now (reference_of reference.now)) }
     {
-        if reference.access().is_read() {
-            Ok(self.held_bytes(reference))
-        } else {
-            Err(Error::NotRead)
+        if !reference.access().is_read() {
+            return Err(Error::NotRead);
         }
+        Ok(self.held_bytes(reference))
     }
 
     // The bytes of the part that the reference names. Read access is not asked. The condition: it is kept.
