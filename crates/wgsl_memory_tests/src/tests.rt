@@ -8,6 +8,7 @@ mod fixtures;
 mod growth;
 mod handles;
 mod layouts;
+mod lent;
 mod plain_memory;
 mod readme;
 mod references;

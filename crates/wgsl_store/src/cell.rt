@@ -28,6 +28,7 @@ ghost use Rattle.wgsl_scalar.specs.Literals.{literal_of};
 ghost use Rattle.wgsl_store.specs.Atomics.{IsAtomicOf, number_in};
 ghost use Rattle.wgsl_store.specs.Cells.{IsCell, IsPart, LeadsIn, cell_value, part_value};
 ghost use Rattle.wgsl_store.specs.Components.{has_steps, is_vector, leads_to_component};
+ghost use Rattle.wgsl_store.specs.HeldBytes.{bytes_at};
 ghost use Rattle.wgsl_values.specs.View.{reference_of, steps_of, value_of};
 
 use crate::flat::{FlatCell, FlatPart};
@@ -77,6 +78,19 @@ impl Cell {
         match self {
             Cell::Flat(bytes) => Part::Flat(bytes.whole()),
             Cell::Tree(value) => Part::Tree(value),
+        }
+    }
+
+    /// The bytes of the part that the view leads to, lent; `None` in a cell that is a tree. The condition: the
+    /// view leads to a part.
+    pub(crate) fn bytes_at(&self, view: &MemView) -> Option<&[u8]>
+        requires cell { IsCell self.now }
+        requires there { IsOk (viewed (steps_of view.now) (cell_value self.now)) }
+        ensures { IsOkAnd (viewed (steps_of view.now) (cell_value self.now)) (λ x. option_map (λ b. b.now) result ≡ bytes_at (cell_value self.now) x) }
+    {
+        match self {
+            Cell::Flat(bytes) => Some(bytes.bytes_at(view)),
+            Cell::Tree(_) => None,
         }
     }
 

@@ -49,6 +49,7 @@ impl FlatCell {
       ◌≡◌,
       ◌↔◌,
       false,
+      true,
       IfOk,
       IsOk,
       IsOkAnd,
@@ -61,6 +62,7 @@ impl FlatCell {
     ghost use Rattle.wgsl_rules.specs.Values.{IsStorable, atomic_of, type_of};
     ghost use Rattle.wgsl_scalar.specs.Literals.{literal_of};
     ghost use Rattle.wgsl_store.specs.Atomics.{IsAtomicOf};
+    ghost use Rattle.wgsl_store.specs.Buffers.{buffer};
     ghost use Rattle.wgsl_store.specs.FlatCells.{IsFlatPart, part_value};
     ghost use Rattle.wgsl_values.specs.View.{value_of, steps_of};
 
@@ -92,6 +94,19 @@ impl FlatCell {
             bytes: self.bytes.as_slice(),
             located: Located::of_whole(&self.ty, &self.plan, self.count, self.bytes.len()),
         }
+    }
+
+    /// The bytes of the part that the view leads to, lent. The condition: the view leads to a part.
+    pub(crate) fn bytes_at(&self, view: &MemView) -> &[u8]
+        requires { IsOk (viewed (steps_of view.now) self.now) }
+        ensures bytes { IsOkAnd (viewed (steps_of view.now) self.now) (λ x. result.now ≡ buffer x) }
+        ensures laid { has_layout (type_of self.now) ≡ true }
+    {
+        let whole = Located::of_whole(&self.ty, &self.plan, self.count, self.bytes.len());
+        let Some(part) = whole.viewed(view) else {
+            unreachable!()
+        };
+        part.slice(self.bytes.as_slice())
     }
 
     /// Puts the value in the place of the part that the view leads to, where it fits there, and says whether

@@ -29,7 +29,7 @@ impl<'a> Located<'a> {
       shape_plan,
       shape_ty,
     };
-    ghost use Rattle.wgsl_store.specs.Ranges.{further, overwritten, view_range};
+    ghost use Rattle.wgsl_store.specs.Ranges.{bytes_in, further, overwritten, view_range};
     ghost use Rattle.wgsl_store.specs.Walk.{put};
     ghost use Rattle.wgsl_values.specs.View.{value_of, steps_of};
 
@@ -78,6 +78,17 @@ impl<'a> Located<'a> {
             }
             Shape::Component(ty) => ty.measures().size.unwrap_or(0) as usize,
         }
+    }
+
+    /// The bytes of the part, lent. The conditions: the part stands in these bytes, and its plan is that of its
+    /// type.
+    pub(crate) fn slice<'b>(self, bytes: &'b [u8]) -> &'b [u8]
+        requires located { IsLocated self }
+        requires whole { self.len ≡ length bytes.now }
+        ensures { result.now ≡ bytes_in bytes.now (part_range self.entry) }
+    {
+        let end = self.start + self.size();
+        &bytes[self.start..end]
     }
 
     /// The value that the bytes lay out in the place of the part. The conditions: the part stands in these

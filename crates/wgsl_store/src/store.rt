@@ -61,6 +61,7 @@ impl Store {
     ghost use Rattle.wgsl_store.specs.Atomics.{atomic_number};
     ghost use Rattle.wgsl_store.specs.Cells.{IsPart, part_value};
     ghost use Rattle.wgsl_store.specs.Components.{names_component};
+    ghost use Rattle.wgsl_store.specs.HeldBytes.{held_bytes, read_bytes};
     ghost use Rattle.wgsl_store.specs.Memory.{
       AllKept,
       HoldsValue,
@@ -72,7 +73,7 @@ impl Store {
       references_in,
     };
     ghost use Rattle.wgsl_store.specs.ReferenceCalls.{read};
-    ghost use Rattle.wgsl_scalar.specs.Answers.{Gives};
+    ghost use Rattle.wgsl_scalar.specs.Answers.{Answers, Gives};
     ghost use Rattle.wgsl_scalar.specs.Literals.{literal_of};
     ghost use Rattle.wgsl_values.specs.View.{value_of, reference_of};
 
@@ -179,6 +180,29 @@ impl Store {
         } else {
             Err(Error::NotRead)
         }
+    }
+
+    /// The bytes of the part that the reference names, lent, as they stand in its cell: the buffer of the value
+    /// that a read gives ([`crate::Buffers::to_buffer`]), with the padding inside it; `None` in a cell that is no
+    /// bytes, since the type of its whole value has no layout. Refused with `NotRead` without read access. No memory
+    /// is taken. The condition: the reference is kept, as [`Store::holds`] tests.
+    pub fn read_bytes(&self, reference: &RefInstance) -> Result<Option<&[u8]>, Error>
+        requires { IsKept self.now (reference_of reference.now) }
+        ensures { Answers (option_map (λ b. b.now)) result (read_bytes self.now (reference_of reference.now)) }
+    {
+        if !reference.access().is_read() {
+            return Err(Error::NotRead);
+        }
+        Ok(self.held_bytes(reference))
+    }
+
+    // The bytes of the part that the reference names. Read access is not asked. The condition: it is kept.
+    fn held_bytes(&self, reference: &RefInstance) -> Option<&[u8]>
+        requires { IsKept self.now (reference_of reference.now) }
+        ensures { IsOkAnd (held self.now (reference_of reference.now)) (λ x. option_map (λ b. b.now) result ≡ held_bytes self.now (reference_of reference.now) x) }
+    {
+        let cell = &self.cells[reference.cell()];
+        cell.bytes_at(reference.view())
     }
 
     /// Whether the reference names a component of a vector: the last step of its view is taken from a

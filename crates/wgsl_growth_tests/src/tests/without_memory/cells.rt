@@ -1,4 +1,4 @@
-//! What a store and a session answer without memory: tests, and writes that are accepted.
+//! What a store and a session answer without memory: tests, bytes that are lent, and writes that are accepted.
 
 ghost use Rattle.wgsl_session.specs.Calls.{IsSoundCall};
 ghost use Rattle.wgsl_session.specs.View.{call_of};
@@ -117,6 +117,28 @@ fn numbers_of_atomics(rt: HostRuntime) {
     assert!(rt; store.holds(&five));
     assert_eq!(rt; five.atomic_number(&store), Some(LiteralInstance::U32(5)));
     drop((store, five));
+}
+
+/// Asserts the bytes of the part that the reference names; none where its cell is no bytes.
+fn assert_lends(rt: &impl Abort, store: &Store, reference: &RefInstance, wanted: Option<&[u8]>) {
+    assert!(rt; store.holds(reference));
+    assert_same(rt, store.read_bytes(reference), Ok(wanted));
+}
+
+#[test]
+fn bytes_that_are_lent(rt: HostRuntime) {
+    let alloc = rt.alloc();
+    let mut store = Store::new(alloc);
+    let vector = Instance::from(vector_of(&rt, alloc, &[1, 2, 3]));
+    let whole = cell_with(&rt, alloc, &mut store, vector);
+    let component = view_index(&rt, alloc, &store, &whole, 2);
+    let truth = cell_with(&rt, alloc, &mut store, Instance::from(true));
+    let words = [1, 0, 0, 0, 2, 0, 0, 0, 3, 0, 0, 0];
+    assert_lends(&rt, &store, &whole, Some(words.as_slice()));
+    assert_lends(&rt, &store, &component, Some([3, 0, 0, 0].as_slice()));
+    assert_lends(&rt, &store, &truth, None);
+    drop((store, whole));
+    drop((component, truth));
 }
 
 /// The call, which a session takes.
