@@ -27,3 +27,4 @@ mod answers;
 mod atomics;
 mod builtins;
 mod growth;
+mod without_memory;

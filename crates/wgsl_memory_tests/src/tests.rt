@@ -14,4 +14,5 @@ mod references;
 mod samples;
 mod sessions;
 mod texts;
+mod using;
 mod values;
