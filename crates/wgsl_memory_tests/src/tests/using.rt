@@ -60,7 +60,10 @@ fn a_part_is_written_in_bytes_of_the_callers(rt: HostRuntime) -> Result<(), Fail
     assert!(rt; nine.is_storable());
     let mut bytes = [0xff; 14];
     assert_eq!(rt; layout.write(&mut bytes, &view, &nine), Ok(()));
-    assert_eq!(rt; bytes[7..], [255, 9, 0, 0, 0, 255, 255]);
+    assert_eq!(rt;
+        bytes,
+        [255, 255, 255, 255, 255, 255, 255, 255, 9, 0, 0, 0, 255, 255]
+    );
     let range = layout.range(bytes.len(), &view);
     assert_eq!(rt; range.map(|r| (r.start, r.end)), Ok((8, 12)));
     Ok(())
