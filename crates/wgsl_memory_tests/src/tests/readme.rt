@@ -18,7 +18,7 @@ fn member(alloc: Global, name: &str, ty: Type) -> Result<StructMemberType, Alloc
 }
 
 /// struct Pair { a: u32, b: vec3<u32> }
-pub(super) fn pair_type(alloc: Global) -> Result<StructType, AllocError> {
+pub fn pair_type(alloc: Global) -> Result<StructType, AllocError> {
     let a = member(alloc, "a", Type::U32)?;
     let vector = Type::Vec(3, Box::new(alloc, Type::U32)?);
     let b = member(alloc, "b", vector)?;
@@ -26,22 +26,6 @@ pub(super) fn pair_type(alloc: Global) -> Result<StructType, AllocError> {
         name: String::from_str(alloc, "Pair")?,
         members: vec![in alloc; a, b]?,
     })
-}
-
-/// Writes the value as bytes, and reads it back.
-fn assert_is_laid_out(rt: &impl Abort, alloc: Global, pair: Instance) -> Result<(), Fail> {
-    // The condition of `to_buffer`.
-    if !pair.is_well_formed() {
-        return Err(Fail::new("no value"));
-    }
-    let ty = pair.ty(alloc)?;
-    let bytes = pair.to_buffer(alloc)?.unwrap_or(Vec::new(alloc)); // none where the type has no layout
-    let words = [1, 0, 0, 0, 0, 0, 0, 0, 0, 0, 0, 0, 0, 0, 0, 0]; // a, and 12 bytes of padding
-    assert!(rt; bytes.starts_with(&words));
-    assert_eq!(rt; bytes.len(), 32);
-    let read = Instance::from_buffer(alloc, &bytes, &ty)?; // none where the bytes lay out no value of the type
-    assert_eq!(rt; read, Some(pair));
-    Ok(())
 }
 
 #[test]
@@ -69,4 +53,20 @@ fn the_example_of_the_readme(rt: HostRuntime) -> Result<(), Fail> {
     let text = pair.to_string(alloc)?;
     assert_eq!(rt; text.as_str(), "Pair(1u, vec3(2u, 3u, 9u))");
     assert_is_laid_out(&rt, alloc, pair)
+}
+
+/// Writes the value as bytes, and reads it back.
+fn assert_is_laid_out(rt: &impl Abort, alloc: Global, pair: Instance) -> Result<(), Fail> {
+    // The condition of `to_buffer`.
+    if !pair.is_well_formed() {
+        return Err(Fail::new("no value"));
+    }
+    let ty = pair.ty(alloc)?;
+    let bytes = pair.to_buffer(alloc)?.unwrap_or(Vec::new(alloc)); // none where the type has no layout
+    let words = [1, 0, 0, 0, 0, 0, 0, 0, 0, 0, 0, 0, 0, 0, 0, 0]; // a, and 12 bytes of padding
+    assert!(rt; bytes.starts_with(&words));
+    assert_eq!(rt; bytes.len(), 32);
+    let read = Instance::from_buffer(alloc, &bytes, &ty)?; // none where the bytes lay out no value of the type
+    assert_eq!(rt; read, Some(pair));
+    Ok(())
 }

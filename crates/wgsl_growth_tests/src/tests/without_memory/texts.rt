@@ -2,13 +2,16 @@
 
 use crate::tests::asserts::assert_same;
 use crate::tests::samples::{
-    array_of, atomic_of, mat2x3, named, pair, pair_type, pair_with, reference_of, text, vector_of,
+    array, array_of, atomic_of, mat2x3, named, pair, pair_type, pair_with, reference_of, text,
+    vector as vector_type, vector_of,
 };
 use std::alloc::AllocError;
 use std::fmt;
 use std::fmt::{Display, Write};
 use std::process::Abort;
-use wgsl_rules::{AccessMode, AddressSpace, BinaryOperator, Enumerant, Ty, Type, UnaryOperator};
+use wgsl_rules::{
+    AccessMode, AddressSpace, BinaryOperator, Enumerant, TexelFormat, Ty, Type, UnaryOperator,
+};
 use wgsl_samples::values::member_then_index;
 use wgsl_scalar::LiteralInstance::I32;
 use wgsl_scalar::{BuiltinName, BuiltinReason, Error};
@@ -52,6 +55,7 @@ fn texts_of_types_and_words(rt: HostRuntime) {
     assert_text(&rt, &AccessMode::ReadWrite, "read_write");
     assert_text(&rt, &AddressSpace::Workgroup, "workgroup");
     assert_text(&rt, &Enumerant::AccessMode(AccessMode::Write), "write");
+    assert_text(&rt, &TexelFormat::Rgba8Unorm, "rgba8unorm");
     assert_text(&rt, &BinaryOperator::Addition, "+");
     assert_text(&rt, &UnaryOperator::Negation, "-");
     assert_text(&rt, &I32(-5), "-5i");
@@ -132,11 +136,36 @@ fn each_sort_is_compared_and_has_its_type(rt: HostRuntime) {
     assert!(rt; !atomic.has_ty(&Type::U32));
     assert!(rt; !reference.has_ty(&Type::U32));
     assert!(rt; &reference == pointer.ptr());
+    assert!(rt; pointer == pointer);
     assert!(rt; !pointer.has_ty(&Type::U32));
+    assert_text(&rt, &pointer, "ptr<storage, u32, read_write>");
     assert!(rt; I32(5).has_ty(&Type::I32));
     drop((pair, one, ty));
     drop((matrix, same, atomic));
     drop((six, reference, pointer));
+}
+
+#[test]
+fn lists_are_compared_and_have_their_types(rt: HostRuntime) {
+    let alloc = rt.alloc();
+    let (list, vector) = (
+        array_of(&rt, alloc, &[1, 2], false),
+        vector_of(&rt, alloc, &[1, 2]),
+    );
+    let (elements, components) = (
+        array(&rt, alloc, Type::U32, Some(2)),
+        vector_type(&rt, alloc, 2, Type::U32),
+    );
+    assert!(rt; list == list);
+    assert!(rt; vector == vector);
+    assert!(rt; list.has_ty(&elements));
+    assert!(rt; !list.has_ty(&components));
+    assert!(rt; vector.has_ty(&components));
+    assert!(rt; !vector.has_ty(&elements));
+    assert_text(&rt, &list, "array(1u, 2u)");
+    assert_text(&rt, &vector, "vec2(1u, 2u)");
+    drop((list, vector));
+    drop((elements, components));
 }
 
 #[test]
