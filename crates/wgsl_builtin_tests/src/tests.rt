@@ -27,3 +27,5 @@ mod answers;
 mod atomics;
 mod builtins;
 mod growth;
+mod using;
+mod without_memory;

@@ -15,4 +15,5 @@ mod references;
 mod samples;
 mod sessions;
 mod texts;
+mod using;
 mod values;

@@ -2,7 +2,10 @@
 //! refused. What is compared is made first too.
 
 mod cells;
+mod layouts;
 mod literals;
 mod parts;
+mod places;
+mod texts;
 mod types;
 mod values;

@@ -9,10 +9,13 @@ use std::alloc::Global;
 use std::process::Abort;
 use wgsl_rules::AccessMode::ReadWrite;
 use wgsl_rules::AddressSpace::Storage;
+use wgsl_rules::Type;
+use wgsl_samples::atomics::flagged;
+use wgsl_scalar::LiteralInstance::U32;
 use wgsl_scalar::{Error, LiteralInstance};
 use wgsl_session::{Call, Fault, Reply, Session};
 use wgsl_store::{References, Store};
-use wgsl_values::{Instance, RefInstance};
+use wgsl_values::{AtomicInstance, Instance, RefInstance};
 
 /// The reference to a new cell with the value.
 fn cell_with(rt: &impl Abort, alloc: Global, store: &mut Store, value: Instance) -> RefInstance {
@@ -108,15 +111,53 @@ fn writes_to_a_cell_that_is_no_bytes(rt: HostRuntime) {
     drop((store, five, outer));
 }
 
+/// Puts the number into the atomic of an u32 that the reference names.
+fn put_number(rt: &impl Abort, store: &mut Store, reference: &RefInstance, number: u32) {
+    assert!(rt; store.holds(reference));
+    assert!(rt; reference.access().is_write());
+    assert!(rt; reference.target_ty().as_atomic() == Some(&Type::U32));
+    assert!(rt; AtomicInstance::can_make(&Instance::from(number)));
+    reference.put_atomic_number(store, U32(number));
+}
+
+/// Asserts the number of the atomic that the reference names.
+fn assert_number(
+    rt: &impl Abort,
+    store: &Store,
+    reference: &RefInstance,
+    number: Option<LiteralInstance>,
+) {
+    assert!(rt; store.holds(reference));
+    assert_eq!(rt; reference.atomic_number(store), number);
+}
+
 #[test]
 fn numbers_of_atomics(rt: HostRuntime) {
     let alloc = rt.alloc();
     let mut store = Store::new(alloc);
     let five = Instance::from(atomic_of(&rt, alloc, 5));
     let five = cell_with(&rt, alloc, &mut store, five);
-    assert!(rt; store.holds(&five));
-    assert_eq!(rt; five.atomic_number(&store), Some(LiteralInstance::U32(5)));
-    drop((store, five));
+    let word = cell_with(&rt, alloc, &mut store, Instance::from(5u32));
+    assert_number(&rt, &store, &five, Some(U32(5)));
+    assert_number(&rt, &store, &word, None);
+    put_number(&rt, &mut store, &five, 4294967295);
+    assert_number(&rt, &store, &five, Some(U32(4294967295)));
+    drop((store, five, word));
+}
+
+#[test]
+fn the_number_of_an_atomic_in_a_cell_that_is_no_bytes(rt: HostRuntime) {
+    let alloc = rt.alloc();
+    let mut store = Store::new(alloc);
+    let flagged = made!(&rt; flagged(alloc, 7, &[1, -2, 3])).expect(&rt, "a value");
+    let whole = cell_with(&rt, alloc, &mut store, flagged);
+    assert!(rt; store.holds(&whole));
+    let count = made!(&rt; whole.view_member(alloc, &store, text(&rt, alloc, "count")));
+    assert_number(&rt, &store, &whole, None);
+    assert_number(&rt, &store, &count, Some(U32(7)));
+    put_number(&rt, &mut store, &count, 8);
+    assert_number(&rt, &store, &count, Some(U32(8)));
+    drop((store, whole, count));
 }
 
 /// Asserts the bytes of the part that the reference names; none where its cell is no bytes.

@@ -64,6 +64,30 @@ fn matrices_and_references_are_made(rt: HostRuntime) {
     drop((matrix, reference));
 }
 
+#[test]
+fn each_sort_becomes_a_value(rt: HostRuntime) {
+    let alloc = rt.alloc();
+    let (pair, list) = (
+        pair_with(&rt, alloc, 1),
+        array_of(&rt, alloc, &[1, 2], true),
+    );
+    let (two, matrix) = (vector_of(&rt, alloc, &[1, 2]), mat2x3(&rt, alloc));
+    let (five, reference) = (atomic_of(&rt, alloc, 5), reference_of(&rt, alloc));
+    let pointer = PtrInstance::from(reference_of(&rt, alloc));
+    assert_same(&rt, Instance::from(pair).has_ty(&Type::U32), false);
+    assert_same(&rt, Instance::from(list).has_ty(&Type::U32), false);
+    assert_same(&rt, Instance::from(two).is_storable(), true);
+    assert_same(&rt, Instance::from(matrix).is_storable(), true);
+    assert_same(&rt, Instance::from(five).is_storable(), true);
+    assert_same(&rt, Instance::from(reference).is_well_formed(), true);
+    assert_same(&rt, Instance::from(pointer).is_well_formed(), true);
+    assert_same(&rt, Instance::from(U32(7)), Instance::from(7u32));
+    assert_same(&rt, Instance::from(true).has_ty(&Type::Bool), true);
+    assert_same(&rt, Instance::from(-7i64).has_ty(&Type::AbstractInt), true);
+    assert_same(&rt, Instance::from(-7i32).has_ty(&Type::I32), true);
+    assert_same(&rt, Instance::from(Type::U32).is_storable(), false);
+}
+
 /// Values, the type of each, and whether it converts to a vector of two i32.
 fn rows(rt: &impl Abort, alloc: Global) -> [(Instance, Type, bool); 6] {
     let elements = Instance::from(array_of(rt, alloc, &[1, 2, 3], true));
