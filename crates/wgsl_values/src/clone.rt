@@ -1,6 +1,6 @@
 //! `clone` of values and views.
 
-ghost use Rattle.std.specs.Prelude.{◌≡◌, IfOk};
+ghost use Rattle.std.specs.Prelude.{◌≡◌, IfOk, reverse};
 ghost use Rattle.wgsl_values.specs.View.{
   value_of,
   struct_view,
@@ -150,16 +150,27 @@ impl MemView {
     pub fn clone(&self, alloc: Global) -> Result<MemView, AllocError>
         ensures { IfOk result (λ view. steps_of view ≡ steps_of self.now) }
     {
-        match self {
-            MemView::Whole => Ok(MemView::Whole),
-            MemView::Member(name, rest) => {
-                let name = name.clone()?;
-                let rest = (**rest).clone(alloc)?;
-                Ok(MemView::Member(name, Box::new(alloc, rest)?))
-            }
-            MemView::Index(i, rest) => {
-                let rest = (**rest).clone(alloc)?;
-                Ok(MemView::Index(*i, Box::new(alloc, rest)?))
+        Ok(self.turned_copy(alloc)?.turned_onto(MemView::Whole))
+    }
+
+    // A copy of the steps, from the last to the first.
+    #[tactic(auto, using(crate::proofs::Turned::turned))]
+    fn turned_copy(&self, alloc: Global) -> Result<MemView, AllocError>
+        ensures { IfOk result (λ view. steps_of view ≡ reverse (steps_of self.now)) }
+    {
+        let mut copy = MemView::Whole;
+        let mut rest = self;
+        loop {
+            match rest {
+                MemView::Whole => return Ok(copy),
+                MemView::Member(name, next) => {
+                    copy = MemView::Member(name.clone()?, Box::new(alloc, copy)?);
+                    rest = next;
+                }
+                MemView::Index(i, next) => {
+                    copy = MemView::Index(*i, Box::new(alloc, copy)?);
+                    rest = next;
+                }
             }
         }
     }

@@ -119,15 +119,18 @@ impl Display for MemView {
     ghost output = { λ view. Some (text_of_steps (steps_of view)) };
 
     fn fmt<W: fmt::Write>(&self, f: &mut fmt::Formatter<W>) -> fmt::Result {
-        match self {
-            MemView::Whole => Ok(()),
-            MemView::Member(name, rest) => {
-                write!(f, ":{name}")?;
-                (**rest).fmt(f)
-            }
-            MemView::Index(i, rest) => {
-                write!(f, ":{i}")?;
-                (**rest).fmt(f)
+        let mut steps = self;
+        loop {
+            match steps {
+                MemView::Whole => return Ok(()),
+                MemView::Member(name, rest) => {
+                    write!(f, ":{name}")?;
+                    steps = rest;
+                }
+                MemView::Index(i, rest) => {
+                    write!(f, ":{i}")?;
+                    steps = rest;
+                }
             }
         }
     }

@@ -39,15 +39,26 @@ impl PartialEq for MemView {
     ghost laws = { partial_equiv_from_equiv views_equiv };
 
     fn eq(&self, other: &MemView) -> bool {
-        match (self, other) {
-            (MemView::Whole, MemView::Whole) => true,
-            (MemView::Member(a, rest), MemView::Member(b, others)) => {
-                a.as_str() == b.as_str() && (**rest).eq(others)
+        let (mut own, mut others) = (self, other);
+        loop {
+            match (own, others) {
+                (MemView::Whole, MemView::Whole) => return true,
+                (MemView::Member(a, rest), MemView::Member(b, next)) => {
+                    if a.as_str() != b.as_str() {
+                        return false;
+                    }
+                    own = rest;
+                    others = next;
+                }
+                (MemView::Index(i, rest), MemView::Index(j, next)) => {
+                    if *i != *j {
+                        return false;
+                    }
+                    own = rest;
+                    others = next;
+                }
+                _ => return false,
             }
-            (MemView::Index(i, rest), MemView::Index(j, others)) => {
-                *i == *j && (**rest).eq(others)
-            }
-            _ => false,
         }
     }
 }

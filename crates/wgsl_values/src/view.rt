@@ -12,6 +12,7 @@ ghost use Rattle.std.specs.Prelude.{
   OnErr,
   OnOk,
   option_map,
+  reverse,
   string_bytes,
 };
 ghost use Rattle.std.specs.Result.{result_ok};
@@ -27,15 +28,15 @@ ghost use Rattle.wgsl_values.specs.View.{value_of, steps_of};
 use crate::inst::Instance;
 use crate::parts::nth;
 use std::alloc::{AllocError, Global};
+use std::mem;
 use wgsl_rules::Ty;
 use wgsl_scalar::Error;
 
 /// A way from a value to a part of it, the outermost step first.
 ///
-/// A view may have any number of steps. What goes along it (`clone`, `==`, its text, a last step that
-/// is put on, dropping it) calls itself for each step, so the stack of the process limits how many
-/// these are: with 8 MiB, 4,095 are tried.
-#[derive(Debug, Drop)]
+/// A view may have any number of steps: what goes along it (`clone`, `==`, its text, a last step that is
+/// put on, dropping it) does so in a loop, and takes no more stack where it is longer.
+#[derive(Debug)]
 pub enum MemView {
     /// The value itself.
     Whole,
@@ -70,10 +71,40 @@ impl MemView {
     fn append(&mut self, last: MemView)
         ensures { steps_of self.new ≡ steps_of self.old ++ steps_of last }
     {
-        match self {
-            MemView::Whole => *self = last,
-            MemView::Member(_, rest) => rest.append(last),
-            MemView::Index(_, rest) => rest.append(last),
+        let whole = mem::replace(self, MemView::Whole);
+        *self = whole.turned_onto(MemView::Whole).turned_onto(last);
+    }
+
+    // The steps of the view from the last to the first, and behind them those of the other.
+    #[tactic(auto, using(crate::proofs::Turned::turned))]
+    pub(crate) fn turned_onto(mut self, mut done: MemView) -> MemView
+        ensures { steps_of result ≡ reverse (steps_of self) ++ steps_of done }
+    {
+        loop {
+            match self {
+                MemView::Whole => return done,
+                MemView::Member(name, mut rest) => {
+                    self = mem::replace(&mut *rest, done);
+                    done = MemView::Member(name, rest);
+                }
+                MemView::Index(i, mut rest) => {
+                    self = mem::replace(&mut *rest, done);
+                    done = MemView::Index(i, rest);
+                }
+            }
+        }
+    }
+}
+
+/// In a loop, so that a long view does not run out of stack.
+impl Drop for MemView {
+    fn drop(mut self) {
+        loop {
+            match self {
+                MemView::Whole => return,
+                MemView::Member(_, rest) => self = Box::into_inner(rest),
+                MemView::Index(_, rest) => self = Box::into_inner(rest),
+            }
         }
     }
 }

@@ -236,3 +236,27 @@ fn laws_of_values_do_nothing(_rt: HostRuntime) {
     transposed_twice_is_itself();
     a_part_replaced_is_storable();
 }
+
+/// A view of so many steps, each to the part of an index below 10.
+fn long_view(rt: &impl Abort, alloc: Global, steps: usize) -> MemView {
+    let mut view = MemView::Whole;
+    for step in 0..steps {
+        view = MemView::Index(step % 10, Box::new(alloc, view).expect(rt, "memory"));
+    }
+    view
+}
+
+#[test]
+fn a_view_has_any_number_of_steps(rt: HostRuntime) {
+    let alloc = rt.alloc();
+    let view = long_view(&rt, alloc, 1_000_000);
+    let mut copy = view.clone(alloc).expect(&rt, "memory");
+    assert!(rt; copy == view);
+    copy.append_index(alloc, 7).expect(&rt, "memory");
+    assert!(rt; copy != view);
+    let text = copy.to_string(alloc).expect(&rt, "memory");
+    assert_eq!(rt; text.len(), 2_000_002);
+    assert!(rt; text.as_str().starts_with(":9:8:7"));
+    assert!(rt; text.as_str().ends_with(":1:0:7"));
+    drop((view, copy));
+}

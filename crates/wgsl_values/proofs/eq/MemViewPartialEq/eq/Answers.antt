@@ -5,7 +5,7 @@ use Rattle.wgsl_values.specs.View.{steps_of}
 use Rattle.wgsl_values.specs.declared.view.MemView.{MemView, Member, Index, Member', Index', the_lemmas}
 use Rattle.wgsl_values.specs.declared.view.MemView.TheVariants as views
 use Rattle.wgsl_values.proofs.lemmas.Views.{steps_of-Member, steps_of-Index}
-use Rattle.wgsl_values.proofs.eq.MemViewPartialEq.+eq.Goals as goal
+use Rattle.wgsl_values.proofs.eq.MemViewPartialEq.eq.Goals as goal
 
 same_steps-not_member : (n : List ℕ) (ss : List Step) (v : MemView) → ((m : String Global) (rest : Box MemView Global) → v ≡ Member m rest → ⊥) → false ≡ same_steps (member n ∷ ss) (steps_of v)
 same_steps-not_member n ss (Member' m p rest) h = absurd (h m (record { ptr = p.ptr; alloc = p.alloc; value = rest }) refl)
@@ -18,9 +18,9 @@ same_steps-not_index i ss (Member' m p rest) h = rw (steps_of-Member m (record {
 same_steps-not_index i ss views.Whole h = search (rules, the_lemmas)
 
 pub returns-in_default-2 : goal.returns-in_default-2
-returns-in_default-2 t c =
-    simp (c.in_default.is-0, steps_of-Member) (same_steps-not_member _ _ _ c.in_default.not-Member-1)
+returns-in_default-2 c =
+    rw c.loop-own.invariant (simp (c.in_default.is-0, steps_of-Member) (same_steps-not_member _ _ _ c.in_default.not-Member-1))
 
 pub returns-in_default-3 : goal.returns-in_default-3
-returns-in_default-3 t c =
-    simp (c.in_default.is-0, steps_of-Index) (same_steps-not_index _ _ _ c.in_default.not-Index-1)
+returns-in_default-3 c =
+    rw c.loop-own.invariant (simp (c.in_default.is-0, steps_of-Index) (same_steps-not_index _ _ _ c.in_default.not-Index-1))
