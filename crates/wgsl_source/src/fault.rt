@@ -88,6 +88,8 @@ pub enum Reason {
     Shift,
     /// The type has more parts than are followed.
     TooLarge,
+    /// The types of the source have more parts in all than are followed.
+    TooManyTypes,
 }
 
 impl fmt::Display for Reason {
@@ -117,6 +119,7 @@ impl fmt::Display for Reason {
             Reason::Division => f.write_str("division by zero"),
             Reason::Shift => f.write_str("bits are shifted out"),
             Reason::TooLarge => f.write_str("this type has too many parts"),
+            Reason::TooManyTypes => f.write_str("the types up to here have too many parts in all"),
         }
     }
 }

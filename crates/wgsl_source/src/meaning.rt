@@ -108,6 +108,14 @@ fn is_number(ty: &Type) -> bool {
 }
 
 impl Meaning {
+    /// How many types are in it.
+    pub(crate) fn nodes(&self) -> usize {
+        match self {
+            Meaning::Type(sized) => sized.nodes,
+            Meaning::Number(_) | Meaning::Other(_) | Meaning::Faulty => 0,
+        }
+    }
+
     pub(crate) fn copy(&self, alloc: Global) -> Result<Meaning, AllocError> {
         match self {
             Meaning::Type(ty) => Ok(Meaning::Type(ty.copy(alloc)?)),

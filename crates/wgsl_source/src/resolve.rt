@@ -14,6 +14,9 @@ use std::collections::BTreeMap;
 use wgsl_rules::{AddressSpace, BinaryOperator, StructMemberType, StructType, Type, UnaryOperator};
 use wgsl_scalar::LiteralInstance;
 
+/// The most types that are copied from the meanings of declarations to those that name them.
+const COPIES: usize = 1 << 20;
+
 /// The numbers by which a host names a variable, where they are given.
 #[derive(Clone, Copy)]
 pub(crate) struct Binding {
@@ -39,6 +42,8 @@ struct Resolver<'a> {
     names: BTreeMap<String, usize>,
     meanings: Vec<Meaning>,
     bindings: Vec<Binding>,
+    /// How many types were copied.
+    copied: usize,
 }
 
 /// The meanings of all declarations.
@@ -58,6 +63,7 @@ pub(crate) fn meanings_of(
         names,
         meanings: faulty(alloc, declared)?,
         bindings: vec![in alloc; Binding::NONE; declared]?,
+        copied: 0,
     };
     for number in &order {
         resolver.resolve(*number, faults)?;
@@ -81,7 +87,7 @@ impl Binding {
     };
 }
 
-impl Resolver<'_> {
+impl<'a> Resolver<'a> {
     fn into_meanings(self, order: Vec<usize>) -> Meanings {
         Meanings {
             order,
@@ -127,15 +133,16 @@ impl Resolver<'_> {
         Some(self.module.declarations.get(declaration)?.kind)
     }
 
-    fn binding(&self, attributes: Attributes) -> Result<Binding, Stop> {
+    fn binding(&mut self, attributes: Attributes) -> Result<Binding, Stop> {
         Ok(Binding {
             group: self.attribute(attributes.group)?,
             binding: self.attribute(attributes.binding)?,
         })
     }
 
-    fn meaning_of(&self, declaration: usize) -> Result<Meaning, Stop> {
-        let Some(declared) = self.module.declarations.get(declaration) else {
+    fn meaning_of(&mut self, declaration: usize) -> Result<Meaning, Stop> {
+        let module = self.module;
+        let Some(declared) = module.declarations.get(declaration) else {
             return Ok(Meaning::Faulty);
         };
         match declared.kind {
@@ -151,8 +158,9 @@ impl Resolver<'_> {
         }
     }
 
-    fn structure(&self, name: usize, first: usize, end: usize) -> Result<Meaning, Stop> {
-        let declared = self.module.members.get(first..end).unwrap_or(&[]);
+    fn structure(&mut self, name: usize, first: usize, end: usize) -> Result<Meaning, Stop> {
+        let module = self.module;
+        let declared = module.members.get(first..end).unwrap_or(&[]);
         self.check_names(declared)?;
         let mut members = Vec::with_capacity(self.alloc, declared.len())?;
         let mut nodes = 1usize;
@@ -199,7 +207,7 @@ impl Resolver<'_> {
         Ok(())
     }
 
-    fn member(&self, member: &Member, ty: Type) -> Result<StructMemberType, Stop> {
+    fn member(&mut self, member: &Member, ty: Type) -> Result<StructMemberType, Stop> {
         let size = self.size(member.attributes.size, &ty)?;
         let align = self.align(member.attributes.align)?;
         let name = String::from_str(self.alloc, self.cursor.text_at(member.name))?;
@@ -211,7 +219,7 @@ impl Resolver<'_> {
         })
     }
 
-    fn size(&self, span: Option<Span>, ty: &Type) -> Result<Option<u32>, Stop> {
+    fn size(&mut self, span: Option<Span>, ty: &Type) -> Result<Option<u32>, Stop> {
         let size = self.attribute(span)?;
         match (span, size) {
             (Some(span), Some(size)) if !takes_size(ty, size) => {
@@ -221,7 +229,7 @@ impl Resolver<'_> {
         }
     }
 
-    fn align(&self, span: Option<Span>) -> Result<Option<u32>, Stop> {
+    fn align(&mut self, span: Option<Span>) -> Result<Option<u32>, Stop> {
         let align = self.attribute(span)?;
         match (span, align) {
             (Some(span), Some(align)) if !align.is_power_of_two() => {
@@ -232,7 +240,7 @@ impl Resolver<'_> {
     }
 
     // The number that an attribute gives.
-    fn attribute(&self, span: Option<Span>) -> Result<Option<u32>, Stop> {
+    fn attribute(&mut self, span: Option<Span>) -> Result<Option<u32>, Stop> {
         let Some(span) = span else {
             return Ok(None);
         };
@@ -247,7 +255,7 @@ impl Resolver<'_> {
     }
 
     // What a type stands for.
-    fn ty(&self, span: Span) -> Result<Meaning, Stop> {
+    fn ty(&mut self, span: Span) -> Result<Meaning, Stop> {
         match self.expression(span)? {
             Meaning::Number(_) => Err(self.fault(span.token, Reason::NotType)),
             meaning => Ok(meaning),
@@ -256,7 +264,7 @@ impl Resolver<'_> {
 
     // The type of a variable (WGSL: alignment of members). The rules of the uniform address space
     // are told of the type.
-    fn stored(&self, space: Option<AddressSpace>, span: Span) -> Result<Meaning, Stop> {
+    fn stored(&mut self, space: Option<AddressSpace>, span: Span) -> Result<Meaning, Stop> {
         match (space, self.ty(span)?) {
             (Some(AddressSpace::Storage), Meaning::Type(sized)) if !sized.is_aligned => {
                 Err(self.fault(span.token, Reason::Misaligned))
@@ -267,7 +275,7 @@ impl Resolver<'_> {
 
     // A host may give another value than the one by default, so that none is known.
     fn overridden(
-        &self,
+        &mut self,
         name: usize,
         ty: Option<Span>,
         value: Option<Span>,
@@ -281,7 +289,7 @@ impl Resolver<'_> {
         }
     }
 
-    fn value(&self, name: usize, ty: Option<Span>, value: Span) -> Result<Meaning, Stop> {
+    fn value(&mut self, name: usize, ty: Option<Span>, value: Span) -> Result<Meaning, Stop> {
         let meaning = match self.expression(value)? {
             Meaning::Type(_) => return Err(self.fault(value.token, Reason::NotNumber)),
             meaning => meaning,
@@ -321,9 +329,10 @@ impl Resolver<'_> {
     }
 
     /// What an expression stands for.
-    fn expression(&self, span: Span) -> Result<Meaning, Stop> {
+    fn expression(&mut self, span: Span) -> Result<Meaning, Stop> {
+        let module = self.module;
         let mut answers = Vec::new(self.alloc);
-        for step in self.module.steps.get(span.start..span.end).unwrap_or(&[]) {
+        for step in module.steps.get(span.start..span.end).unwrap_or(&[]) {
             let answer = self.answer(*step, &mut answers)?;
             answers.push(answer).map_err(AllocError::from)?;
         }
@@ -331,7 +340,7 @@ impl Resolver<'_> {
     }
 
     // Does a step, and takes the answers that it needs away.
-    fn answer(&self, step: Step, answers: &mut Vec<Meaning>) -> Result<Meaning, Stop> {
+    fn answer(&mut self, step: Step, answers: &mut Vec<Meaning>) -> Result<Meaning, Stop> {
         match step {
             Step::Name(name) => self.named(name),
             Step::Number(token) => self.number(token),
@@ -418,13 +427,11 @@ impl Resolver<'_> {
     }
 
     // What a name stands for by itself.
-    fn named(&self, token: usize) -> Result<Meaning, Stop> {
+    fn named(&mut self, token: usize) -> Result<Meaning, Stop> {
         let name = self.cursor.text_at(token);
-        if let Some(declaration) = self.names.get(name) {
-            return match self.meanings.get(*declaration) {
-                Some(meaning) => Ok(meaning.copy(self.alloc)?),
-                None => Ok(Meaning::Faulty),
-            };
+        let declaration = self.names.get(name).copied();
+        if let Some(declaration) = declaration {
+            return self.copy_of(declaration, token);
         }
         match name {
             "true" => return Ok(Meaning::Number(LiteralInstance::Bool(true))),
@@ -438,6 +445,18 @@ impl Resolver<'_> {
             Some(sized) => Ok(Meaning::Type(sized)),
             None => Err(self.fault(token, Reason::Arguments)),
         }
+    }
+
+    // What the declaration stands for, of which there may be too many copies.
+    fn copy_of(&mut self, declaration: usize, token: usize) -> Result<Meaning, Stop> {
+        let Some(meaning) = self.meanings.get(declaration) else {
+            return Ok(Meaning::Faulty);
+        };
+        self.copied = self.copied.saturating_add(meaning.nodes());
+        if self.copied > COPIES {
+            return Err(self.fault(token, Reason::TooManyTypes));
+        }
+        Ok(meaning.copy(self.alloc)?)
     }
 
     // Types of textures and samplers, and what stands in their template lists, are known to the
