@@ -70,6 +70,12 @@ member &0 c
         Some(i) if i < lines.len() => assert!(rt; is_line(&lines, i, REFUSED)),
         Some(_) => assert_eq!(rt; outcome, Err(RunFault::Memory)),
     }
+    // One growth alone is refused, so the script runs whole again.
+    if first.is_some() {
+        let (lines, outcome) = lines_of(rt.alloc(), script)?;
+        assert!(rt; (0..10).all(|i| is_line(&lines, i, wanted[i])));
+        assert_eq!(rt; outcome, Ok(()));
+    }
     Ok(())
 }
 
