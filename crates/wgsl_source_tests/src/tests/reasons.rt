@@ -6,17 +6,17 @@ use std::test::Fail;
 
 const ROWS: [(&str, &str); 20] = [
     ("var<input> a: u32;", "1:5 expected an address space"),
-    (
-        "var<storage, full> a: u32;",
-        "1:14 expected an access mode",
-    ),
+    ("var<storage, full> a: u32;", "1:14 expected an access mode"),
     ("var<storage read> a: u32;", "1:13 expected `>`"),
     ("alias A = array<u32 4>;", "1:21 expected `>`"),
     (
         "const N = 1;\n/* a /* b */",
         "N = 1; 2:1 this comment has no end",
     ),
-    ("const N = 1u >> 32u;", "N faulty; 1:14 bits are shifted out"),
+    (
+        "const N = 1u >> 32u;",
+        "N faulty; 1:14 bits are shifted out",
+    ),
     (
         "const N = 0x1FFu << 24u;",
         "N faulty; 1:18 bits are shifted out",
@@ -26,7 +26,10 @@ const ROWS: [(&str, &str); 20] = [
         "const N = -9223372036854775807 - 2;",
         "N faulty; 1:32 the answer is too large for its kind",
     ),
-    ("const N = 0x;", "N faulty; 1:11 this is no number of its kind"),
+    (
+        "const N = 0x;",
+        "N faulty; 1:11 this is no number of its kind",
+    ),
     (
         "const N = 12ab;",
         "N faulty; 1:11 this is no number of its kind",
