@@ -1,14 +1,24 @@
 -- A place among the tokens of a source.
 use Rattle.std.specs.Prelude.{ℕ, ◌+◌, ◌-◌, ◌^◌, min, length, slice_get, unwrap_or}
 use Rattle.wgsl_source.specs.declared.cursor.Cursor.{Cursor}
+use Rattle.wgsl_source.specs.declared.fault.Fault.{Fault}
+use Rattle.wgsl_source.specs.declared.fault.Reason.{Reason}
 use Rattle.wgsl_source.specs.declared.token.Token.{Token}
-use Rattle.wgsl_source.specs.declared.token.TokenKind.TheVariants as tokens
+use Rattle.wgsl_source.specs.declared.token.TokenKind.TheVariants as kinds
 
 -- the token of this number; behind the last one the end of the text
 abbrev pub token_of : Cursor → ℕ → Token
 token_of c at =
-    unwrap_or (slice_get c.tokens.now at) (record { kind = tokens.End; start = length c.text.now; end = length c.text.now })
+    unwrap_or (slice_get c.tokens.now at) (record { kind = kinds.End; start = length c.text.now; end = length c.text.now })
+
+-- the token that is read next
+abbrev pub next_token : Cursor → Token
+next_token c = token_of c c.at
 
 -- one token further
 abbrev pub advanced : Cursor → Cursor
 advanced c = record c { at = min (c.at + 1) (2 ^ 64 - 1) }
+
+-- a fault at the token of this number
+abbrev pub fault_of : Cursor → ℕ → Reason → Fault
+fault_of c at reason = record { start = (token_of c at).start; end = (token_of c at).end; reason = reason }

@@ -1,5 +1,8 @@
 //! A place among the tokens of a source, from which on it is read.
 
+ghost use Rattle.std.specs.Prelude.{◌≡◌, ◌↔◌, length, IsTrue, IfOk, IfErr, OnOk, if◌then◌else◌};
+ghost use Rattle.wgsl_source.specs.Cursors.{token_of, next_token, advanced, fault_of};
+
 use crate::fault::{Expected, Fault, Reason};
 use crate::token::{Token, TokenKind};
 use std::alloc::AllocError;
@@ -41,17 +44,23 @@ impl<'a> Cursor<'a> {
     }
 
     /// How many tokens are read.
-    pub(crate) fn position(&self) -> usize {
+    pub(crate) fn position(&self) -> usize
+        ensures { result ≡ self.now.at }
+    {
         self.at
     }
 
     /// How many tokens there are.
-    pub(crate) fn len(&self) -> usize {
+    pub(crate) fn len(&self) -> usize
+        ensures { result ≡ length self.now.tokens.now }
+    {
         self.tokens.len()
     }
 
     /// The token of this number; behind the last one there is none but the end of the text.
-    pub(crate) fn token_at(&self, at: usize) -> Token {
+    pub(crate) fn token_at(&self, at: usize) -> Token
+        ensures { result ≡ token_of self.now at }
+    {
         match self.tokens.get(at) {
             Some(token) => *token,
             None => Token {
@@ -68,12 +77,16 @@ impl<'a> Cursor<'a> {
     }
 
     /// The token that is read next.
-    pub(crate) fn token(&self) -> Token {
+    pub(crate) fn token(&self) -> Token
+        ensures { result ≡ next_token self.now }
+    {
         self.token_at(self.at)
     }
 
     /// The one behind it.
-    pub(crate) fn second(&self) -> Token {
+    pub(crate) fn second(&self) -> Token
+        ensures { result ≡ next_token (advanced self.now) }
+    {
         self.token_at(self.at.saturating_add(1))
     }
 
@@ -82,19 +95,27 @@ impl<'a> Cursor<'a> {
         self.text_at(self.at)
     }
 
-    pub(crate) fn is_at_end(&self) -> bool {
+    pub(crate) fn is_at_end(&self) -> bool
+        ensures { IsTrue result ↔ ((next_token self.now).kind ≡ TokenKind.End) }
+    {
         self.token().kind == TokenKind::End
     }
 
     /// Goes on by a token, and answers its number.
-    pub(crate) fn advance(&mut self) -> usize {
+    pub(crate) fn advance(&mut self) -> usize
+        ensures number { result ≡ self.old.at }
+        ensures after { self.new ≡ advanced self.old }
+    {
         let at = self.at;
         self.at = at.saturating_add(1);
         at
     }
 
     /// Goes on if this character is next, and says whether it was.
-    pub(crate) fn take_symbol(&mut self, symbol: u8) -> bool {
+    pub(crate) fn take_symbol(&mut self, symbol: u8) -> bool
+        ensures found { IsTrue result ↔ ((next_token self.old).kind ≡ TokenKind.Symbol symbol) }
+        ensures after { self.new ≡ (if result then advanced self.old else self.old) }
+    {
         let is_next = self.token().is_symbol(symbol);
         if is_next {
             self.advance();
@@ -102,17 +123,11 @@ impl<'a> Cursor<'a> {
         is_next
     }
 
-    /// Goes on if this word is next, and says whether it was.
-    pub(crate) fn take_word(&mut self, word: &str) -> bool {
-        let is_next = self.word() == word;
-        if is_next {
-            self.advance();
-        }
-        is_next
-    }
-
     /// Goes on by this character, or stops where another stands.
-    pub(crate) fn expect_symbol(&mut self, symbol: u8) -> Result<(), Stop> {
+    pub(crate) fn expect_symbol(&mut self, symbol: u8) -> Result<(), Stop>
+        ensures ok { OnOk result (((next_token self.old).kind ≡ TokenKind.Symbol symbol) × (self.new ≡ advanced self.old)) }
+        ensures err { IfErr result (λ stop. (stop ≡ Stop.At (fault_of self.old self.old.at (Reason.Expected (Expected.Symbol symbol)))) × (self.new ≡ self.old)) }
+    {
         if self.take_symbol(symbol) {
             Ok(())
         } else {
@@ -121,7 +136,10 @@ impl<'a> Cursor<'a> {
     }
 
     /// Goes on by a name, and answers its number.
-    pub(crate) fn expect_name(&mut self) -> Result<usize, Stop> {
+    pub(crate) fn expect_name(&mut self) -> Result<usize, Stop>
+        ensures ok { IfOk result (λ name. (name ≡ self.old.at) × ((next_token self.old).kind ≡ TokenKind.Name) × (self.new ≡ advanced self.old)) }
+        ensures err { IfErr result (λ stop. (stop ≡ Stop.At (fault_of self.old self.old.at (Reason.Expected Expected.Name))) × (self.new ≡ self.old)) }
+    {
         if self.token().kind == TokenKind::Name {
             Ok(self.advance())
         } else {
@@ -130,12 +148,16 @@ impl<'a> Cursor<'a> {
     }
 
     /// Something else is expected where the next token stands.
-    pub(crate) fn expected(&self, expected: Expected) -> Stop {
+    pub(crate) fn expected(&self, expected: Expected) -> Stop
+        ensures { result ≡ Stop.At (fault_of self.now self.now.at (Reason.Expected expected)) }
+    {
         Stop::At(self.fault_at(self.at, Reason::Expected(expected)))
     }
 
     /// A fault at the token of this number.
-    pub(crate) fn fault_at(&self, at: usize, reason: Reason) -> Fault {
+    pub(crate) fn fault_at(&self, at: usize, reason: Reason) -> Fault
+        ensures { result ≡ fault_of self.now at reason }
+    {
         let token = self.token_at(at);
         Fault {
             start: token.start,

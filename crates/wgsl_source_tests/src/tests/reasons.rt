@@ -1,10 +1,10 @@
 //! Each reason for which a source is not read as it stands, at its place.
 
 use crate::tests::texts::assert_declares;
-use std::alloc::{AllocError, Global};
 use std::test::Fail;
 
-const ROWS: [(&str, &str); 20] = [
+const ROWS: [(&str, &str); 21] = [
+    ("((((", "1:1 expected a declaration"),
     ("var<input> a: u32;", "1:5 expected an address space"),
     ("var<storage, full> a: u32;", "1:14 expected an access mode"),
     ("var<storage read> a: u32;", "1:13 expected `>`"),
@@ -81,22 +81,13 @@ fn reasons_have_their_places(rt: HostRuntime) {
 // The 4097th bracket is one too many.
 #[test]
 fn many_brackets_are_one_fault(rt: HostRuntime) -> Result<(), Fail> {
-    let value = with_brackets(rt.alloc(), "const N = ")?;
-    let wanted = "1:4107 too many brackets inside each other";
-    assert_declares(&rt, rt.alloc(), value.as_str(), wanted);
-
-    let brackets = with_brackets(rt.alloc(), "")?;
-    let wanted = "1:1 expected a declaration";
-    assert_declares(&rt, rt.alloc(), brackets.as_str(), wanted);
-    Ok(())
-}
-
-fn with_brackets(alloc: Global, start: &str) -> Result<String, AllocError> {
-    let mut source = String::from_str(alloc, start)?;
+    let mut source = String::from_str(rt.alloc(), "const N = ")?;
     for _ in 0..BRACKETS {
         source.push('(')?;
     }
-    Ok(source)
+    let wanted = "1:4107 too many brackets inside each other";
+    assert_declares(&rt, rt.alloc(), source.as_str(), wanted);
+    Ok(())
 }
 
 // A has 9 types in it with itself, B 73, C 585 and D 4681, of at most 4096.
