@@ -23,6 +23,7 @@ reply_text replies.Done = codes "done"
 abbrev pub answer_text : Answer → List ℕ
 answer_text (answers.Of reply) = reply_text reply
 answer_text (answers.Bytes bytes) = hexadecimal bytes.items
+answer_text (answers.Lent bytes) = hexadecimal bytes.now
 
 -- the name of an error's case
 abbrev pub case_name : Error → List ℕ

@@ -13,17 +13,19 @@ use wgsl_session::{Fault, Reply};
 
 /// The answer of a line that is carried out.
 #[derive(Debug, Drop)]
-pub(crate) enum Answer {
+pub(crate) enum Answer<'a> {
     /// What the call answers; `Done` too where a structure is defined.
     Of(Reply),
     /// The bytes of the value read.
     Bytes(Vec<u8>),
+    /// The same, as they stand in its cell.
+    Lent(&'a [u8]),
 }
 
-impl From<Reply> for Answer {
+impl<'a> From<Reply> for Answer<'a> {
     ghost from_gives = { λ reply answer. answer ≡ answers.Of reply };
 
-    fn from(reply: Reply) -> Answer {
+    fn from(reply: Reply) -> Answer<'a> {
         Answer::Of(reply)
     }
 }
@@ -32,7 +34,7 @@ impl From<Reply> for Answer {
 /// memory that could not be had, here or for the answer itself.
 pub(crate) fn write_answer(
     text: &mut String,
-    answer: &Result<Answer, Stop>,
+    answer: &Result<Answer<'_>, Stop>,
 ) -> Result<(), AllocError>
     ensures { OnOk result (IsSomeAnd (line_of answer.now) (λ line. string_bytes text.new ≡ string_bytes text.old ++ line)) }
 {
@@ -51,12 +53,13 @@ fn write_refusal(text: &mut String, stop: &Stop) -> Result<(), AllocError>
     text.push_str(name)
 }
 
-fn write_text(text: &mut String, answer: &Answer) -> Result<(), AllocError>
+fn write_text(text: &mut String, answer: &Answer<'_>) -> Result<(), AllocError>
     ensures { OnOk result (string_bytes text.new ≡ string_bytes text.old ++ answer_text answer.now) }
 {
     match answer {
         Answer::Of(reply) => write_reply(text, reply),
         Answer::Bytes(bytes) => push_bytes(text, bytes),
+        Answer::Lent(bytes) => push_bytes(text, bytes),
     }
 }
 

@@ -1,10 +1,14 @@
 //! Scripts: a line a call.
 
-ghost use Rattle.std.specs.Prelude.{◌≡◌, IfOk, Err};
-ghost use Rattle.wgsl_store.specs.Buffers.{Lays};
+ghost use Rattle.std.specs.Prelude.{◌≡◌, IfOk, IsOkAnd, Err};
+ghost use Rattle.wgsl_run.specs.Hexadecimal.{hexadecimal};
+ghost use Rattle.wgsl_run.specs.Lines.{answer_text};
+ghost use Rattle.wgsl_store.specs.Buffers.{Lays, buffer};
+ghost use Rattle.wgsl_store.specs.Memory.{IsKept, held};
+ghost use Rattle.wgsl_store.specs.ReferenceCalls.{read};
 ghost use Rattle.wgsl_rules.specs.Values.{Val};
 ghost use Rattle.wgsl_rules.specs.View.{type_view};
-ghost use Rattle.wgsl_values.specs.View.{value_of};
+ghost use Rattle.wgsl_values.specs.View.{reference_of, value_of};
 
 use crate::answer::{Answer, write_answer};
 use crate::fault::RunFault;
@@ -19,8 +23,8 @@ use std::io::{Read, Write};
 use std::str;
 use wgsl_rules::Type;
 use wgsl_session::{Call, Fault, Reply, Session};
-use wgsl_store::Buffers;
-use wgsl_values::Instance;
+use wgsl_store::{Buffers, References, Store};
+use wgsl_values::{Instance, RefInstance};
 
 /// Runs the script that the reader gives, and writes a line for each line that has a word. All of
 /// the script is read before its first line is run; each line is written before the next one is
@@ -73,7 +77,7 @@ impl Script {
         write_answer(text, &answer)
     }
 
-    fn answer(&mut self, words: &[&str]) -> Result<Answer, Stop> {
+    fn answer(&mut self, words: &[&str]) -> Result<Answer<'_>, Stop> {
         match words {
             ["struct", name, members @ ..] => self.define(name, members),
             ["new", ty, space, access, bytes] => self.make(ty, space, access, bytes),
@@ -87,13 +91,19 @@ impl Script {
         }
     }
 
-    fn define(&mut self, name: &str, members: &[&str]) -> Result<Answer, Stop> {
+    fn define(&mut self, name: &str, members: &[&str]) -> Result<Answer<'static>, Stop> {
         self.structs.define(name, members)?;
         Ok(Reply::Done.into())
     }
 
     #[tactic(auto, using(crate::proofs::Scripts::laid_is_plain))]
-    fn make(&mut self, ty: &str, space: &str, access: &str, bytes: &str) -> Result<Answer, Stop> {
+    fn make(
+        &mut self,
+        ty: &str,
+        space: &str,
+        access: &str,
+        bytes: &str,
+    ) -> Result<Answer<'static>, Stop> {
         let space = space_of(space).ok_or(Stop::BadLine)?;
         let access = access_of(access).ok_or(Stop::BadLine)?;
         let bytes = bytes_of(self.alloc, bytes)?.ok_or(Stop::BadLine)?;
@@ -102,7 +112,7 @@ impl Script {
         Ok(self.session.call(Call::New(value, space, access))?.into())
     }
 
-    fn member(&mut self, handle: &str, name: &str) -> Result<Answer, Stop> {
+    fn member(&mut self, handle: &str, name: &str) -> Result<Answer<'static>, Stop> {
         let handle = handle_of(handle).ok_or(Stop::BadLine)?;
         if !is_name(name) {
             return Err(Stop::BadLine);
@@ -111,19 +121,19 @@ impl Script {
         Ok(self.session.call(Call::Member(handle, name))?.into())
     }
 
-    fn index(&mut self, handle: &str, i: &str) -> Result<Answer, Stop> {
+    fn index(&mut self, handle: &str, i: &str) -> Result<Answer<'static>, Stop> {
         let handle = handle_of(handle).ok_or(Stop::BadLine)?;
         let i = number_of(i).ok_or(Stop::BadLine)?;
         Ok(self.session.call(Call::Index(handle, i))?.into())
     }
 
-    fn read(&mut self, handle: &str) -> Result<Answer, Stop> {
+    fn read(&mut self, handle: &str) -> Result<Answer<'static>, Stop> {
         let handle = handle_of(handle).ok_or(Stop::BadLine)?;
         Ok(self.session.call(Call::Read(handle))?.into())
     }
 
     #[tactic(auto, using(crate::proofs::Scripts::laid_is_plain))]
-    fn write(&mut self, handle: &str, bytes: &str) -> Result<Answer, Stop> {
+    fn write(&mut self, handle: &str, bytes: &str) -> Result<Answer<'static>, Stop> {
         let handle = handle_of(handle).ok_or(Stop::BadLine)?;
         let bytes = bytes_of(self.alloc, bytes)?.ok_or(Stop::BadLine)?;
         let reference = self.session.reference(handle).ok_or(Fault::NoHandle)?;
@@ -131,23 +141,36 @@ impl Script {
         Ok(self.session.call(Call::Write(handle, value))?.into())
     }
 
-    fn copy(&mut self, from: &str, to: &str) -> Result<Answer, Stop> {
+    fn copy(&mut self, from: &str, to: &str) -> Result<Answer<'static>, Stop> {
         let from = handle_of(from).ok_or(Stop::BadLine)?;
         let to = handle_of(to).ok_or(Stop::BadLine)?;
         Ok(self.session.call(Call::Copy(from, to))?.into())
     }
 
     // The bytes of the value that the handle names.
-    fn dump(&mut self, handle: &str) -> Result<Answer, Stop> {
+    fn dump(&self, handle: &str) -> Result<Answer<'_>, Stop> {
         let handle = handle_of(handle).ok_or(Stop::BadLine)?;
-        match self.session.call(Call::Read(handle))? {
-            Reply::Value(value) => {
-                let bytes = value.to_buffer(self.alloc)?;
-                Ok(Answer::Bytes(bytes.ok_or(Stop::NoValue)?))
-            }
-            reply => Ok(reply.into()),
-        }
+        let reference = self.session.reference(handle).ok_or(Fault::NoHandle)?;
+        bytes_read(self.alloc, self.session.store(), reference)
     }
+}
+
+/// The bytes of the value that the reference names, lent where they stand in its cell; `NoValue` where the value has
+/// none. The condition: the reference is kept.
+fn bytes_read<'a>(
+    alloc: Global,
+    store: &'a Store,
+    reference: &RefInstance,
+) -> Result<Answer<'a>, Stop>
+    requires { IsKept store.now (reference_of reference.now) }
+    ensures { IfOk result (λ answer. IsOkAnd (read (held store.now) (reference_of reference.now)) (λ v. answer_text answer ≡ hexadecimal (buffer v))) }
+{
+    if let Some(bytes) = store.read_bytes(reference)? {
+        return Ok(Answer::Lent(bytes));
+    }
+    let value = reference.read(alloc, store)?;
+    let bytes = value.to_buffer(alloc)?;
+    Ok(Answer::Bytes(bytes.ok_or(Stop::NoValue)?))
 }
 
 /// The value of the type that the bytes lay out; `NoValue` where they lay out none.
