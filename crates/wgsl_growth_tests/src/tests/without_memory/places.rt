@@ -81,7 +81,5 @@ fn measures_of_parts_and_of_the_whole(rt: HostRuntime) {
     assert_eq!(rt; both.of_struct().size, Some(32));
     assert!(rt; structure == same);
     assert_eq!(rt; structure.members.len(), 2);
-    assert!(rt; structure.members[0] == same.members[0]);
-    assert!(rt; structure.members[0] != same.members[1]);
     drop((three, structure, same));
 }
