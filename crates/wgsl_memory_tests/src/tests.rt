@@ -4,6 +4,7 @@ mod asserts;
 mod buffers;
 mod calls;
 mod cells;
+mod copies;
 mod fixtures;
 mod growth;
 mod handles;

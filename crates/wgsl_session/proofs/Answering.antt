@@ -1,15 +1,17 @@
 -- The steps of calls, from what the calls on a reference answer.
-use Rattle.std.proofs.Common.{◌≡◌, ℕ, List, slice_get, Option, Some, None, option_map, Result, Ok, Err, refl, sym, ap, ◌∙◌, subst}
-use Rattle.std.specs.Prelude.{MatchOption}
+use Rattle.std.proofs.Common.{◌≡◌, ℕ, List, slice_get, Option, Some, None, option_map, Result, Ok, Err, false, refl, sym, ap, ◌∙◌, subst}
+use Rattle.std.proofs.lemmas.Bool.{false≢true}
+use Rattle.std.specs.Prelude.{IsOk, IsTrue, MatchOption}
 use Rattle.std.specs.Result.{IsErrAnd}
 use Rattle.wgsl_rules.specs.Values.{Reference, Val}
 use Rattle.wgsl_rules.specs.Refusals.{Refusal, not_write, not_read_write, Outcome, and_then}
 use Rattle.wgsl_scalar.specs.Answers.{refusal_of}
 use Rattle.wgsl_scalar.specs.declared.error.Error.{Error}
+use Rattle.wgsl_store.specs.Copies.{are_in_bytes, copied}
 use Rattle.wgsl_store.specs.Memory.{held, IsKept, put_cells}
 use Rattle.wgsl_store.specs.ReferenceCalls.{read, old_value, loaded, written, Replaced, read_written}
 use Rattle.wgsl_store.proofs.lemmas.Loads.{loading-reads-on}
-use Rattle.wgsl_session.specs.Calls.{State, write, replace, copy, load_of, value, done, no_handle, refused, After, unchanged, changed, at_handle, or_unchanged, step, of_values, IsReached, IsStep}
+use Rattle.wgsl_session.specs.Calls.{State, write, replace, copy, load_of, value, done, no_handle, refused, After, unchanged, changed, at_handle, or_unchanged, step, of_values, handles_in_bytes, IsAcceptedWrite, IsReached, IsStep}
 use Rattle.wgsl_session.specs.View.{answer_of}
 use Rattle.wgsl_session.specs.declared.call.Reply.{Reply}
 use Rattle.wgsl_session.specs.declared.call.Fault.{Fault}
@@ -52,7 +54,7 @@ replace-is s h r w e = at s h r _ e ∙ by (old_value not_read_write (held s.cel
     by (Err x) = refl
 
 pub copy-is : (s : State Val) (from to : ℕ) (q r : Reference) → Some q ≡ slice_get s.handles from → Some r ≡ slice_get s.handles to
-    → step (of_values s.cells) s (copy from to) ≡ after_write s (and_then (read (held s.cells) q) (written s.cells r))
+    → step (of_values s.cells) s (copy from to) ≡ after_write s (copied s.cells q r)
 copy-is s from to q r e f = at s from q _ e ∙ at s to r _ f ∙ by (read (held s.cells) q)
   where
     put : (w : Val) (o : Outcome Val) → or_unchanged s o (λ old. changed s (put_cells s.cells r w) done) ≡ after_write s (and_then o (λ old. Ok (put_cells s.cells r w)))
@@ -108,21 +110,47 @@ replace-refused s cells after handles h r w e result found there g same gone =
     subst (λ (t : State Val). IsStep t (replace h w) (state after handles) (answer_of result)) found
     (refused-is (state cells handles) (state after handles) _ (after_replace (state cells handles)) (read_written cells r w) e result (λ x. refl) (replace-is (state cells handles) h r w there) g (ap (λ (cs : List Val). state cs handles) same) gone)
 
--- once the value is read
-pub copy-done : (s : State Val) (cells after : List Val) (handles : List Reference) (from to : ℕ) (q r : Reference) (w : Val) → record { cells = cells; handles = handles } ≡ s → Some q ≡ slice_get handles from
-    → Some r ≡ slice_get handles to → read (held cells) q ≡ Ok w → written cells r w ≡ Ok after
-    → step (of_values s.cells) s (copy from to) ≡ record { state = record { cells = after; handles = handles }; answer = done }
-copy-done s cells after handles from to q r w found first second v g =
+pub copy-done : (s : State Val) (cells after : List Val) (handles : List Reference) (from to : ℕ) (q r : Reference) → record { cells = cells; handles = handles } ≡ s → Some q ≡ slice_get handles from
+    → Some r ≡ slice_get handles to → copied cells q r ≡ Ok after → step (of_values s.cells) s (copy from to) ≡ record { state = record { cells = after; handles = handles }; answer = done }
+copy-done s cells after handles from to q r found first second g =
     subst (λ (t : State Val). step (of_values t.cells) t (copy from to) ≡ record { state = state after handles; answer = done }) found
-    (copy-is (state cells handles) from to q r first second ∙ ap (λ (o : Outcome Val). after_write (state cells handles) (and_then o (written cells r))) v ∙ ap (after_write (state cells handles)) g)
+    (copy-is (state cells handles) from to q r first second ∙ ap (after_write (state cells handles)) g)
 
-pub copy-refused : (s : State Val) (cells after : List Val) (handles : List Reference) (from to : ℕ) (q r : Reference) (w : Val) (e : Error) (result : Result Reply Fault) → record { cells = cells; handles = handles } ≡ s
-    → Some q ≡ slice_get handles from → Some r ≡ slice_get handles to → read (held cells) q ≡ Ok w → MatchOption (refusal_of e) (Unit {0}) (λ x. written cells r w ≡ Err x) → after ≡ cells → IsErrAnd result (λ f. f ≡ Of e)
+pub copy-refused : (s : State Val) (cells after : List Val) (handles : List Reference) (from to : ℕ) (q r : Reference) (e : Error) (result : Result Reply Fault) → record { cells = cells; handles = handles } ≡ s
+    → Some q ≡ slice_get handles from → Some r ≡ slice_get handles to → MatchOption (refusal_of e) (Unit {0}) (λ x. copied cells q r ≡ Err x) → after ≡ cells → IsErrAnd result (λ f. f ≡ Of e)
     → IsStep s (copy from to) (record { cells = after; handles = handles }) (answer_of result)
-copy-refused s cells after handles from to q r w e result found first second v g same gone =
+copy-refused s cells after handles from to q r e result found first second g same gone =
     subst (λ (t : State Val). IsStep t (copy from to) (state after handles) (answer_of result)) found
-    (refused-is (state cells handles) (state after handles) _ (after_write (state cells handles)) (written cells r w) e result (λ x. refl)
-    (copy-is (state cells handles) from to q r first second ∙ ap (λ (o : Outcome Val). after_write (state cells handles) (and_then o (written cells r))) v) g (ap (λ (cs : List Val). state cs handles) same) gone)
+    (refused-is (state cells handles) (state after handles) _ (after_write (state cells handles)) (copied cells q r) e result (λ x. refl) (copy-is (state cells handles) from to q r first second) g (ap (λ (cs : List Val). state cs handles) same) gone)
+
+-- one that is to take no memory names two handles, whose cells are bytes, and is accepted
+pub copy-accepted : (s : State Val) (cells : List Val) (handles : List Reference) (from to : ℕ) (q r : Reference) → record { cells = cells; handles = handles } ≡ s → Some q ≡ slice_get handles from → Some r ≡ slice_get handles to
+    → IsAcceptedWrite s (copy from to) → IsTrue (are_in_bytes cells q r) × IsOk (copied cells q r)
+copy-accepted s cells handles from to q r found first second h =
+    let at_state : IsAcceptedWrite (state cells handles) (copy from to) = subst (λ (t : State Val). IsAcceptedWrite t (copy from to)) (sym found) h in
+    (sym named ∙ at_state.0, made (copied cells q r) (sym (ap (λ (x : After Val). x.answer) (copy-is (state cells handles) from to q r first second)) ∙ at_state.1))
+  where
+    named : handles_in_bytes (state cells handles) from to ≡ are_in_bytes cells q r
+    named =
+        ap (λ (o : Option Reference). elim o [ None ↦ false | Some q ↦ elim (slice_get handles to) [ None ↦ false | Some r ↦ are_in_bytes cells q r ] ]) (sym first)
+        ∙ ap (λ (o : Option Reference). elim o [ None ↦ false | Some r ↦ are_in_bytes cells q r ]) (sym second)
+
+    made : (o : Outcome (List Val)) → (after_write (state cells handles) o).answer ≡ done → IsOk o
+    made (Ok x) e = refl
+    made (Err x) e = cc
+
+-- where a handle is not there no copy is accepted
+pub copy-named : (s : State Val) (from to : ℕ) → IsAcceptedWrite s (copy from to) → (None ≡ slice_get s.handles from → ⊥) × (None ≡ slice_get s.handles to → ⊥)
+copy-named s from to h = (first (slice_get s.handles from) h.0, second (slice_get s.handles from) (slice_get s.handles to) h.0)
+  where
+    first : (o : Option Reference) → IsTrue (elim o [ None ↦ false | Some q ↦ elim (slice_get s.handles to) [ None ↦ false | Some r ↦ are_in_bytes s.cells q r ] ]) → None ≡ o → ⊥
+    first None k e = false≢true k
+    first (Some q) k e = cc
+
+    second : (o p : Option Reference) → IsTrue (elim o [ None ↦ false | Some q ↦ elim p [ None ↦ false | Some r ↦ are_in_bytes s.cells q r ] ]) → None ≡ p → ⊥
+    second None p k e = false≢true k
+    second (Some q) None k e = false≢true k
+    second (Some q) (Some r) k e = cc
 
 -- once the first value is read
 pub load-done : (s : State Val) (cells : List Val) (handles : List Reference) (h : ℕ) (r : Reference) (w v : Val) → record { cells = cells; handles = handles } ≡ s → IsKept cells r → Some r ≡ slice_get handles h

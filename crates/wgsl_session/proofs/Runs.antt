@@ -3,7 +3,7 @@ use Rattle.std.proofs.Common.{◌≡◌, List, [], ◌∷◌, ◌++◌, length, 
 use Rattle.std.specs.Prelude.{IsOk}
 use Rattle.std.proofs.lemmas.Bool.{false≢true}
 use Rattle.wgsl_rules.specs.Values.{Val}
-use Rattle.wgsl_session.specs.Calls.{State, Call, write, Answer, done, After, AreSoundCalls, step, of_values, IsStep, IsAcceptedWrite, IsStepTaken, IsRun, IsRunTaken, IsGood}
+use Rattle.wgsl_session.specs.Calls.{State, Call, write, copy, Answer, done, After, AreSoundCalls, step, of_values, IsStep, IsAcceptedWrite, IsStepTaken, IsRun, IsRunTaken, IsGood}
 use Rattle.wgsl_session.specs.Flat.{IsFlatRun, flat_of}
 use Rattle.wgsl_session.specs.View.{answer_of}
 use Rattle.wgsl_session.specs.declared.call.Reply.{Reply}
@@ -12,6 +12,7 @@ use Rattle.wgsl_session.proofs.Good.{runs-in-step}
 
 accepted-answer : (s : State Val) (call : Call) → IsAcceptedWrite s call → (step (of_values s.cells) s call).answer ≡ done
 accepted-answer s (write h w) a = a
+accepted-answer s (copy from to) a = a.1
 accepted-answer s call a = absurd a
 
 -- a call that answers each accepted write takes its step

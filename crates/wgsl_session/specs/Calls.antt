@@ -1,11 +1,12 @@
 -- Calls on a shader's memory by handles: what each answers and changes, once for any memory, and lists of
 -- them (WGSL: memory views; load rule; assignment statement).
-use Rattle.std.specs.Prelude.{◌≡◌, ℕ, List, [], ◌∷◌, ◌++◌, length, slice_get, Option, Some, None, Ok, Err}
+use Rattle.std.specs.Prelude.{◌≡◌, ℕ, Bool, false, List, [], ◌∷◌, ◌++◌, length, slice_get, Option, Some, None, Ok, Err, IsTrue}
 use Rattle.wgsl_rules.specs.Values as values
 use Rattle.wgsl_rules.specs.Values.{Reference, Val, reference, IsStorable}
 use Rattle.wgsl_rules.specs.Refusals.{Refusal, not_write, not_read_write, Outcome}
 use Rattle.wgsl_rules.specs.declared.syntax.AddressSpace.{AddressSpace}
 use Rattle.wgsl_rules.specs.declared.syntax.AccessMode.{AccessMode}
+use Rattle.wgsl_store.specs.Copies.{are_in_bytes}
 use Rattle.wgsl_store.specs.Memory.{held, AllKept, references, IsSound, put_cells}
 use Rattle.wgsl_store.specs.ReferenceCalls.{whole_of_new, read, deeper, old_value, load}
 
@@ -125,9 +126,14 @@ IsReached reached before after (Some a) = reached ≡ record { state = after; an
 abbrev pub IsStep : State Val → Call → State Val → Option Answer → Type 0
 IsStep before call after answer = IsReached (step (of_values before.cells) before call) before after answer
 
--- the call is a write whose step accepts it
+-- the handles are there, and both name parts of cells of bytes
+abbrev pub handles_in_bytes : State Val → ℕ → ℕ → Bool
+handles_in_bytes s from to = elim (slice_get s.handles from) [ None ↦ false | Some q ↦ elim (slice_get s.handles to) [ None ↦ false | Some r ↦ are_in_bytes s.cells q r ] ]
+
+-- the call is a write, or a copy between cells of bytes, and its step accepts it
 abbrev pub IsAcceptedWrite : State Val → Call → Type 0
 IsAcceptedWrite s (write h w) = (step (of_values s.cells) s (write h w)).answer ≡ done
+IsAcceptedWrite s (copy from to) = IsTrue (handles_in_bytes s from to) × ((step (of_values s.cells) s (copy from to)).answer ≡ done)
 IsAcceptedWrite s call = ⊥
 
 -- a call does its step, and memory is never wanting where that is an accepted write

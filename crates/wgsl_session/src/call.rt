@@ -37,8 +37,9 @@ pub enum Call {
     /// Writes the value to what the handle names, and answers the old value; write access alone is
     /// needed. Refusals in order: `NotReadWrite` without it, `WriteRefType` as in a write.
     Replace(usize, Instance),
-    /// Writes what the first handle names to what the second names. It is refused as a read of the
-    /// first, then as a write to the second.
+    /// Copies what the first handle names to what the second names, as it stood before. It is refused as a
+    /// read of the first, then as a write to the second. One that is accepted takes no memory where both stand in
+    /// cells of bytes.
     Copy(usize, usize),
     /// Reads what the handle names, and reads on while the value is a reference (WGSL: load rule).
     /// Refused with `NotRead` where one of these references has no read access.

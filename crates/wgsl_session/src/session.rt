@@ -86,15 +86,16 @@ impl Session {
     /// Makes one call, and answers it. The condition: the call is sound, as [`Call::is_sound`] tests.
     /// Refusals in order: `NoHandle` where a handle that it names is not there; then those of [`Call`],
     /// each within [`Fault::Of`]. Want of memory is `Memory` there. After any of these no cell and no
-    /// handle has changed, and none is new. A [`Call::Write`] that is accepted takes no memory, so it
-    /// is never answered with `Memory`.
+    /// handle has changed, and none is new. A [`Call::Write`] that is accepted takes no memory, nor does a
+    /// [`Call::Copy`] that is accepted and whose handles both name parts of cells of bytes, as
+    /// [`Store::read_bytes`] tells: neither is ever answered with `Memory`.
     pub fn call(&mut self, call: Call) -> Result<Reply, Fault>
         requires { IsSoundCall (call_of call) }
         ensures step { IsStep self.old (call_of call) self.new (answer_of result) }
         // The same in the memory of bytes that the cells stand for.
         ensures bytes { IsFlatStep (flat_of self.old) (call_of call) (flat_of self.new) (answer_of result) }
         ensures good { IsGood self.new }
-        // A write that is accepted is made, whatever memory there is.
+        // A write that is accepted is made, whatever memory there is; so is a copy between cells of bytes.
         ensures accepted { IsAcceptedWrite self.old (call_of call) → IsOk result }
         // What is read may be stored again, and is held.
         ensures content { IfOk result (IsContentReply self.new.cells) }
@@ -104,17 +105,17 @@ impl Session {
     }
 
     /// Makes the calls, in order, and answers one reply for each, as [`Session::call`] does: a call that
-    /// is refused changes nothing, and those after it are made. A [`Call::Write`] that is accepted where
-    /// its turn comes is never answered with `Memory`. The condition: each call is sound, as
-    /// [`Call::is_sound`] tests. Room for the replies is asked for first; the only error is that it is
-    /// refused, and then no call is made.
+    /// is refused changes nothing, and those after it are made. A [`Call::Write`], or a [`Call::Copy`] between
+    /// cells of bytes, that is accepted where its turn comes is never answered with `Memory`. The condition: each
+    /// call is sound, as [`Call::is_sound`] tests. Room for the replies is asked for first; the only error is that
+    /// it is refused, and then no call is made.
     pub fn run(&mut self, calls: Vec<Call>) -> Result<Vec<Result<Reply, Fault>>, AllocError>
         requires { AreSoundCalls (map call_of calls.items) }
         ensures run { IfOk result (λ replies. IsRun self.old (map call_of calls.items) self.new (map answer_of replies.items)) }
         // The same in the memory of bytes that the cells stand for.
         ensures bytes { IfOk result (λ replies. IsFlatRun (flat_of self.old) (map call_of calls.items) (flat_of self.new) (map answer_of replies.items)) }
         ensures good { IsGood self.new }
-        // A write that is accepted is made, whatever memory there is.
+        // A write that is accepted is made, whatever memory there is; so is a copy between cells of bytes.
         ensures accepted { IfOk result (λ replies. IsRunTaken self.old (map call_of calls.items) self.new (map answer_of replies.items)) }
         ensures err { OnErr result (self.new ≡ self.old) }
     {
@@ -265,6 +266,7 @@ impl Session {
 
     fn copy(&mut self, from: usize, to: usize) -> Result<Reply, Fault>
         ensures step { IsStep self.old (model.copy from to) self.new (answer_of result) }
+        ensures accepted { IsAcceptedWrite self.old (model.copy from to) → IsOk result }
         ensures content { IfOk result (IsContentReply self.new.cells) }
     {
         let Some(source) = reference_at(&self.handles, from) else {
@@ -273,8 +275,7 @@ impl Session {
         let Some(target) = reference_at(&self.handles, to) else {
             return Err(Fault::NoHandle);
         };
-        let value = source.read(self.alloc, &self.store)?;
-        target.write(self.alloc, &mut self.store, value)?;
+        source.copy_to(self.alloc, &mut self.store, target)?;
         Ok(Reply::Done)
     }
 

@@ -58,14 +58,14 @@ nowhere v steps s h e ok = by (viewed steps v) (result-viewed v steps None s h e
     by (Ok x) e ok = cc
     by (Err f) e ok = cc
 
-at-part : (v : Val) (steps : List Step) (r : Range) → IsStorable v → has_layout (type_of v) ≡ true → view_range steps (layout_of v) ≡ Some r → viewed steps v ≡ Ok (decoded (buffer v) r.start r.layout)
+pub at-part : (v : Val) (steps : List Step) (r : Range) → IsStorable v → has_layout (type_of v) ≡ true → view_range steps (layout_of v) ≡ Some r → viewed steps v ≡ Ok (decoded (buffer v) r.start r.layout)
 at-part v steps r s h e = by (viewed steps v) (result-viewed v steps (Some r) s h e)
   where
     by : (o : Outcome Val) → result_ok o ≡ Some (decoded (buffer v) (0 + r.start) r.layout) → o ≡ Ok (decoded (buffer v) r.start r.layout)
     by (Ok x) e = let z : 0 + r.start ≡ r.start = omega arith in let same : x ≡ decoded (buffer v) (0 + r.start) r.layout = cc in ap Ok (same ∙ ap (λ (n : ℕ). decoded (buffer v) n r.layout) z)
     by (Err f) e = absurd (cc)
 
-laid-at : (v : Val) (l : Located) → IsLocated l → IsLaid l.count (shape_ty l.shape) (decoded (buffer v) l.start (part_range l).layout)
+pub laid-at : (v : Val) (l : Located) → IsLocated l → IsLaid l.count (shape_ty l.shape) (decoded (buffer v) l.start (part_range l).layout)
 laid-at v l h = there-laid l.count (shape_ty l.shape) (shape_plan l.shape) l.start l.len (buffer v) h
 
 -- what fits the part has its layout

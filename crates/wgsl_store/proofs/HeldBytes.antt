@@ -13,7 +13,7 @@ use Rattle.wgsl_store.proofs.lemmas.Held.{has-path}
 use Rattle.wgsl_store.proofs.lemmas.ViewPaths.{path-in-is}
 
 -- the bytes in the range that a view leads to are the buffer of the part
-part-bytes : (v x : Val) (steps : List Step) (r : Range) → IsStorable v → has_layout (type_of v) ≡ true → viewed steps v ≡ Ok x → view_range steps (layout_of v) ≡ Some r → bytes_in (buffer v) r ≡ buffer x
+pub part-bytes : (v x : Val) (steps : List Step) (r : Range) → IsStorable v → has_layout (type_of v) ≡ true → viewed steps v ≡ Ok x → view_range steps (layout_of v) ≡ Some r → bytes_in (buffer v) r ≡ buffer x
 part-bytes v x steps r s h e there =
     let q = has-path steps v x e in
     let path_is = path-in-is steps (layout_of v) v q.path (refl, h) (follows v s h) q.there in

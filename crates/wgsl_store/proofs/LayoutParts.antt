@@ -83,7 +83,7 @@ pub written-there : (b : List ℕ) (steps : List Step) (t : Ty) (w : Val) (r : R
 written-there b steps t w r found = ap (λ (a : Answer Range). answer_then a (written_in b w)) found
 
 -- values of one type that take as many bytes are laid out alike
-alike-by-length : (w : Val) (n : ℕ) (t : Ty) (p : Plan) (at len : ℕ) → IsThere n t p at len → IsStorable w → type_of w ≡ t → length_in (layout_of w) ≡ length_in (layout n t) → layout_of w ≡ layout n t
+pub alike-by-length : (w : Val) (n : ℕ) (t : Ty) (p : Plan) (at len : ℕ) → IsThere n t p at len → IsStorable w → type_of w ≡ t → length_in (layout_of w) ≡ length_in (layout n t) → layout_of w ≡ layout n t
 alike-by-length w n t p at len h s e long =
     let v = decoded [] at (layout n t) in
     let own : IsLaid n t v = there-laid n t p at len [] h in

@@ -61,7 +61,7 @@ found-content view cells r (Some x) s e = by (held cells r) refl e
 
 -- ---- the cell of a reference
 
-cell-is : {X : Type 0} (view : X → Val) (cs : List X) (i : ℕ) (d : X) (x : Val) → slice_get (map view cs) i ≡ Some x → view (get_or cs i d) ≡ x
+pub cell-is : {X : Type 0} (view : X → Val) (cs : List X) (i : ℕ) (d : X) (x : Val) → slice_get (map view cs) i ≡ Some x → view (get_or cs i d) ≡ x
 cell-is view [] i d x e = absurd (cc)
 cell-is view (c ∷ cs) zero d x e = cc
 cell-is view (c ∷ cs) (suc i) d x e = cell-is view cs i d x e
@@ -91,12 +91,12 @@ all-one P x h (suc k) d lt = absurd (omega arith)
 
 -- ---- a put
 
-map-set : {X : Type 0} (view : X → Val) (cs : List X) (i : ℕ) (new d : X) (f : Val → Val) → view new ≡ f (view (get_or cs i d)) → map view (set cs i new) ≡ at_position i f (map view cs)
+pub map-set : {X : Type 0} (view : X → Val) (cs : List X) (i : ℕ) (new d : X) (f : Val → Val) → view new ≡ f (view (get_or cs i d)) → map view (set cs i new) ≡ at_position i f (map view cs)
 map-set view [] i new d f e = refl
 map-set view (c ∷ cs) zero new d f e = ap (λ (v : Val). v ∷ map view cs) e
 map-set view (c ∷ cs) (suc i) new d f e = ap (λ (vs : List Val). view c ∷ vs) (map-set view cs i new d f e)
 
-same-set : {X : Type 0} (view : X → Val) (cs : List X) (i : ℕ) (new d : X) → view new ≡ view (get_or cs i d) → map view (set cs i new) ≡ map view cs
+pub same-set : {X : Type 0} (view : X → Val) (cs : List X) (i : ℕ) (new d : X) → view new ≡ view (get_or cs i d) → map view (set cs i new) ≡ map view cs
 same-set view [] i new d e = refl
 same-set view (c ∷ cs) zero new d e = ap (λ (v : Val). v ∷ map view cs) e
 same-set view (c ∷ cs) (suc i) new d e = ap (λ (vs : List Val). view c ∷ vs) (same-set view cs i new d e)

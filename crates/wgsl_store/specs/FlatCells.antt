@@ -1,13 +1,15 @@
 -- Cells that hold their values as bytes, and parts of them (WGSL: memory locations; internal layout of values).
-use Rattle.std.specs.Prelude.{◌≡◌, length}
-use Rattle.wgsl_rules.specs.Layout.{HasLayout, layout, runtime_count}
-use Rattle.wgsl_rules.specs.Values.{Val, type_of, IsStorable}
+use Rattle.std.specs.Prelude.{◌≡◌, List, Some, length}
+use Rattle.wgsl_rules.specs.Layout.{HasLayout, layout, layout_of, runtime_count}
+use Rattle.wgsl_rules.specs.Values.{Step, Val, type_of, IsStorable}
 use Rattle.wgsl_rules.specs.View.{type_view}
 use Rattle.wgsl_store.specs.Buffers.{buffer, decoded}
-use Rattle.wgsl_store.specs.Located.{IsLocated, shape_ty}
+use Rattle.wgsl_store.specs.Located.{IsLocated, part_range, shape_ty}
 use Rattle.wgsl_store.specs.Plan.{plan_of, plan_view}
+use Rattle.wgsl_store.specs.Ranges.{view_range}
 use Rattle.wgsl_store.specs.declared.flat.FlatCell.TheInside.{Inside}
 use Rattle.wgsl_store.specs.declared.flat.FlatPart.{FlatPart}
+use Rattle.wgsl_store.specs.declared.located.Located.{Located}
 
 -- ---- cells
 
@@ -28,6 +30,12 @@ pub record Holds (c : Inside) (v : Val) : Type 0 where
 -- a cell holds the value that its bytes lay out
 abbrev pub IsFlatCell : Inside → Type 0
 IsFlatCell c = Holds c (flat_value c)
+
+-- where the part stands that the steps lead to in the value
+pub record IsPartAt (v : Val) (steps : List Step) (l : Located) : Type 0 where
+  pub there : IsLocated l
+  pub found : view_range steps (layout_of v) ≡ Some (part_range l)
+  pub whole : l.len ≡ length (buffer v)
 
 -- ---- parts
 

@@ -2,6 +2,7 @@ pub mod Atomics
 pub mod Buffers
 pub mod Cells
 pub mod Components
+pub mod Copies
 pub mod FlatCells
 pub mod HeldBytes
 pub mod Laws

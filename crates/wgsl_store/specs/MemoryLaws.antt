@@ -1,13 +1,17 @@
 -- The laws of memory. Each is proved of the definitions alone.
-use Rattle.std.specs.Prelude.{◌≡◌, ℕ, List, [], ◌∷◌, ◌++◌, Ok, Some, IsTrue, slice_get, ◌⊎◌, ◌≢◌, ◌↔◌}
+use Rattle.std.specs.Prelude.{◌≡◌, ℕ, List, [], ◌∷◌, ◌++◌, Ok, Some, IsSomeAnd, IsTrue, slice_get, ◌⊎◌, ◌≢◌, ◌↔◌}
 use Rattle.wgsl_rules.specs.Access.{can_read, can_write}
-use Rattle.wgsl_rules.specs.Values.{Step, Reference, Val, pointer, reference, IsStorable}
+use Rattle.wgsl_rules.specs.Layout.{HasLayout, layout_of}
+use Rattle.wgsl_rules.specs.Values.{Step, Reference, Val, pointer, reference, type_of, IsStorable}
 use Rattle.wgsl_rules.specs.Refusals.{and_then}
 use Rattle.wgsl_rules.specs.Paths.{value_at, path_of}
 use Rattle.wgsl_rules.specs.Laws.{Apart}
 use Rattle.wgsl_rules.specs.declared.syntax.AddressSpace.{AddressSpace}
 use Rattle.wgsl_rules.specs.declared.syntax.AccessMode.{AccessMode}
+use Rattle.wgsl_store.specs.Buffers.{buffer}
+use Rattle.wgsl_store.specs.Copies.{copied}
 use Rattle.wgsl_store.specs.Memory.{held, IsKept, HoldsValue, IsContent, IsSound}
+use Rattle.wgsl_store.specs.Ranges.{Range, bytes_in, overwritten, view_range}
 use Rattle.wgsl_store.specs.ReferenceCalls.{whole_of_new, read, deeper, written, load, loaded}
 
 -- ---- references that are kept
@@ -64,6 +68,25 @@ abbrev pub WritesApartCommute : Type 0
 WritesApartCommute = (cells one : List Val) (q r : Reference) (v w : Val) → IsSound cells → IsKept cells r → IsStorable v → IsStorable w → AreApart cells q r
     → written cells q v ≡ Ok one
     → (and_then (written cells q v) (λ between. written between r w) ≡ and_then (written cells r w) (λ between. written between q v)) × (held one r ≡ held cells r)
+
+-- ---- copies
+
+-- the cell of the reference holds v, whose type has a layout, and the view leads to this range of its bytes
+pub record NamesBytes (cells : List Val) (r : Reference) (v : Val) (range : Range) : Type 0 where
+  pub there : slice_get cells r.cell ≡ Some v
+  pub laid : HasLayout (type_of v)
+  pub leads : view_range r.view (layout_of v) ≡ Some range
+
+-- the bytes of the cell i are these, and each other cell is as before
+pub record HasNewBytes (cells after : List Val) (i : ℕ) (b : List ℕ) : Type 0 where
+  pub here : IsSomeAnd (slice_get after i) (λ v. buffer v ≡ b)
+  pub elsewhere : (k : ℕ) → i ≢ k → slice_get after k ≡ slice_get cells k
+
+-- a copy between parts of cells of bytes overwrites the range of the one with the bytes in that of the other, as they
+-- were before, and no other byte
+abbrev pub ACopyOverwritesItsRange : Type 0
+ACopyOverwritesItsRange = (cells after : List Val) (q r : Reference) (u v : Val) (from to : Range) → IsSound cells → copied cells q r ≡ Ok after
+    → NamesBytes cells q u from → NamesBytes cells r v to → HasNewBytes cells after r.cell (overwritten (buffer v) to.start (bytes_in (buffer u) from))
 
 -- ---- loads
 

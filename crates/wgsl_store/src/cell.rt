@@ -4,6 +4,7 @@
 ghost use Rattle.std.specs.Prelude.{
   ◌≡◌,
   ◌↔◌,
+  ◌&&◌,
   Err,
   IfErr,
   IfOk,
@@ -28,10 +29,12 @@ ghost use Rattle.wgsl_scalar.specs.Literals.{literal_of};
 ghost use Rattle.wgsl_store.specs.Atomics.{IsAtomicOf, number_in};
 ghost use Rattle.wgsl_store.specs.Cells.{IsCell, IsPart, LeadsIn, cell_value, part_value};
 ghost use Rattle.wgsl_store.specs.Components.{has_steps, is_vector, leads_to_component};
+ghost use Rattle.wgsl_store.specs.Copies.{IsCopied, is_bytes};
 ghost use Rattle.wgsl_store.specs.HeldBytes.{bytes_at};
 ghost use Rattle.wgsl_values.specs.View.{reference_of, steps_of, value_of};
 
 use crate::flat::{FlatCell, FlatPart};
+use crate::in_place::InPlace;
 use crate::parts::{atomic_number, fits_place, indexed, member, no_part, part_viewed, with_number};
 use std::alloc::{AllocError, Global};
 use wgsl_rules::{Convert, Ty, Type};
@@ -133,6 +136,42 @@ impl Cell {
         match self {
             Cell::Flat(bytes) => replace_bytes(alloc, bytes, reference.view(), &value),
             Cell::Tree(whole) => Ok(replace_tree(whole, reference.view(), value)),
+        }
+    }
+
+    /// Copies the bytes of the part that one view leads to over those of the part that the other leads to, where the
+    /// cell is bytes and the one fits the place of the other; the parts may overlap. It takes no memory. The
+    /// conditions: each view leads to a part.
+    pub(crate) fn copy_within(&mut self, from: &MemView, to: &MemView) -> InPlace
+        requires cell { IsCell self.old }
+        requires from { IsOk (viewed (steps_of from.now) (cell_value self.old)) }
+        requires to { IsOk (viewed (steps_of to.now) (cell_value self.old)) }
+        ensures copied { IsOkAnd (viewed (steps_of from.now) (cell_value self.old)) (IsCopied result (is_bytes (cell_value self.old)) (cell_value self.old) (cell_value self.new) (steps_of to.now)) }
+        ensures cell { IsCell self.new }
+    {
+        match self {
+            Cell::Flat(bytes) => bytes.copy_within(from, to),
+            Cell::Tree(_) => InPlace::NotBytes,
+        }
+    }
+
+    /// Copies the bytes of the part of another cell that one view leads to over those of the part of this cell that
+    /// the other leads to, where both cells are bytes and the one fits the place of the other. It takes no memory.
+    /// The conditions: each view leads to a part.
+    pub(crate) fn copy_from(&mut self, other: &Cell, from: &MemView, to: &MemView) -> InPlace
+        requires own { IsCell self.old }
+        requires other { IsCell other.now }
+        requires from { IsOk (viewed (steps_of from.now) (cell_value other.now)) }
+        requires to { IsOk (viewed (steps_of to.now) (cell_value self.old)) }
+        ensures copied { IsOkAnd (viewed (steps_of from.now) (cell_value other.now)) (IsCopied result (is_bytes (cell_value other.now) && is_bytes (cell_value self.old)) (cell_value self.old) (cell_value self.new) (steps_of to.now)) }
+        ensures cell { IsCell self.new }
+    {
+        let Cell::Flat(source) = other else {
+            return InPlace::NotBytes;
+        };
+        match self {
+            Cell::Flat(bytes) => bytes.copy_from(source, from, to),
+            Cell::Tree(_) => InPlace::NotBytes,
         }
     }
 

@@ -1,5 +1,6 @@
 //! Cells that hold their values as bytes (WGSL: memory locations; internal layout of values).
 
+use crate::in_place::InPlace;
 use crate::located::Located;
 use crate::make::TypePlan;
 use crate::plan::Plan;
@@ -63,7 +64,8 @@ impl FlatCell {
     ghost use Rattle.wgsl_scalar.specs.Literals.{literal_of};
     ghost use Rattle.wgsl_store.specs.Atomics.{IsAtomicOf};
     ghost use Rattle.wgsl_store.specs.Buffers.{buffer};
-    ghost use Rattle.wgsl_store.specs.FlatCells.{IsFlatPart, part_value};
+    ghost use Rattle.wgsl_store.specs.Copies.{IsCopied};
+    ghost use Rattle.wgsl_store.specs.FlatCells.{IsFlatPart, IsPartAt, part_value};
     ghost use Rattle.wgsl_values.specs.View.{value_of, steps_of};
 
     /// The bytes of the value; `None` where its type has no layout. The condition: the value may be stored.
@@ -102,11 +104,21 @@ impl FlatCell {
         ensures bytes { IsOkAnd (viewed (steps_of view.now) self.now) (λ x. result.now ≡ buffer x) }
         ensures laid { has_layout (type_of self.now) ≡ true }
     {
+        self.part_at(view).slice(self.bytes.as_slice())
+    }
+
+    // Where the part stands that the view leads to. The condition: the view leads to a part.
+    fn part_at(&self, view: &MemView) -> Located<'_>
+        requires { IsOk (viewed (steps_of view.now) self.now) }
+        ensures part { IsPartAt self.now (steps_of view.now) result }
+        ensures laid { has_layout (type_of self.now) ≡ true }
+        ensures storable { IsStorable self.now }
+    {
         let whole = Located::of_whole(&self.ty, &self.plan, self.count, self.bytes.len());
-        let Some(part) = whole.viewed(view) else {
-            unreachable!()
-        };
-        part.slice(self.bytes.as_slice())
+        match whole.viewed(view) {
+            Some(part) => part,
+            None => unreachable!(),
+        }
     }
 
     /// Puts the value in the place of the part that the view leads to, where it fits there, and says whether
@@ -127,6 +139,52 @@ impl FlatCell {
         }
         part.write(self.bytes.as_mut_slice(), value);
         true
+    }
+
+    /// Copies the bytes of the part that one view leads to over those of the part that the other leads to, where the
+    /// one fits the place of the other; the parts may overlap. It takes no memory. The conditions: each view leads to
+    /// a part.
+    pub(crate) fn copy_within(&mut self, from: &MemView, to: &MemView) -> InPlace
+        requires from { IsOk (viewed (steps_of from.now) self.old) }
+        requires to { IsOk (viewed (steps_of to.now) self.old) }
+        ensures copied { IsOkAnd (viewed (steps_of from.now) self.old) (IsCopied result true self.old self.new (steps_of to.now)) }
+        ensures laid { has_layout (type_of self.old) ≡ true }
+    {
+        let whole = Located::of_whole(&self.ty, &self.plan, self.count, self.bytes.len());
+        let Some(source) = whole.viewed(from) else {
+            unreachable!()
+        };
+        let Some(target) = whole.viewed(to) else {
+            unreachable!()
+        };
+        if !target.is_like(source) {
+            return InPlace::Misfit;
+        }
+        target.copy_within(self.bytes.as_mut_slice(), source);
+        InPlace::Done
+    }
+
+    /// Copies the bytes of the part of another cell that one view leads to over those of the part of this cell that
+    /// the other leads to, where the one fits the place of the other. It takes no memory. The conditions: each view
+    /// leads to a part.
+    pub(crate) fn copy_from(&mut self, other: &FlatCell, from: &MemView, to: &MemView) -> InPlace
+        requires from { IsOk (viewed (steps_of from.now) other.now) }
+        requires to { IsOk (viewed (steps_of to.now) self.old) }
+        ensures copied { IsOkAnd (viewed (steps_of from.now) other.now) (IsCopied result true self.old self.new (steps_of to.now)) }
+        ensures own { has_layout (type_of self.old) ≡ true }
+        ensures other { has_layout (type_of other.now) ≡ true }
+    {
+        let source = other.part_at(from);
+        let whole = Located::of_whole(&self.ty, &self.plan, self.count, self.bytes.len());
+        let Some(target) = whole.viewed(to) else {
+            unreachable!()
+        };
+        if !target.is_like(source) {
+            return InPlace::Misfit;
+        }
+        let part = source.slice(other.bytes.as_slice());
+        target.copy_from(self.bytes.as_mut_slice(), part);
+        InPlace::Done
     }
 
     /// Puts the number into the atomic that the view leads to. It takes no memory. The conditions: the view

@@ -20,6 +20,7 @@ ghost use Rattle.wgsl_store.specs.MemoryLaws.{
   WhatIsReadMayBeStored,
   AWriteIsRead,
   AReadIsWrittenBack,
+  ACopyOverwritesItsRange,
   TheLastWriteStands,
   WritesApartCommute,
   LoadingReadsOn,
@@ -127,6 +128,12 @@ pub fn the_last_write_stands()
 /// places, and neither changes what is read through the reference of the other.
 pub fn writes_apart_commute()
     ensures { WritesApartCommute }
+{}
+
+/// A law: an accepted copy between parts of cells of bytes overwrites the range of the one part with the bytes that stood
+/// in that of the other, and no other byte of any cell; the two may stand in one cell.
+pub fn a_copy_overwrites_its_range()
+    ensures { ACopyOverwritesItsRange }
 {}
 
 /// A law: loading a reference reads it, and goes on while what is read is a reference.

@@ -6,6 +6,7 @@ mod buffers;
 mod cell;
 mod count;
 mod flat;
+mod in_place;
 pub mod laws;
 mod layout;
 mod loads;

@@ -272,6 +272,28 @@ impl<'a> Located<'a> {
         }
     }
 
+    /// Whether the parts are of one type.
+    pub(crate) fn has_ty_of(self, other: Located<'_>) -> bool
+        ensures { IsTrue result ↔ (shape_ty other.entry.shape ≡ shape_ty self.entry.shape) }
+    {
+        match other.shape {
+            Shape::Whole(ty, _) => self.has_ty(ty),
+            Shape::Component(ty) => self.has_ty(ty),
+            Shape::Column(n, component, _) => self.has_vector_ty(n, component),
+        }
+    }
+
+    // Whether the part is a vector of n components of the type.
+    fn has_vector_ty(self, n: u8, component: &Type) -> bool
+        ensures { IsTrue result ↔ (vec n (type_view component.now) ≡ shape_ty self.entry.shape) }
+    {
+        match self.shape {
+            Shape::Whole(ty, _) => is_vector_of(ty, n, component),
+            Shape::Component(ty) => is_vector_of(ty, n, component),
+            Shape::Column(m, own, _) => m == n && *own == *component,
+        }
+    }
+
     /// Whether the part is a vector.
     pub(crate) fn is_vector(self) -> bool
         ensures { result ≡ is_some (vec_part (shape_ty self.entry.shape)) }

@@ -91,6 +91,42 @@ impl<'a> Located<'a> {
         &bytes[self.start..end]
     }
 
+    /// Whether the parts are laid out alike: they are of one type, and take as many bytes. The conditions: each
+    /// stands in its whole, and its plan is that of its type.
+    pub(crate) fn is_like(self, other: Located<'_>) -> bool
+        requires own { IsLocated self }
+        requires other { IsLocated other }
+        ensures { IsTrue result ↔ ((part_range other.entry).layout ≡ (part_range self.entry).layout) }
+    {
+        self.has_ty_of(other) && self.size() == other.size()
+    }
+
+    /// Overwrites the bytes of the part with these. The conditions: the part stands in the bytes, and these are as
+    /// many as it has.
+    pub(crate) fn copy_from(self, bytes: &mut [u8], part: &[u8])
+        requires located { IsLocated self }
+        requires whole { self.len ≡ length bytes.old }
+        requires long { length part.now ≡ length_in (part_range self).layout }
+        ensures { bytes.new ≡ overwritten bytes.old self.entry.start part.now }
+    {
+        let end = self.start + part.len();
+        bytes[self.start..end].copy_from_slice(part);
+    }
+
+    /// Overwrites the bytes of the part with those that another part of the same bytes has; the ranges of the two
+    /// may overlap. The conditions: each part stands in the bytes, and they are laid out alike.
+    pub(crate) fn copy_within(self, bytes: &mut [u8], other: Located<'_>)
+        requires own { IsLocated self }
+        requires other { IsLocated other }
+        requires whole { self.len ≡ length bytes.old }
+        requires one { other.len ≡ self.len }
+        requires alike { (part_range other).layout ≡ (part_range self).layout }
+        ensures { bytes.new ≡ overwritten bytes.old self.entry.start (bytes_in bytes.old (part_range other.entry)) }
+    {
+        let end = other.start + other.size();
+        bytes.copy_within(other.start..end, self.start);
+    }
+
     /// The value that the bytes lay out in the place of the part. The conditions: the part stands in these
     /// bytes, and its plan is that of its type.
     pub(crate) fn read(self, alloc: Global, bytes: &[u8]) -> Result<Instance, AllocError>

@@ -20,7 +20,7 @@ ghost use Rattle.std.specs.Prelude.{
   option_map,
   string_bytes,
 };
-ghost use Rattle.wgsl_rules.specs.Access.{can_write};
+ghost use Rattle.wgsl_rules.specs.Access.{can_read, can_write};
 ghost use Rattle.wgsl_rules.specs.Paths.{fits};
 ghost use Rattle.wgsl_rules.specs.Types.{atomic};
 ghost use Rattle.wgsl_rules.specs.Values.{
@@ -36,6 +36,7 @@ ghost use Rattle.wgsl_scalar.specs.Answers.{Gives, refusal_of};
 ghost use Rattle.wgsl_scalar.specs.Literals.{literal_of};
 ghost use Rattle.wgsl_store.specs.Atomics.{atomic_number};
 ghost use Rattle.wgsl_store.specs.Components.{names_component};
+ghost use Rattle.wgsl_store.specs.Copies.{are_in_bytes, copied};
 ghost use Rattle.wgsl_store.specs.Memory.{HoldsValue, IsContent, IsKept, IsSound, held, put_cells};
 ghost use Rattle.wgsl_store.specs.ReferenceCalls.{
   deeper,
@@ -46,6 +47,7 @@ ghost use Rattle.wgsl_store.specs.ReferenceCalls.{
 };
 ghost use Rattle.wgsl_values.specs.View.{reference_of, value_of};
 
+use crate::in_place::InPlace;
 use crate::store::Store;
 use std::alloc::{AllocError, Global};
 use wgsl_rules::{AccessMode, AddressSpace, Ty};
@@ -124,6 +126,21 @@ pub trait References: Sized {
         ensures sound { OnOk result (IsSound store.new) }
         ensures kept { (r : Reference) → IsKept store.old r → IsKept store.new r };
 
+    /// Copies what this reference names to what the other names (WGSL: assignment statement). The two may be one
+    /// part. Refused as [`References::read`] of this one, then as
+    /// [`References::write`] to the other.
+    ///
+    /// Where both stand in cells of bytes, as [`Store::read_bytes`] tells, the bytes are copied in place: it takes no
+    /// memory, and one that is accepted is never answered with `Memory`. Else the value is read and written.
+    fn copy_to(&self, alloc: Global, store: &mut Store, target: &Self) -> Result<(), Error>
+        requires from { IsKept store.old (reference_of self.now) }
+        requires to { IsKept store.old (reference_of target.now) }
+        ensures outcome { Gives (λ _. store.new) result (copied store.old (reference_of self.now) (reference_of target.now)) }
+        ensures accepted { IsTrue (are_in_bytes store.old (reference_of self.now) (reference_of target.now)) → IsOk (copied store.old (reference_of self.now) (reference_of target.now)) → IsOk result }
+        ensures err { OnErr result (store.new ≡ store.old) }
+        ensures sound { OnOk result (IsSound store.new) }
+        ensures kept { (r : Reference) → IsKept store.old r → IsKept store.new r };
+
     /// Puts the value in the place of the part, and answers the old value; write access alone is
     /// needed. Refusals in order: `NotReadWrite` without it, `WriteRefType` as in
     /// [`References::write`].
@@ -194,6 +211,56 @@ fn check_exchange(
     Ok(())
 }
 
+// Why what the first reference names does not fit the place that the second names: `WriteRefType`, the type of the
+// first reference first.
+fn misfit_of_part(alloc: Global, from: &RefInstance, to: &RefInstance) -> Result<Error, AllocError>
+    ensures { IfOk result (λ e. refusal_of e ≡ Some (write_ref_type (reference_of from.now).ty (reference_of to.now).ty)) }
+{
+    Ok(Error::WriteRefType(from.target_ty().clone(alloc)?, to.target_ty().clone(alloc)?))
+}
+
+// `References::copy_to` by a value: it is read and written.
+fn copy_value(
+    alloc: Global,
+    store: &mut Store,
+    from: &RefInstance,
+    to: &RefInstance,
+) -> Result<(), Error>
+    requires from { IsKept store.old (reference_of from.now) }
+    requires to { IsKept store.old (reference_of to.now) }
+    ensures outcome { Gives (λ _. store.new) result (copied store.old (reference_of from.now) (reference_of to.now)) }
+    ensures err { OnErr result (store.new ≡ store.old) }
+    ensures sound { OnOk result (IsSound store.new) }
+    ensures kept { (r : Reference) → IsKept store.old r → IsKept store.new r }
+{
+    let value = from.read(alloc, store)?;
+    to.write(alloc, store, value)
+}
+
+// `References::copy_to`, where the one reference may be read and the other written.
+fn copy_part(
+    alloc: Global,
+    store: &mut Store,
+    from: &RefInstance,
+    to: &RefInstance,
+) -> Result<(), Error>
+    requires from { IsKept store.old (reference_of from.now) }
+    requires to { IsKept store.old (reference_of to.now) }
+    requires may_read { can_read (reference_of from.now).access ≡ true }
+    requires may_write { can_write (reference_of to.now).access ≡ true }
+    ensures outcome { Gives (λ _. store.new) result (copied store.old (reference_of from.now) (reference_of to.now)) }
+    ensures accepted { IsTrue (are_in_bytes store.old (reference_of from.now) (reference_of to.now)) → IsOk (copied store.old (reference_of from.now) (reference_of to.now)) → IsOk result }
+    ensures err { OnErr result (store.new ≡ store.old) }
+    ensures sound { OnOk result (IsSound store.new) }
+    ensures kept { (r : Reference) → IsKept store.old r → IsKept store.new r }
+{
+    match store.copy(from, to) {
+        InPlace::Done => Ok(()),
+        InPlace::Misfit => Err(misfit_of_part(alloc, from, to)?),
+        InPlace::NotBytes => copy_value(alloc, store, from, to),
+    }
+}
+
 impl References for RefInstance {
     ghost use Rattle.wgsl_values.specs.View.{reference_of};
 
@@ -253,6 +320,17 @@ impl References for RefInstance {
         match store.put(self, value) {
             Ok(()) => Ok(()),
             Err(value) => Err(misfit(alloc, self, &value).unwrap_or(Error::Memory)),
+        }
+    }
+
+    fn copy_to(&self, alloc: Global, store: &mut Store, target: &RefInstance) -> Result<(), Error> {
+        if !self.access().is_read() {
+            return Err(Error::NotRead);
+        }
+        if target.access().is_write() {
+            copy_part(alloc, store, self, target)
+        } else {
+            Err(Error::NotWrite)
         }
     }
 

@@ -1,6 +1,7 @@
 //! The cells that references name (WGSL: memory locations).
 
 use crate::cell::{Cell, Part};
+use crate::in_place::InPlace;
 use crate::parts::{part, part_count};
 use std::alloc::{AllocError, Global};
 use std::marker::Model;
@@ -61,6 +62,7 @@ impl Store {
     ghost use Rattle.wgsl_store.specs.Atomics.{atomic_number};
     ghost use Rattle.wgsl_store.specs.Cells.{IsPart, part_value};
     ghost use Rattle.wgsl_store.specs.Components.{names_component};
+    ghost use Rattle.wgsl_store.specs.Copies.{AreCopied, are_in_bytes};
     ghost use Rattle.wgsl_store.specs.HeldBytes.{held_bytes, read_bytes};
     ghost use Rattle.wgsl_store.specs.Memory.{
       AllKept,
@@ -287,6 +289,20 @@ impl Store {
         let cell = &mut self.cells[reference.cell()];
         cell.replace(alloc, reference, value)
     }
+
+    /// Copies the bytes of the part that one reference names over those of the part that the other names, where both
+    /// stand in cells of bytes and the one fits the place of the other; the parts may overlap. Access is not asked,
+    /// and no memory is taken. The conditions: each reference is kept.
+    pub(crate) fn copy(&mut self, from: &RefInstance, to: &RefInstance) -> InPlace
+        requires from { IsKept self.old (reference_of from.now) }
+        requires to { IsKept self.old (reference_of to.now) }
+        ensures copied { IsOkAnd (held self.old (reference_of from.now)) (AreCopied result (are_in_bytes self.old (reference_of from.now) (reference_of to.now)) self.old self.new (reference_of to.now)) }
+        ensures sound { IsSound self.new }
+        ensures kept { (r : Reference) → IsKept self.old r → IsKept self.new r }
+    {
+        copy_among(self.cells.as_mut_slice(), from, to)
+    }
+
     /// Puts the number into the atomic that the reference names. Write access is not asked, and no memory is
     /// taken. The conditions: the reference is kept, it is to an atomic of numbers of the kind, and an atomic
     /// of the number may be stored.
@@ -301,4 +317,61 @@ impl Store {
         let cell = &mut self.cells[reference.cell()];
         cell.put_atomic_number(reference, number);
     }
+}
+
+ghost use Rattle.std.specs.Prelude.{◌≡◌, ◌<◌, ◌&&◌, IsOk, IsOkAnd, Some, map, slice_get};
+ghost use Rattle.std.specs.List.{All};
+ghost use Rattle.wgsl_store.specs.Cells.{IsCell, cell_value};
+ghost use Rattle.wgsl_store.specs.Copies.{AreCopied, are_in_bytes};
+ghost use Rattle.wgsl_store.specs.Memory.{held};
+ghost use Rattle.wgsl_values.specs.View.{reference_of};
+
+// `Store::copy`, among the cells.
+fn copy_among(cells: &mut [Cell], from: &RefInstance, to: &RefInstance) -> InPlace
+    requires forms { All IsCell cells.old }
+    requires from { IsOk (held (map cell_value cells.old) (reference_of from.now)) }
+    requires to { IsOk (held (map cell_value cells.old) (reference_of to.now)) }
+    ensures copied { IsOkAnd (held (map cell_value cells.old) (reference_of from.now)) (AreCopied result (are_in_bytes (map cell_value cells.old) (reference_of from.now) (reference_of to.now)) (map cell_value cells.old) (map cell_value cells.new) (reference_of to.now)) }
+    ensures forms { All IsCell cells.new }
+{
+    let source = from.cell();
+    let target = to.cell();
+    if source < target {
+        return copy_onward(cells, from, to);
+    }
+    if target < source {
+        return copy_back(cells, from, to);
+    }
+    let cell = &mut cells[target];
+    cell.copy_within(from.view(), to.view())
+}
+
+// `Store::copy` to a later cell.
+fn copy_onward(cells: &mut [Cell], from: &RefInstance, to: &RefInstance) -> InPlace
+    requires forms { All IsCell cells.old }
+    requires from { IsOk (held (map cell_value cells.old) (reference_of from.now)) }
+    requires to { IsOk (held (map cell_value cells.old) (reference_of to.now)) }
+    requires onward { (reference_of from.now).cell < (reference_of to.now).cell }
+    ensures copied { IsOkAnd (held (map cell_value cells.old) (reference_of from.now)) (AreCopied result (are_in_bytes (map cell_value cells.old) (reference_of from.now) (reference_of to.now)) (map cell_value cells.old) (map cell_value cells.new) (reference_of to.now)) }
+    ensures forms { All IsCell cells.new }
+{
+    let (front, back) = cells.split_at_mut(to.cell());
+    let source = &front[from.cell()];
+    let target = &mut back[0];
+    target.copy_from(source, from.view(), to.view())
+}
+
+// `Store::copy` to an earlier cell.
+fn copy_back(cells: &mut [Cell], from: &RefInstance, to: &RefInstance) -> InPlace
+    requires forms { All IsCell cells.old }
+    requires from { IsOk (held (map cell_value cells.old) (reference_of from.now)) }
+    requires to { IsOk (held (map cell_value cells.old) (reference_of to.now)) }
+    requires back { (reference_of to.now).cell < (reference_of from.now).cell }
+    ensures copied { IsOkAnd (held (map cell_value cells.old) (reference_of from.now)) (AreCopied result (are_in_bytes (map cell_value cells.old) (reference_of from.now) (reference_of to.now)) (map cell_value cells.old) (map cell_value cells.new) (reference_of to.now)) }
+    ensures forms { All IsCell cells.new }
+{
+    let (front, back) = cells.split_at_mut(from.cell());
+    let source = &back[0];
+    let target = &mut front[to.cell()];
+    target.copy_from(source, from.view(), to.view())
 }

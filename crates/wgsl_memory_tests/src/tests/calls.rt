@@ -66,6 +66,18 @@ pub(super) fn write(
     reference.write(alloc, store, value)
 }
 
+pub(super) fn copy(
+    rt: &impl Abort,
+    alloc: Global,
+    store: &mut Store,
+    from: &RefInstance,
+    to: &RefInstance,
+) -> Result<(), Error> {
+    assert!(rt; store.holds(from));
+    assert!(rt; store.holds(to));
+    from.copy_to(alloc, store, to)
+}
+
 pub(super) fn read_write(
     rt: &impl Abort,
     alloc: Global,

@@ -108,7 +108,7 @@ at-same [] i g h = refl
 at-same (y ∷ ys) zero g h = ap (λ (z : Val). z ∷ ys) (h y refl)
 at-same (y ∷ ys) (suc i) g h = ap (λ (zs : List Val). y ∷ zs) (at-same ys i g h)
 
-read-holds : (cells : List Val) (r : Reference) (v : Val) → read (held cells) r ≡ Ok v → held cells r ≡ Ok v
+pub read-holds : (cells : List Val) (r : Reference) (v : Val) → read (held cells) r ≡ Ok v → held cells r ≡ Ok v
 read-holds cells r v e = by (can_read r.access) e
   where
     by : (b : Bool) → (if b then held cells r else Err not_read) ≡ Ok v → held cells r ≡ Ok v

@@ -49,7 +49,7 @@ puts-commute (i ∷ p) (j ∷ s) v w x h = whole-both i j (put_tree p v) (put_tr
 
 -- ---- two positions
 
-at-other : (cells : List Val) (i j : ℕ) (g : Val → Val) → i ≢ j → slice_get (at_position i g cells) j ≡ slice_get cells j
+pub at-other : (cells : List Val) (i j : ℕ) (g : Val → Val) → i ≢ j → slice_get (at_position i g cells) j ≡ slice_get cells j
 at-other [] i j g n = refl
 at-other (y ∷ ys) zero zero g n = absurd (n refl)
 at-other (y ∷ ys) zero (suc j) g n = refl

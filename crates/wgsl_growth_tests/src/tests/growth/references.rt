@@ -96,6 +96,60 @@ fn an_accepted_exchange_of_what_has_no_bytes(rt: HostRuntime) {
     drop((store, outer));
 }
 
+fn copy(
+    rt: &impl Abort,
+    alloc: Global,
+    store: &mut Store,
+    from: &RefInstance,
+    to: &RefInstance,
+) -> Result<(), Error> {
+    assert!(rt; store.holds(from));
+    assert!(rt; store.holds(to));
+    from.copy_to(alloc, store, to)
+}
+
+#[test]
+fn a_copy_of_what_has_no_bytes_wants_memory_or_is_made(rt: HostRuntime) {
+    let alloc = rt.alloc();
+    let mut store = Store::new(alloc);
+    let pair = pair_in(&rt, alloc, &mut store);
+    let other = pair_in(&rt, alloc, &mut store);
+    let held = Instance::from(made!(&rt; pair.clone(alloc)));
+    let from = cell_with(&rt, alloc, &mut store, held);
+    let old = Instance::from(made!(&rt; other.clone(alloc)));
+    let held = Instance::from(made!(&rt; other.clone(alloc)));
+    let to = cell_with(&rt, alloc, &mut store, held);
+    if let Err(error) = copy(&rt, alloc, &mut store, &from, &to) {
+        assert_memory(&rt, error);
+        assert_same(&rt, read(&rt, alloc, &store, &to), old);
+        assert_same(&rt, copy(&rt, alloc, &mut store, &from, &to), Ok(()));
+    } else {
+        drop(old);
+    }
+    assert_same(&rt, read(&rt, alloc, &store, &to), Instance::from(pair));
+    drop((store, from, to));
+    drop(other);
+}
+
+#[test]
+fn a_copy_that_is_refused_wants_memory_or_is_told_with_its_types(rt: HostRuntime) {
+    let alloc = rt.alloc();
+    let mut store = Store::new(alloc);
+    let whole = pair_in(&rt, alloc, &mut store);
+    let word = cell_with(&rt, alloc, &mut store, Instance::from(9u32));
+    let refusal = Error::WriteRefType(pair(&rt, alloc), Type::U32);
+    match copy(&rt, alloc, &mut store, &whole, &word) {
+        Err(Error::Memory) => {
+            let again = copy(&rt, alloc, &mut store, &whole, &word);
+            assert_same(&rt, again, Err(refusal));
+        }
+        answer => assert_same(&rt, answer, Err(refusal)),
+    }
+    let value = read(&rt, alloc, &store, &word);
+    assert_same(&rt, value, Instance::from(9u32));
+    drop((store, whole, word));
+}
+
 #[test]
 fn the_text_of_a_pointer_wants_memory_or_is_whole(rt: HostRuntime) {
     let alloc = rt.alloc();

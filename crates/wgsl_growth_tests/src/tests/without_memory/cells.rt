@@ -1,4 +1,4 @@
-//! What a store and a session answer without memory: tests, bytes that are lent, and writes that are accepted.
+//! What a store and a session answer without memory: tests, bytes that are lent, and writes and copies that are accepted.
 
 ghost use Rattle.wgsl_session.specs.Calls.{IsSoundCall};
 ghost use Rattle.wgsl_session.specs.View.{call_of};
@@ -182,6 +182,45 @@ fn bytes_that_are_lent(rt: HostRuntime) {
     drop((component, truth));
 }
 
+/// Asserts that what the one reference names is copied to what the other names.
+fn assert_copied(
+    rt: &impl Abort,
+    alloc: Global,
+    store: &mut Store,
+    from: &RefInstance,
+    to: &RefInstance,
+) {
+    assert!(rt; store.holds(from));
+    assert!(rt; store.holds(to));
+    assert_same(rt, from.copy_to(alloc, store, to), Ok(()));
+}
+
+#[test]
+fn copies_between_parts_of_cells_of_bytes(rt: HostRuntime) {
+    let alloc = rt.alloc();
+    let mut store = Store::new(alloc);
+    let array = Instance::from(array_of(&rt, alloc, &[10, 11, 12], true));
+    let array = cell_with(&rt, alloc, &mut store, array);
+    let first = view_index(&rt, alloc, &store, &array, 0);
+    let last = view_index(&rt, alloc, &store, &array, 2);
+    let vector = Instance::from(vector_of(&rt, alloc, &[1, 2, 3]));
+    let vector = cell_with(&rt, alloc, &mut store, vector);
+    let component = view_index(&rt, alloc, &store, &vector, 1);
+    let in_one = [10, 0, 0, 0, 11, 0, 0, 0, 10, 0, 0, 0];
+    let onward = [1, 0, 0, 0, 10, 0, 0, 0, 3, 0, 0, 0];
+    let back = [10, 0, 0, 0, 11, 0, 0, 0, 7, 0, 0, 0];
+    assert_copied(&rt, alloc, &mut store, &first, &last);
+    assert_copied(&rt, alloc, &mut store, &array, &array);
+    assert_lends(&rt, &store, &array, Some(in_one.as_slice()));
+    assert_copied(&rt, alloc, &mut store, &last, &component);
+    assert_lends(&rt, &store, &vector, Some(onward.as_slice()));
+    assert_written(&rt, alloc, &mut store, &component, Instance::from(7u32));
+    assert_copied(&rt, alloc, &mut store, &component, &last);
+    assert_lends(&rt, &store, &array, Some(back.as_slice()));
+    drop((store, array, vector));
+    drop((first, last, component));
+}
+
 /// The call, which a session takes.
 fn sound(rt: &impl Abort, call: Call) -> Call
     ensures { IsSoundCall (call_of result) }
@@ -218,4 +257,27 @@ fn an_accepted_write_of_a_session(rt: HostRuntime) {
         answer => assert_same(&rt, answer, Ok(Reply::Value(wanted))),
     }
     drop((session, held));
+}
+
+#[test]
+fn an_accepted_copy_of_a_session(rt: HostRuntime) {
+    let alloc = rt.alloc();
+    let mut session = Session::new(alloc);
+    for components in [[1, 2, 3], [7, 8, 9]] {
+        let vector = Instance::from(vector_of(&rt, alloc, &components));
+        let made = sound(&rt, Call::New(vector, Storage, ReadWrite));
+        drop(made!(&rt; session.call(made)));
+    }
+    let index = sound(&rt, Call::Index(0, 2));
+    drop(made!(&rt; session.call(index)));
+    let index = sound(&rt, Call::Index(1, 0));
+    drop(made!(&rt; session.call(index)));
+    let copied = session.call(sound(&rt, Call::Copy(3, 2)));
+    assert_same(&rt, copied, Ok(Reply::Done));
+    let copied = session.call(sound(&rt, Call::Copy(0, 1)));
+    assert_same(&rt, copied, Ok(Reply::Done));
+    let words = [1, 0, 0, 0, 2, 0, 0, 0, 7, 0, 0, 0];
+    let whole = session.reference(1).expect(&rt, "a handle");
+    assert_lends(&rt, session.store(), whole, Some(words.as_slice()));
+    drop(session);
 }
