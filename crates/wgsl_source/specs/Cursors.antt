@@ -1,5 +1,6 @@
 -- A place among the tokens of a source.
-use Rattle.std.specs.Prelude.{ℕ, ◌+◌, ◌-◌, ◌^◌, min, length, slice_get, unwrap_or}
+use Rattle.std.specs.Prelude.{ℕ, ◌+◌, ◌-◌, ◌^◌, min, List, length, slice_get, unwrap_or}
+use Rattle.wgsl_source.specs.Cuts.{cut_of}
 use Rattle.wgsl_source.specs.declared.cursor.Cursor.{Cursor}
 use Rattle.wgsl_source.specs.declared.fault.Fault.{Fault}
 use Rattle.wgsl_source.specs.declared.fault.Reason.{Reason}
@@ -10,6 +11,10 @@ use Rattle.wgsl_source.specs.declared.token.TokenKind.TheVariants as kinds
 abbrev pub token_of : Cursor → ℕ → Token
 token_of c at =
     unwrap_or (slice_get c.tokens.now at) (record { kind = kinds.End; start = length c.text.now; end = length c.text.now })
+
+-- the text of the token of this number
+abbrev pub text_of : Cursor → ℕ → List ℕ
+text_of c at = cut_of c.text.now (token_of c at).start (token_of c at).end
 
 -- the token that is read next
 abbrev pub next_token : Cursor → Token

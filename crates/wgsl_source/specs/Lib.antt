@@ -1,6 +1,13 @@
 pub mod Cursors
+pub mod Cuts
+pub mod Declarations
+pub mod Expressions
+pub mod Families
+pub mod Generators
+pub mod Mixes
 pub mod Names
 pub mod Numbers
 pub mod Operators
 pub mod Places
+pub mod Readings
 pub mod Texts

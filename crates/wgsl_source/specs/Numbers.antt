@@ -1,10 +1,13 @@
 -- What a numeric literal stands for (WGSL: numeric literals).
-use Rattle.std.specs.Prelude.{◌≡◌, ℕ, ◌^◌, ◌<◌, ◌⊎◌, ⊤, pos, Bool, ◌&&◌, ◌==◌, nat_lt, Option, Some, None, List, ◌++◌, codes, if◌then◌else◌, length, slice_index, SomeIff, MatchBool}
+use Rattle.std.specs.Prelude.{◌≡◌, ℕ, ◌^◌, ◌<◌, ◌⊎◌, pos, Bool, true, false, ◌&&◌, ◌||◌, ◌==◌, nat_lt, Option, Some, None, List, [], ◌∷◌, ◌++◌, codes, if◌then◌else◌, length, slice_index, SomeIff, MatchBool}
+use Rattle.std.specs.Char.{digit_value}
+use Rattle.std.specs.List.{list_any}
 use Rattle.std.specs.Str.Parse.{IsNumeral, digits_value, without_leading_plus}
 use Rattle.wgsl_rules.specs.Kinds as kinds
 use Rattle.wgsl_rules.specs.Kinds.{Kind, in_kind}
 use Rattle.wgsl_rules.specs.Values.{Val, number}
 use Rattle.wgsl_scalar.specs.Literals.{literal_of}
+use Rattle.wgsl_scalar.specs.declared.literal.LiteralInstance.{LiteralInstance}
 use Rattle.wgsl_source.specs.declared.literal.Literal.{Literal}
 use Rattle.wgsl_source.specs.declared.literal.Literal.TheVariants as literals
 use Rattle.wgsl_source.specs.declared.literal.Suffix.{Suffix}
@@ -53,7 +56,11 @@ pub record ReadsNumeral (text : List ℕ) (r : Option ℕ) : Type 0 where
   pub hexadecimal : (digits : List ℕ) → IsHexadecimal text digits → Reads 16 digits r
   pub decimal : ((digits : List ℕ) → ¬ IsHexadecimal text digits) → ReadsDecimal text r
 
--- ---- a literal
+-- ---- an integer
+
+-- a digit of some base is the last byte
+abbrev pub EndsInDigit : List ℕ → Type 0
+EndsInDigit digits = (front : List ℕ) × (b : ℕ) × (digits ≡ front ++ (b ∷ [])) × (digit_value b < 16)
 
 -- the text is a numeral of n and the suffix
 pub record Writes (text digits : List ℕ) (suffix : Suffix) (n : ℕ) : Type 0 where
@@ -61,8 +68,35 @@ pub record Writes (text digits : List ℕ) (suffix : Suffix) (n : ℕ) : Type 0 
   pub number : ReadsNumeral digits (Some n)
 
 -- an integer is the number that digits write, in the kind of the suffix behind them
-abbrev pub Means : List ℕ → Literal → Type 0
-Means text (literals.Integer x) =
+abbrev pub MeansInteger : List ℕ → LiteralInstance → Type 0
+MeansInteger text x =
     (digits : List ℕ) × (suffix : Suffix) × (n : ℕ) × Writes text digits suffix n × (number_in suffix n ≡ Some (literal_of x))
-Means text literals.Float = ⊤
-Means text literals.Wrong = ⊤
+
+-- ---- floats
+
+abbrev pub has_byte : List ℕ → ℕ → Bool
+has_byte text byte = list_any (λ b. b == byte) text
+
+-- `0x` or `0X` stand in front
+abbrev pub begins_hexadecimal : List ℕ → Bool
+begins_hexadecimal [] = false
+begins_hexadecimal (x ∷ []) = false
+begins_hexadecimal (x ∷ y ∷ rest) = x == 48 && (y == 120 || y == 88)
+
+-- the exponent or the suffix of a decimal number
+abbrev pub is_decimal_float_text : List ℕ → Bool
+is_decimal_float_text text = (has_byte text 101 || has_byte text 69) || (has_byte text 102 || has_byte text 104)
+
+-- a point, an exponent (`p`, where the number is hexadecimal, else `e`) or a suffix (`f`, `h`) makes a number one of floats
+abbrev pub is_float_text : List ℕ → Bool
+is_float_text text =
+    has_byte text 46
+    || (if begins_hexadecimal text then has_byte text 112 || has_byte text 80 else is_decimal_float_text text)
+
+-- ---- all literals
+
+-- what the text of a numeric literal stands for
+abbrev pub Means : List ℕ → Literal → Type 0
+Means text (literals.Integer x) = (is_float_text text ≡ false) × MeansInteger text x
+Means text literals.Float = is_float_text text ≡ true
+Means text literals.Wrong = (is_float_text text ≡ false) × ((x : LiteralInstance) → ¬ MeansInteger text x)

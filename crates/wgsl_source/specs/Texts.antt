@@ -14,6 +14,7 @@ expected_text asked.AddressSpace = codes "an address space"
 expected_text asked.AccessMode = codes "an access mode"
 expected_text (asked.Symbol c) = codes "`" ++ (encode_utf8 c ++ codes "`")
 expected_text asked.TemplateEnd = codes "`>`"
+expected_text asked.End = codes "the end"
 
 -- of why a source is not read as it stands
 abbrev pub reason_text : Reason → List ℕ
@@ -40,3 +41,5 @@ reason_text reasons.Division = codes "division by zero"
 reason_text reasons.Shift = codes "bits are shifted out"
 reason_text reasons.TooLarge = codes "this type has too many parts"
 reason_text reasons.TooManyTypes = codes "the types up to here have too many parts in all"
+reason_text reasons.Mixed = codes "this operator and the one before it need brackets"
+reason_text reasons.Double = codes "two of these beside each other are no operators here"

@@ -1,7 +1,9 @@
 //! A place among the tokens of a source, from which on it is read.
 
 ghost use Rattle.std.specs.Prelude.{◌≡◌, ◌↔◌, length, IsTrue, IfOk, IfErr, OnOk, if◌then◌else◌};
-ghost use Rattle.wgsl_source.specs.Cursors.{token_of, next_token, advanced, fault_of};
+ghost use Rattle.wgsl_source.specs.Cursors.{token_of, text_of, next_token, advanced, fault_of};
+ghost use Rattle.wgsl_source.specs.Cuts.{is_boundary, cut_of};
+ghost use Rattle.std.specs.Str.{IsCharBoundary};
 
 use crate::fault::{Expected, Fault, Reason};
 use crate::token::{Token, TokenKind};
@@ -35,7 +37,11 @@ pub(crate) struct Cursor<'a> {
 }
 
 impl<'a> Cursor<'a> {
-    pub(crate) fn new(text: &'a str, tokens: &'a [Token]) -> Self {
+    pub(crate) fn new(text: &'a str, tokens: &'a [Token]) -> Self
+        ensures text { result.text.now ≡ text.entry.now }
+        ensures tokens { result.tokens.now ≡ tokens.entry.now }
+        ensures first { result.at ≡ 0 }
+    {
         Cursor {
             text,
             tokens,
@@ -71,9 +77,12 @@ impl<'a> Cursor<'a> {
         }
     }
 
-    pub(crate) fn text_at(&self, at: usize) -> &'a str {
+    /// The text of the token of this number.
+    pub(crate) fn text_at(&self, at: usize) -> &'a str
+        ensures { result.now ≡ text_of self.now at }
+    {
         let token = self.token_at(at);
-        self.text.get(token.start..token.end).unwrap_or("")
+        cut(self.text, token.start, token.end)
     }
 
     /// The token that is read next.
@@ -91,7 +100,9 @@ impl<'a> Cursor<'a> {
     }
 
     /// The text of the token that is read next.
-    pub(crate) fn word(&self) -> &'a str {
+    pub(crate) fn word(&self) -> &'a str
+        ensures { result.now ≡ text_of self.now self.now.at }
+    {
         self.text_at(self.at)
     }
 
@@ -201,4 +212,23 @@ impl<'a> Cursor<'a> {
             }
         }
     }
+}
+
+// The bytes from one to another of a text; none where these are no text of their own.
+fn cut(text: &str, start: usize, end: usize) -> &str
+    ensures { result.now ≡ cut_of text.now start end }
+{
+    if start <= end && begins_at(text, start) && begins_at(text, end) {
+        &text[start..end]
+    } else {
+        ""
+    }
+}
+
+// Whether a character begins at this byte, or the text ends there.
+fn begins_at(text: &str, at: usize) -> bool
+    ensures test { IsTrue result ↔ IsCharBoundary text.now at }
+    ensures value { result ≡ is_boundary text.now at }
+{
+    text.is_char_boundary(at)
 }

@@ -3,7 +3,7 @@
 
 use crate::cursor::{Cursor, Stop};
 use crate::expression::{Expressions, Span, Step};
-use crate::fault::{Expected, Faults, Reason};
+use crate::fault::{Expected, Fault, Faults, Reason};
 use crate::token::TokenKind;
 use std::alloc::{AllocError, Global};
 use wgsl_rules::{AccessMode, AddressSpace};
@@ -63,6 +63,10 @@ pub(crate) struct Module {
     pub(crate) declarations: Vec<Declaration>,
     pub(crate) members: Vec<Member>,
     pub(crate) steps: Vec<Step>,
+    /// The conditions of the `const_assert`s.
+    pub(crate) asserts: Vec<Span>,
+    /// What the grammar of expressions refuses, and layouts pass over.
+    pub(crate) refused: Vec<Fault>,
 }
 
 /// Reads declarations.
@@ -71,6 +75,7 @@ struct Reader<'a> {
     expressions: Expressions<'a>,
     declarations: Vec<Declaration>,
     members: Vec<Member>,
+    asserts: Vec<Span>,
 }
 
 impl Attributes {
@@ -92,9 +97,10 @@ pub(crate) fn read_module(
         expressions: Expressions::new(alloc, cursor),
         declarations: Vec::new(alloc),
         members: Vec::new(alloc),
+        asserts: Vec::new(alloc),
     };
     for _ in 0..cursor.len() {
-        if reader.cursor().is_at_end() {
+        if reader.expressions.cursor.is_at_end() {
             break;
         }
         reader.read_declaration(faults)?;
@@ -103,32 +109,32 @@ pub(crate) fn read_module(
 }
 
 impl<'a> Reader<'a> {
-    fn cursor(&mut self) -> &mut Cursor<'a> {
-        &mut self.expressions.cursor
-    }
-
     fn into_module(self) -> Module {
         let Reader {
             expressions,
             declarations,
             members,
+            asserts,
         } = self;
+        let (steps, refused) = expressions.into_steps();
         Module {
             declarations,
             members,
-            steps: expressions.into_steps(),
+            steps,
+            asserts,
+            refused,
         }
     }
 
     // Reads one declaration, or goes on behind it.
     fn read_declaration(&mut self, faults: &mut Faults) -> Result<(), AllocError> {
-        let start = self.cursor().position();
+        let start = self.expressions.cursor.position();
         match self.declaration() {
             Ok(()) => Ok(()),
             Err(Stop::Memory) => Err(AllocError),
             Err(Stop::At(fault)) => {
                 faults.add(fault)?;
-                self.cursor().recover(start);
+                self.expressions.cursor.recover(start);
                 Ok(())
             }
         }
@@ -139,7 +145,7 @@ impl<'a> Reader<'a> {
         match self.attributes() {
             Ok(attributes) => self.declared(first_step, attributes),
             Err(stop) => {
-                self.cursor().skip_to_declaration();
+                self.expressions.cursor.skip_to_declaration();
                 Err(stop)
             }
         }
@@ -147,19 +153,20 @@ impl<'a> Reader<'a> {
 
     // Reads what stands behind attributes.
     fn declared(&mut self, first_step: usize, attributes: Attributes) -> Result<(), Stop> {
-        match self.cursor().word() {
+        match self.expressions.cursor.word() {
             "struct" => self.structure(first_step),
             "alias" => self.alias(first_step),
             "const" => self.constant(first_step),
             "override" => self.overridden(first_step),
             "var" => self.variable(first_step, attributes),
             "fn" => self.function(first_step),
-            "const_assert" | "enable" | "requires" | "diagnostic" => self.skip_declaration(),
+            "const_assert" => self.assertion(),
+            "enable" | "requires" | "diagnostic" => self.skip_declaration(),
             ";" => {
-                self.cursor().advance();
+                self.expressions.cursor.advance();
                 Ok(())
             }
-            _ => Err(self.cursor().expected(Expected::Declaration)),
+            _ => Err(self.expressions.cursor.expected(Expected::Declaration)),
         }
     }
 }
@@ -179,8 +186,8 @@ impl<'a> Reader<'a> {
 
     fn attributes(&mut self) -> Result<Attributes, Stop> {
         let mut attributes = Attributes::NONE;
-        for _ in self.cursor().position()..self.cursor().len() {
-            if !self.cursor().take_symbol(b'@') {
+        for _ in self.expressions.cursor.position()..self.expressions.cursor.len() {
+            if !self.expressions.cursor.take_symbol(b'@') {
                 break;
             }
             self.attribute(&mut attributes)?;
@@ -190,15 +197,15 @@ impl<'a> Reader<'a> {
 
     // One that says nothing of layouts and bindings is passed over.
     fn attribute(&mut self, attributes: &mut Attributes) -> Result<(), Stop> {
-        let name = self.cursor().expect_name()?;
-        match self.cursor().text_at(name) {
+        let name = self.expressions.cursor.expect_name()?;
+        match self.expressions.cursor.text_at(name) {
             "align" => attributes.align = Some(self.argument_of(name, attributes.align)?),
             "size" => attributes.size = Some(self.argument_of(name, attributes.size)?),
             "group" => attributes.group = Some(self.argument_of(name, attributes.group)?),
             "binding" => attributes.binding = Some(self.argument_of(name, attributes.binding)?),
             _ => {
-                if self.cursor().token().is_symbol(b'(') {
-                    self.cursor().skip_group();
+                if self.expressions.cursor.token().is_symbol(b'(') {
+                    self.expressions.cursor.skip_group();
                     self.check_closed(name)?;
                 }
             }
@@ -209,27 +216,31 @@ impl<'a> Reader<'a> {
     // The argument of an attribute that stands once.
     fn argument_of(&mut self, name: usize, before: Option<Span>) -> Result<Span, Stop> {
         if before.is_some() {
-            return Err(Stop::At(self.cursor().fault_at(name, Reason::DuplicateName)));
+            return Err(Stop::At(
+                self.expressions
+                    .cursor
+                    .fault_at(name, Reason::DuplicateName),
+            ));
         }
         self.argument()
     }
 
     // An expression in brackets.
     fn argument(&mut self) -> Result<Span, Stop> {
-        self.cursor().expect_symbol(b'(')?;
+        self.expressions.cursor.expect_symbol(b'(')?;
         let argument = self.expressions.expression()?;
-        let _ = self.cursor().take_symbol(b',');
-        self.cursor().expect_symbol(b')')?;
+        let _ = self.expressions.cursor.take_symbol(b',');
+        self.expressions.cursor.expect_symbol(b')')?;
         Ok(argument)
     }
 
     fn structure(&mut self, first_step: usize) -> Result<(), Stop> {
-        self.cursor().advance();
-        let name = self.cursor().expect_name()?;
-        self.cursor().expect_symbol(b'{')?;
+        self.expressions.cursor.advance();
+        let name = self.expressions.cursor.expect_name()?;
+        self.expressions.cursor.expect_symbol(b'{')?;
         let first = self.members.len();
         self.members()?;
-        self.cursor().expect_symbol(b'}')?;
+        self.expressions.cursor.expect_symbol(b'}')?;
         let end = self.members.len();
         self.add(name, Kind::Struct { first, end }, first_step)
     }
@@ -237,8 +248,10 @@ impl<'a> Reader<'a> {
     // One or more.
     fn members(&mut self) -> Result<(), Stop> {
         self.member()?;
-        for _ in self.cursor().position()..self.cursor().len() {
-            if !self.cursor().take_symbol(b',') || self.cursor().token().is_symbol(b'}') {
+        for _ in self.expressions.cursor.position()..self.expressions.cursor.len() {
+            if !self.expressions.cursor.take_symbol(b',')
+                || self.expressions.cursor.token().is_symbol(b'}')
+            {
                 break;
             }
             self.member()?;
@@ -249,13 +262,14 @@ impl<'a> Reader<'a> {
     // Where a declaration begins in place of a member, the structure has no end.
     fn member(&mut self) -> Result<(), Stop> {
         let start = self.expressions.cursor;
+        let refused = self.expressions.refused_len();
         let attributes = self.attributes()?;
-        if self.cursor().begins_declaration() {
-            self.expressions.cursor = start;
+        if self.expressions.cursor.begins_declaration() {
+            self.expressions.go_back(start, refused);
             return Err(start.expected(Expected::Symbol('}')));
         }
-        let name = self.cursor().expect_name()?;
-        self.cursor().expect_symbol(b':')?;
+        let name = self.expressions.cursor.expect_name()?;
+        self.expressions.cursor.expect_symbol(b':')?;
         let ty = self.expressions.expression()?;
         self.members
             .push(Member {
@@ -268,40 +282,48 @@ impl<'a> Reader<'a> {
     }
 
     fn alias(&mut self, first_step: usize) -> Result<(), Stop> {
-        self.cursor().advance();
-        let name = self.cursor().expect_name()?;
-        self.cursor().expect_symbol(b'=')?;
+        self.expressions.cursor.advance();
+        let name = self.expressions.cursor.expect_name()?;
+        self.expressions.cursor.expect_symbol(b'=')?;
         let ty = self.expressions.expression()?;
-        self.cursor().expect_symbol(b';')?;
+        self.expressions.cursor.expect_symbol(b';')?;
         self.add(name, Kind::Alias(ty), first_step)
     }
 
     fn constant(&mut self, first_step: usize) -> Result<(), Stop> {
-        self.cursor().advance();
-        let name = self.cursor().expect_name()?;
+        self.expressions.cursor.advance();
+        let name = self.expressions.cursor.expect_name()?;
         let ty = self.given_type()?;
-        self.cursor().expect_symbol(b'=')?;
+        self.expressions.cursor.expect_symbol(b'=')?;
         let value = self.expressions.expression()?;
-        self.cursor().expect_symbol(b';')?;
+        self.expressions.cursor.expect_symbol(b';')?;
         self.add(name, Kind::Constant(ty, value), first_step)
     }
 
     fn overridden(&mut self, first_step: usize) -> Result<(), Stop> {
-        self.cursor().advance();
-        let name = self.cursor().expect_name()?;
+        self.expressions.cursor.advance();
+        let name = self.expressions.cursor.expect_name()?;
         let ty = self.given_type()?;
         let value = self.given_value()?;
-        self.cursor().expect_symbol(b';')?;
+        self.expressions.cursor.expect_symbol(b';')?;
         self.add(name, Kind::Override(ty, value), first_step)
     }
 
+    fn assertion(&mut self) -> Result<(), Stop> {
+        self.expressions.cursor.advance();
+        let condition = self.expressions.expression()?;
+        self.expressions.cursor.expect_symbol(b';')?;
+        self.asserts.push(condition).map_err(AllocError::from)?;
+        Ok(())
+    }
+
     fn variable(&mut self, first_step: usize, attributes: Attributes) -> Result<(), Stop> {
-        self.cursor().advance();
+        self.expressions.cursor.advance();
         let (space, access) = self.memory()?;
-        let name = self.cursor().expect_name()?;
+        let name = self.expressions.cursor.expect_name()?;
         let ty = self.given_type()?;
         self.given_value()?;
-        self.cursor().expect_symbol(b';')?;
+        self.expressions.cursor.expect_symbol(b';')?;
         let variable = Variable {
             space,
             access,
@@ -312,14 +334,14 @@ impl<'a> Reader<'a> {
     }
 
     fn given_type(&mut self) -> Result<Option<Span>, Stop> {
-        if !self.cursor().take_symbol(b':') {
+        if !self.expressions.cursor.take_symbol(b':') {
             return Ok(None);
         }
         Ok(Some(self.expressions.expression()?))
     }
 
     fn given_value(&mut self) -> Result<Option<Span>, Stop> {
-        if !self.cursor().take_symbol(b'=') {
+        if !self.expressions.cursor.take_symbol(b'=') {
             return Ok(None);
         }
         Ok(Some(self.expressions.expression()?))
@@ -327,71 +349,71 @@ impl<'a> Reader<'a> {
 
     // The address space and the access mode in the template list of a `var`.
     fn memory(&mut self) -> Result<(Option<AddressSpace>, Option<AccessMode>), Stop> {
-        if self.cursor().token().kind != TokenKind::TemplateStart {
+        if self.expressions.cursor.token().kind != TokenKind::TemplateStart {
             return Ok((None, None));
         }
-        self.cursor().advance();
+        self.expressions.cursor.advance();
         let space = self.space()?;
-        let access = if self.cursor().take_symbol(b',') {
+        let access = if self.expressions.cursor.take_symbol(b',') {
             self.access()?
         } else {
             None
         };
-        if self.cursor().token().kind != TokenKind::TemplateEnd {
-            return Err(self.cursor().expected(Expected::TemplateEnd));
+        if self.expressions.cursor.token().kind != TokenKind::TemplateEnd {
+            return Err(self.expressions.cursor.expected(Expected::TemplateEnd));
         }
-        self.cursor().advance();
+        self.expressions.cursor.advance();
         Ok((Some(space), access))
     }
 
     fn space(&mut self) -> Result<AddressSpace, Stop> {
-        let space = match self.cursor().word() {
+        let space = match self.expressions.cursor.word() {
             "function" => AddressSpace::Function,
             "private" => AddressSpace::Private,
             "workgroup" => AddressSpace::Workgroup,
             "uniform" => AddressSpace::Uniform,
             "storage" => AddressSpace::Storage,
-            _ => return Err(self.cursor().expected(Expected::AddressSpace)),
+            _ => return Err(self.expressions.cursor.expected(Expected::AddressSpace)),
         };
-        self.cursor().advance();
+        self.expressions.cursor.advance();
         Ok(space)
     }
 
     // None where the list ends behind a comma.
     fn access(&mut self) -> Result<Option<AccessMode>, Stop> {
-        let access = match self.cursor().word() {
+        let access = match self.expressions.cursor.word() {
             "read" => AccessMode::Read,
             "write" => AccessMode::Write,
             "read_write" => AccessMode::ReadWrite,
-            _ if self.cursor().token().kind == TokenKind::TemplateEnd => return Ok(None),
-            _ => return Err(self.cursor().expected(Expected::AccessMode)),
+            _ if self.expressions.cursor.token().kind == TokenKind::TemplateEnd => return Ok(None),
+            _ => return Err(self.expressions.cursor.expected(Expected::AccessMode)),
         };
-        self.cursor().advance();
-        let _ = self.cursor().take_symbol(b',');
+        self.expressions.cursor.advance();
+        let _ = self.expressions.cursor.take_symbol(b',');
         Ok(Some(access))
     }
 
     // A function, whose parameters and body are passed over.
     fn function(&mut self, first_step: usize) -> Result<(), Stop> {
-        self.cursor().advance();
-        let name = self.cursor().expect_name()?;
+        self.expressions.cursor.advance();
+        let name = self.expressions.cursor.expect_name()?;
         self.skip_declaration()?;
         self.add(name, Kind::Function, first_step)
     }
 
     // Passes over what says nothing of types.
     fn skip_declaration(&mut self) -> Result<(), Stop> {
-        let start = self.cursor().position();
-        self.cursor().skip_declaration();
+        let start = self.expressions.cursor.position();
+        self.expressions.cursor.skip_declaration();
         self.check_closed(start)
     }
 
     // The brackets are closed that stand behind the token of this number.
     fn check_closed(&mut self, start: usize) -> Result<(), Stop> {
         for (open, close) in [(b'{', b'}'), (b'(', b')'), (b'[', b']')] {
-            if self.cursor().is_open(start, open, close) {
+            if self.expressions.cursor.is_open(start, open, close) {
                 let symbol = Expected::Symbol(char::from(close));
-                return Err(self.cursor().expected(symbol));
+                return Err(self.expressions.cursor.expected(symbol));
             }
         }
         Ok(())

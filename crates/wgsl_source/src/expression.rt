@@ -1,14 +1,17 @@
 //! Reads types and values into steps that are done one after the other (WGSL: expression grammar;
 //! operator precedence and associativity).
 
-ghost use Rattle.std.specs.Prelude.{◌≡◌, ◌∷◌, [], take, Some, IsSome, IfSome};
+ghost use Rattle.std.specs.Prelude.{◌≡◌, ◌↔◌, IsTrue, true, false, ℕ, ◌+◌, ◌-◌, ◌++◌, ◌∷◌, [], take, reverse, Some, IsSome, IfSome, IfOk, OnOk, IfErr, OnErr, vec_len, slice_get, length, if◌then◌else◌};
 ghost use Rattle.wgsl_rules.specs.Text.{unary_text, binary_text};
 ghost use Rattle.wgsl_rules.specs.declared.syntax.BinaryOperator.{BinaryOperator};
 ghost use Rattle.wgsl_rules.specs.declared.syntax.UnaryOperator.{UnaryOperator};
+ghost use Rattle.wgsl_source.specs.Cursors.{fault_of};
+ghost use Rattle.wgsl_source.specs.Expressions.{is_mixed_in, operator_in, MayDouble, StandsBefore, IsDouble};
 ghost use Rattle.wgsl_source.specs.Operators.{precedence_of};
 
 use crate::cursor::{Cursor, Stop};
-use crate::fault::{Expected, Reason};
+use crate::fault::{Expected, Fault, Reason};
+use crate::mixes::may_join;
 use crate::token::TokenKind;
 use std::alloc::Global;
 use wgsl_rules::{BinaryOperator, UnaryOperator};
@@ -18,8 +21,8 @@ const DEPTH: usize = 4096;
 
 /// A step: what it leaves takes the place of what it needs, which are the last answers before it.
 /// Each names its token.
-#[derive(Clone, Copy)]
-pub(crate) enum Step {
+#[derive(Clone, Copy, Debug, PartialEq, Eq)]
+pub enum Step {
     Name(usize),
     Number(usize),
     /// Of one answer.
@@ -37,18 +40,18 @@ pub(crate) enum Step {
 }
 
 /// What is called.
-#[derive(Clone, Copy)]
-pub(crate) enum Callee {
+#[derive(Clone, Copy, Debug, PartialEq, Eq)]
+pub enum Callee {
     Name,
     Answer,
 }
 
 /// The steps of an expression, among those of the source, and the token that it begins with.
-#[derive(Clone, Copy)]
-pub(crate) struct Span {
-    pub(crate) token: usize,
-    pub(crate) start: usize,
-    pub(crate) end: usize,
+#[derive(Clone, Copy, Debug, PartialEq, Eq)]
+pub struct Span {
+    pub token: usize,
+    pub start: usize,
+    pub end: usize,
 }
 
 /// What waits for an operand or for its closing bracket.
@@ -75,25 +78,53 @@ enum Next {
 pub(crate) struct Expressions<'a> {
     pub(crate) cursor: Cursor<'a>,
     pub(crate) steps: Vec<Step>,
+    /// What the grammar refuses and layouts pass over.
+    refused: Vec<Fault>,
     open: Vec<Open>,
 }
 
 impl<'a> Expressions<'a> {
-    pub(crate) fn new(alloc: Global, cursor: Cursor<'a>) -> Self {
+    pub(crate) fn new(alloc: Global, cursor: Cursor<'a>) -> Self
+        ensures steps { result.steps.items ≡ [] }
+        ensures refused { result.refused.items ≡ [] }
+    {
         Expressions {
             cursor,
             steps: Vec::new(alloc),
+            refused: Vec::new(alloc),
             open: Vec::new(alloc),
         }
     }
 
-    /// All steps that were read.
-    pub(crate) fn into_steps(self) -> Vec<Step> {
-        self.steps
+    /// All steps that were read, and what the grammar refuses in them.
+    pub(crate) fn into_steps(self) -> (Vec<Step>, Vec<Fault>)
+        ensures steps { result.0.items ≡ self.entry.steps.items }
+        ensures refused { result.1.items ≡ self.entry.refused.items }
+    {
+        (self.steps, self.refused)
+    }
+
+    /// How many faults the grammar finds in them.
+    pub(crate) fn refused_len(&self) -> usize
+        ensures { result ≡ vec_len self.now.refused }
+    {
+        self.refused.len()
+    }
+
+    /// Goes back to where there were so many faults.
+    pub(crate) fn go_back(&mut self, cursor: Cursor<'a>, refused: usize)
+        ensures cursor { self.new.cursor ≡ cursor.entry }
+        ensures steps { self.new.steps.items ≡ self.old.steps.items }
+        ensures refused { self.new.refused.items ≡ take refused self.old.refused.items }
+    {
+        self.cursor = cursor;
+        self.refused.truncate(refused);
     }
 
     /// Reads the longest expression from here on.
-    pub(crate) fn expression(&mut self) -> Result<Span, Stop> {
+    pub(crate) fn expression(&mut self) -> Result<Span, Stop>
+        ensures span { IfOk result (λ span. (span.start ≡ vec_len self.old.steps) × (span.end ≡ vec_len self.new.steps)) }
+    {
         let token = self.cursor.position();
         let start = self.steps.len();
         self.open.clear();
@@ -104,6 +135,9 @@ impl<'a> Expressions<'a> {
                 Next::Operator => self.operator()?,
                 Next::Done => break,
             };
+        }
+        if let Next::Operand = next {
+            return Err(self.no_operand());
         }
         self.finish()?;
         Ok(Span {
@@ -127,6 +161,7 @@ impl<'a> Expressions<'a> {
             }
             TokenKind::Symbol(symbol) => match unary_operator(symbol) {
                 Some(operator) => {
+                    self.check_unary(symbol)?;
                     let at = self.cursor.advance();
                     self.begin(Open::Unary(operator, at))
                 }
@@ -137,7 +172,9 @@ impl<'a> Expressions<'a> {
         }
     }
 
-    fn no_operand(&self) -> Stop {
+    fn no_operand(&self) -> Stop
+        ensures { result ≡ Stop.At (fault_of self.now.cursor self.now.cursor.at (Reason.Expected Expected.Expression)) }
+    {
         self.cursor.expected(Expected::Expression)
     }
 
@@ -201,6 +238,7 @@ impl<'a> Expressions<'a> {
         let Some((operator, tokens)) = binary_operator(symbol, behind) else {
             return Ok(Next::Done);
         };
+        self.check_mix(operator)?;
         self.reduce(precedence(operator))?;
         let at = self.cursor.advance();
         if tokens > 1 {
@@ -269,6 +307,38 @@ impl<'a> Expressions<'a> {
         }
     }
 
+    // An operator beside which one that waits for its operand needs brackets.
+    fn check_mix(&mut self, operator: BinaryOperator) -> Result<(), Stop>
+        ensures steps { self.new.steps.items ≡ self.old.steps.items }
+        ensures open { self.new.open.items ≡ self.old.open.items }
+        ensures cursor { self.new.cursor ≡ self.old.cursor }
+        ensures mixed { OnOk result (is_mixed_in (reverse self.old.open.items) operator ≡ true →
+            self.new.refused.items ≡ self.old.refused.items ++ fault_of self.old.cursor self.old.cursor.at Reason.Mixed ∷ []) }
+        ensures plain { OnOk result (is_mixed_in (reverse self.old.open.items) operator ≡ false → self.new.refused.items ≡ self.old.refused.items) }
+    {
+        if !is_mixed(self.open.as_slice(), operator) {
+            return Ok(());
+        }
+        let at = self.cursor.position();
+        push_fault(&mut self.refused, self.cursor.fault_at(at, Reason::Mixed))
+    }
+
+    // `--` and `&&` are one token each, and none before an operand.
+    fn check_unary(&mut self, symbol: u8) -> Result<(), Stop>
+        ensures steps { self.new.steps.items ≡ self.old.steps.items }
+        ensures open { self.new.open.items ≡ self.old.open.items }
+        ensures cursor { self.new.cursor ≡ self.old.cursor }
+        ensures double { OnOk result (IsDouble self.old.open.items self.old.cursor symbol →
+            self.new.refused.items ≡ self.old.refused.items ++ fault_of self.old.cursor self.old.cursor.at Reason.Double ∷ []) }
+        ensures plain { OnOk result (¬ IsDouble self.old.open.items self.old.cursor symbol → self.new.refused.items ≡ self.old.refused.items) }
+    {
+        if !is_doubled(self.open.as_slice(), self.cursor, symbol) {
+            return Ok(());
+        }
+        let at = self.cursor.position();
+        push_fault(&mut self.refused, self.cursor.fault_at(at, Reason::Double))
+    }
+
     fn begin(&mut self, open: Open) -> Result<Next, Stop> {
         if self.open.len() >= DEPTH {
             let bracket = self.cursor.position().saturating_sub(1);
@@ -278,7 +348,9 @@ impl<'a> Expressions<'a> {
         Ok(Next::Operand)
     }
 
-    fn leave(&mut self, step: Step) -> Result<Next, Stop> {
+    fn leave(&mut self, step: Step) -> Result<Next, Stop>
+        ensures open { self.new.open.items ≡ self.old.open.items }
+    {
         push_step(&mut self.steps, step)?;
         Ok(Next::Operator)
     }
@@ -314,14 +386,101 @@ impl<'a> Expressions<'a> {
     }
 }
 
-fn push_open(open: &mut Vec<Open>, item: Open) -> Result<(), Stop> {
+fn push_open(open: &mut Vec<Open>, item: Open) -> Result<(), Stop>
+    ensures ok { OnOk result («open».new.items ≡ «open».old.items ++ item ∷ []) }
+    ensures err { OnErr result («open».new.items ≡ «open».old.items) }
+    ensures memory { IfErr result (λ stop. stop ≡ Stop.Memory) }
+{
     match open.push(item) {
         Ok(()) => Ok(()),
         Err(_) => Err(Stop::Memory),
     }
 }
 
-fn push_step(steps: &mut Vec<Step>, step: Step) -> Result<(), Stop> {
+fn push_fault(faults: &mut Vec<Fault>, fault: Fault) -> Result<(), Stop>
+    ensures ok { OnOk result (faults.new.items ≡ faults.old.items ++ fault ∷ []) }
+    ensures err { OnErr result (faults.new.items ≡ faults.old.items) }
+    ensures memory { IfErr result (λ stop. stop ≡ Stop.Memory) }
+{
+    match faults.push(fault) {
+        Ok(()) => Ok(()),
+        Err(_) => Err(Stop::Memory),
+    }
+}
+
+// Whether this character stands right behind the same one, an operator of its own that waits.
+fn is_doubled(open: &[Open], cursor: Cursor<'_>, symbol: u8) -> bool
+    ensures { IsTrue result ↔ IsDouble «open».now cursor.entry symbol }
+{
+    match last_operator(open) {
+        Some(before) => may_double(symbol) && stands_before(cursor, before, symbol),
+        None => false,
+    }
+}
+
+fn may_double(symbol: u8) -> bool
+    ensures { IsTrue result ↔ MayDouble symbol }
+{
+    matches!(symbol, b'-' | b'&')
+}
+
+// Whether the token of this number is the character, and the next one is it too, right behind.
+fn stands_before(cursor: Cursor<'_>, before: usize, symbol: u8) -> bool
+    ensures { IsTrue result ↔ StandsBefore cursor.entry before symbol }
+{
+    let token = cursor.token_at(before);
+    before.saturating_add(1) == cursor.position()
+        && token.is_symbol(symbol)
+        && cursor.token().is_joined(token, symbol)
+}
+
+// The token of the operator that waits in the innermost place.
+fn last_operator(open: &[Open]) -> Option<usize>
+    ensures { result ≡ operator_in (slice_get «open».now (length «open».now - 1)) }
+{
+    match open.last().copied() {
+        Some(last) => operator_token(last),
+        None => None,
+    }
+}
+
+fn operator_token(open: Open) -> Option<usize>
+    ensures { result ≡ operator_in (Some «open») }
+{
+    match open {
+        Open::Unary(_, token) => Some(token),
+        Open::Binary(_, token) => Some(token),
+        Open::Group | Open::Index(_) | Open::Template(_, _) | Open::Call(_, _, _) => None,
+    }
+}
+
+// Whether one of the operators that wait in the innermost bracket needs brackets beside this one.
+fn is_mixed(open: &[Open], operator: BinaryOperator) -> bool
+    ensures { result ≡ is_mixed_in (reverse «open».now) operator }
+{
+    let mut rest = open;
+    while let Some((item, before)) = rest.split_last() {
+        match *item {
+            Open::Unary(_, _) => {}
+            Open::Binary(waiting, _) => {
+                if !may_join(waiting, operator) {
+                    return true;
+                }
+            }
+            Open::Group | Open::Index(_) | Open::Template(_, _) | Open::Call(_, _, _) => {
+                return false;
+            }
+        }
+        rest = before;
+    }
+    false
+}
+
+fn push_step(steps: &mut Vec<Step>, step: Step) -> Result<(), Stop>
+    ensures ok { OnOk result (steps.new.items ≡ steps.old.items ++ step ∷ []) }
+    ensures err { OnErr result (steps.new.items ≡ steps.old.items) }
+    ensures memory { IfErr result (λ stop. stop ≡ Stop.Memory) }
+{
     match steps.push(step) {
         Ok(()) => Ok(()),
         Err(_) => Err(Stop::Memory),

@@ -23,6 +23,8 @@ pub enum Expected {
     Symbol(char),
     /// The `>` that ends a template list.
     TemplateEnd,
+    /// The end of the source.
+    End,
 }
 
 impl fmt::Display for Expected {
@@ -37,6 +39,7 @@ impl fmt::Display for Expected {
             Expected::AccessMode => f.write_str("an access mode"),
             Expected::Symbol(symbol) => write!(f, "`{symbol}`"),
             Expected::TemplateEnd => f.write_str("`>`"),
+            Expected::End => f.write_str("the end"),
         }
     }
 }
@@ -90,6 +93,10 @@ pub enum Reason {
     TooLarge,
     /// The types of the source have more parts in all than are followed.
     TooManyTypes,
+    /// Two operators stand beside each other that need brackets.
+    Mixed,
+    /// Two characters make one token, which is no operator there.
+    Double,
 }
 
 impl fmt::Display for Reason {
@@ -120,6 +127,8 @@ impl fmt::Display for Reason {
             Reason::Shift => f.write_str("bits are shifted out"),
             Reason::TooLarge => f.write_str("this type has too many parts"),
             Reason::TooManyTypes => f.write_str("the types up to here have too many parts in all"),
+            Reason::Mixed => f.write_str("this operator and the one before it need brackets"),
+            Reason::Double => f.write_str("two of these beside each other are no operators here"),
         }
     }
 }

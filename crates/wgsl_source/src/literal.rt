@@ -1,15 +1,16 @@
 //! The numbers that a source writes (WGSL: numeric literals).
 
-ghost use Rattle.std.specs.Prelude.{◌≡◌, ◌++◌, ℕ, List, MatchOption};
+ghost use Rattle.std.specs.Prelude.{◌≡◌, ◌||◌, ◌++◌, ℕ, List, MatchOption, option_and_then};
 ghost use Rattle.std.specs.Option.{option_map};
 ghost use Rattle.wgsl_scalar.specs.Literals.{literal_of as value_of};
-ghost use Rattle.wgsl_source.specs.Numbers.{suffix_text, number_in, IsHexadecimal, Reads, ReadsDecimal, ReadsNumeral, Means};
+ghost use Rattle.wgsl_source.specs.declared.literal.Suffix.{Suffix};
+ghost use Rattle.wgsl_source.specs.Numbers.{suffix_text, number_in, IsHexadecimal, Reads, ReadsDecimal, ReadsNumeral, EndsInDigit, has_byte, is_decimal_float_text, is_float_text, Means};
 
 use wgsl_scalar::LiteralInstance;
 
 /// What a numeric literal is.
-#[derive(Clone, Copy)]
-pub(crate) enum Literal {
+#[derive(Clone, Copy, Debug, PartialEq, Eq)]
+pub enum Literal {
     Integer(LiteralInstance),
     /// A number of floats, which has no value here.
     Float,
@@ -35,20 +36,48 @@ pub(crate) fn literal_of(text: &str) -> Literal
         return Literal::Float;
     }
     let (digits, suffix) = split_suffix(text);
-    match number_of(digits).and_then(|number| suffix.literal(number)) {
+    match literal_in(suffix, number_of(digits)) {
         Some(literal) => Literal::Integer(literal),
         None => Literal::Wrong,
     }
 }
 
-fn is_float(text: &str) -> bool {
-    if text.contains('.') {
+// The number in the kind of the suffix, where it is one of it.
+fn literal_in(suffix: Suffix, number: Option<u64>) -> Option<LiteralInstance>
+    ensures { option_map value_of result ≡ option_and_then (number_in suffix) number }
+{
+    suffix.literal(number?)
+}
+
+// Whether the number has a point, an exponent or a suffix of floats.
+fn is_float(text: &str) -> bool
+    ensures { result ≡ is_float_text text.now }
+{
+    if has(text, b'.') {
         return true;
     }
     match hexadecimal(text) {
-        Some(digits) => digits.contains(['p', 'P']),
-        None => text.contains(['e', 'E', 'f', 'h']),
+        Some(digits) => has_either(digits, b'p', b'P'),
+        None => is_decimal_float(text),
     }
+}
+
+fn is_decimal_float(text: &str) -> bool
+    ensures { result ≡ is_decimal_float_text text.now }
+{
+    has_either(text, b'e', b'E') || has_either(text, b'f', b'h')
+}
+
+fn has_either(text: &str, first: u8, second: u8) -> bool
+    ensures { result ≡ (has_byte text.now first || has_byte text.now second) }
+{
+    has(text, first) || has(text, second)
+}
+
+fn has(text: &str, byte: u8) -> bool
+    ensures { result ≡ has_byte text.now byte }
+{
+    text.as_bytes().contains(&byte)
 }
 
 // The digits of a hexadecimal number.
@@ -64,7 +93,8 @@ fn hexadecimal(text: &str) -> Option<&str>
 }
 
 fn split_suffix(text: &str) -> (&str, Suffix)
-    ensures { text.now ≡ result.0.now ++ suffix_text result.1 }
+    ensures parts { text.now ≡ result.0.now ++ suffix_text result.1 }
+    ensures each { (digits : List ℕ) (suffix : Suffix) → EndsInDigit digits → text.now ≡ digits ++ suffix_text suffix → (result.1 ≡ suffix) × (result.0.now ≡ digits) }
 {
     if let Some(digits) = text.strip_suffix("li") {
         return (digits, Suffix::I64);

@@ -17,8 +17,8 @@ ghost use Rattle.wgsl_source.specs.Names.{
 use wgsl_rules::Type;
 
 /// What a name stands for that no declaration gives a meaning.
-#[derive(Clone, Copy)]
-pub(crate) enum Predeclared {
+#[derive(Clone, Copy, Debug, PartialEq, Eq)]
+pub enum Predeclared {
     Scalar(Scalar),
     /// A vector whose short name has its component in it.
     Vec(u8, Scalar),
@@ -28,16 +28,16 @@ pub(crate) enum Predeclared {
 }
 
 /// A name that takes a template list.
-#[derive(Clone, Copy)]
-pub(crate) enum Generator {
+#[derive(Clone, Copy, Debug, PartialEq, Eq)]
+pub enum Generator {
     Vec(u8),
     Mat(u8, u8),
     Array,
     Atomic,
 }
 
-#[derive(Clone, Copy)]
-pub(crate) enum Scalar {
+#[derive(Clone, Copy, Debug, PartialEq, Eq)]
+pub enum Scalar {
     Bool,
     I32,
     U32,
@@ -49,7 +49,8 @@ pub(crate) enum Scalar {
 }
 
 impl Scalar {
-    pub(crate) fn ty(self) -> Type
+    /// The type.
+    pub fn ty(self) -> Type
         ensures { type_view result ≡ scalar_type self }
     {
         match self {
@@ -80,7 +81,7 @@ impl Scalar {
 }
 
 /// What the language says that a name stands for; `None` where that is no type with a size.
-pub(crate) fn language_name(name: &str) -> Option<Predeclared>
+pub fn language_name(name: &str) -> Option<Predeclared>
     ensures names { IfSome result (Names name.now) }
     ensures each { (p : Predeclared) → Names name.now p → result ≡ Some p }
 {

@@ -1,6 +1,10 @@
 //! The order in which declarations are given their meanings: each behind those that it names
 //! (WGSL: declaration and scope).
 
+ghost use Rattle.std.specs.Prelude.{◌≡◌, ℕ, List, IfOk};
+ghost use Rattle.std.specs.BTreeMap.{get_by_text};
+ghost use Rattle.wgsl_source.specs.Declarations.{number_named};
+
 use crate::cursor::Cursor;
 use crate::declaration::Module;
 use crate::expression::{Callee, Step};
@@ -41,7 +45,9 @@ pub(crate) fn names_of(
     module: &Module,
     cursor: Cursor<'_>,
     faults: &mut Faults,
-) -> Result<BTreeMap<String, usize>, AllocError> {
+) -> Result<BTreeMap<String, usize>, AllocError>
+    ensures { IfOk result (λ names. (name : List ℕ) → get_by_text names name ≡ number_named cursor.entry «module».now.declarations.items name) }
+{
     let mut names = BTreeMap::new(alloc);
     for (number, declaration) in module.declarations.iter().enumerate() {
         let name = cursor.text_at(declaration.name);

@@ -5,6 +5,7 @@ mod declarations;
 mod expressions;
 mod faults;
 mod growth;
+mod readings;
 mod reasons;
 mod recovery;
 mod texts;

@@ -2,6 +2,7 @@
 
 use crate::tests::texts::text_of;
 use std::alloc::AllocError;
+use wgsl_source::{Declared, Reading};
 
 const SOURCE: &str = "\
 const N = 2 + 3;
@@ -26,4 +27,50 @@ fn a_source_is_read_or_memory_is_wanting(rt: HostRuntime) {
         Err(AllocError) => text_of(alloc, SOURCE).expect(&rt, "one growth alone is refused"),
     };
     assert_eq!(rt; text.as_str(), WANTED);
+}
+
+const MODULE: &str = "\
+const A = B * 2;
+const B = 3;
+const_assert A == 6;
+struct S { @size(16) a: u32, b: vec2<u32> }
+const C = 1 & 2 == 3;
+";
+
+#[test]
+fn a_module_is_shown_or_memory_is_wanting(rt: HostRuntime) {
+    let alloc = rt.alloc();
+    let reading = match Reading::of_module(alloc, MODULE) {
+        Ok(reading) => reading,
+        Err(AllocError) => {
+            Reading::of_module(alloc, MODULE).expect(&rt, "one growth alone is refused")
+        }
+    };
+    assert_eq!(rt; reading.len(), 4);
+    assert_eq!(rt; reading.order().len(), 4);
+    assert_eq!(rt; reading.asserts().len(), 1);
+    assert_eq!(rt; reading.number_of("C"), Some(3));
+    assert_eq!(rt; reading.faults().len(), 1);
+    drop(reading);
+}
+
+#[test]
+fn an_expression_is_shown_or_memory_is_wanting(rt: HostRuntime) {
+    let alloc = rt.alloc();
+    let reading = match Reading::of_expression(alloc, "vec2(1, 2).x + 3") {
+        Ok(reading) => reading,
+        Err(AllocError) => Reading::of_expression(alloc, "vec2(1, 2).x + 3").expect(
+            &rt,
+            "one growth alone is refused",
+        ),
+    };
+    assert_eq!(rt; reading.len(), 1);
+    assert_eq!(rt; reading.order(), [0].as_slice());
+    let steps = match reading.declared(0) {
+        Some(Declared::Const { value, .. }) => reading.steps(value).len(),
+        _ => 0,
+    };
+    assert_eq!(rt; steps, 6);
+    assert!(rt; reading.faults().is_empty());
+    drop(reading);
 }

@@ -118,7 +118,10 @@ const BRACKETS: [(&str, &str); 6] = [
         "1:41 expected `}`",
     ),
     ("fn f(a: i32 { return; } const N = 1;", "1:37 expected `)`"),
-    ("const_assert (1 < 2; const N = 1;", "1:34 expected `)`"),
+    (
+        "const_assert (1 < 2; const N = 1;",
+        "N = 1; 1:20 expected `)`",
+    ),
     (
         "@workgroup_size(64 fn f() { } const N = 1;",
         "1:43 expected `)`",

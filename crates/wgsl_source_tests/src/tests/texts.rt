@@ -29,7 +29,7 @@ pub(super) fn text_of(alloc: Global, source: &str) -> Result<String, AllocError>
     Ok(text)
 }
 
-fn separate(text: &mut String) -> Result<(), AllocError> {
+pub(super) fn separate(text: &mut String) -> Result<(), AllocError> {
     if text.is_empty() {
         return Ok(());
     }

@@ -1,0 +1,82 @@
+-- What a reading shows of a source.
+use Rattle.std.specs.Prelude.{ℕ, Bool, nat_le, ◌==◌, ◌&&◌, Option, List, [], length, map, position, slice_get, slice_range, unwrap_or, if◌then◌else◌}
+use Rattle.std.specs.Str.{bytes_eq}
+use Rattle.wgsl_source.specs.Cuts.{cut_of}
+use Rattle.wgsl_source.specs.declared.declaration.Kind.{Kind}
+use Rattle.wgsl_source.specs.declared.declaration.Kind.TheVariants as kinds
+use Rattle.wgsl_source.specs.declared.declaration.Member.{Member}
+use Rattle.wgsl_source.specs.declared.expression.Span.{Span}
+use Rattle.wgsl_source.specs.declared.expression.Step.{Step}
+use Rattle.wgsl_source.specs.declared.fault.Fault.{Fault}
+use Rattle.wgsl_source.specs.declared.module.Declared.{Declared}
+use Rattle.wgsl_source.specs.declared.module.Declared.TheVariants as declareds
+use Rattle.wgsl_source.specs.declared.module.Extent.{Extent}
+use Rattle.wgsl_source.specs.declared.module.Field.{Field}
+use Rattle.wgsl_source.specs.declared.token.Token.{Token}
+
+-- a source as it is shown: its text, the bytes of its tokens, what its declarations declare and the
+-- tokens that name them, those of these tokens by which declarations are found, the members of its
+-- structures, all steps, the conditions of its assertions, an order of the declarations, where operators
+-- begin that the grammar refuses, and what is wrong
+pub record Outline : Type 0 where
+  pub text : List ℕ
+  pub tokens : List Extent
+  pub declared : List Declared
+  pub names : List ℕ
+  pub found_by : List ℕ
+  pub fields : List Field
+  pub steps : List Step
+  pub asserts : List Span
+  pub order : List ℕ
+  pub refused : List ℕ
+  pub faults : List Fault
+
+-- the bytes of a token
+abbrev pub extent_in : Token → Extent
+extent_in token = record { start = token.start; end = token.end }
+
+-- what is declared
+abbrev pub declared_in : Kind → Declared
+declared_in (kinds.Struct first end) = declareds.Struct first end
+declared_in (kinds.Alias ty) = declareds.Alias ty
+declared_in (kinds.Constant ty value) = declareds.Const ty value
+declared_in (kinds.Override ty value) = declareds.Override ty value
+declared_in (kinds.Variable variable) = declareds.Variable
+declared_in kinds.Function = declareds.Function
+
+-- a member of a structure
+abbrev pub field_in : Member → Field
+field_in m = record { name = m.name; ty = m.ty; size = m.attributes.size; align = m.attributes.align }
+
+-- those tokens, where any name is known
+abbrev pub found_by_if : ℕ → List ℕ → List ℕ
+found_by_if known names = if known == 0 then [] else names
+
+-- the bytes of the token of this number; behind the last one there are none
+abbrev pub extent_of : List ℕ → List Extent → ℕ → Extent
+extent_of text tokens at = unwrap_or (slice_get tokens at) (record { start = length text; end = length text })
+
+-- the text of the token of this number
+abbrev pub word_of : List ℕ → List Extent → ℕ → List ℕ
+word_of text tokens at = cut_of text (extent_of text tokens at).start (extent_of text tokens at).end
+
+-- the first of these tokens with this text
+abbrev pub first_of : List ℕ → List Extent → List ℕ → List ℕ → Option ℕ
+first_of text tokens names name = position (λ token. bytes_eq (word_of text tokens token) name) names
+
+-- ---- of a reading
+
+abbrev pub extent_at : Outline → ℕ → Extent
+extent_at o at = extent_of o.text o.tokens at
+
+abbrev pub word_at : Outline → ℕ → List ℕ
+word_at o at = word_of o.text o.tokens at
+
+-- the steps of a span, where it is one
+abbrev pub steps_in : Outline → Span → List Step
+steps_in o span =
+    if nat_le span.start span.end && nat_le span.end (length o.steps) then slice_range o.steps span.start span.end else []
+
+-- the first declaration that is named so
+abbrev pub first_named : Outline → List ℕ → Option ℕ
+first_named o name = first_of o.text o.tokens o.found_by name
