@@ -1,0 +1,4 @@
+mod Conversions
+mod Parts
+mod Shifts
+mod Zeros

@@ -1,0 +1,27 @@
+//! Calls with each growth of memory refused in turn: what wants memory is asked again, and every other answer is
+//! compared.
+
+/// What the call answers, where memory is not wanted a second time.
+macro_rules! again {
+    ($rt:expr; $call:expr) => {
+        match $call.ok() {
+            Some(answer) => answer,
+            None => $call.expect($rt, "memory"),
+        }
+    };
+}
+
+/// The answer or the refusal of the call, which is made a second time where it wants memory.
+macro_rules! answered {
+    ($call:expr) => {
+        match crate::tests::answers::settled($call) {
+            Some(answer) => answer,
+            None => $call,
+        }
+    };
+}
+
+mod answers;
+mod growth;
+mod standard;
+mod texts;

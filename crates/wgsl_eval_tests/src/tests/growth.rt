@@ -1,0 +1,5 @@
+//! Each call that takes memory.
+
+mod functions;
+mod operators;
+mod values;

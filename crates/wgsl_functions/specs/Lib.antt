@@ -1,0 +1,4 @@
+pub mod Functions
+pub mod Names
+pub mod Standard
+pub mod Written
