@@ -3,4 +3,5 @@ pub mod Fields
 pub mod Kinds
 pub mod Rows
 pub mod Scalars
+pub mod Stages
 pub mod Texts

@@ -4,6 +4,8 @@ ghost use Rattle.std.specs.Prelude.{◌≡◌, ◌≢◌, IfSome, IsNone, Some};
 ghost use Rattle.wgsl_tool.specs.Endings.{flag_of};
 ghost use Rattle.wgsl_tool.specs.declared.arguments.Format.{Format};
 
+use crate::evaluating::{Evaluating, evaluating_of};
+
 /// How a layout is printed.
 #[derive(Clone, Copy, Debug, PartialEq, Eq)]
 pub(crate) enum Format {
@@ -27,6 +29,7 @@ pub(crate) enum Asked<'a> {
     Help,
     Version,
     Layout(Arguments<'a>),
+    Eval(Evaluating<'a>),
 }
 
 /// What the words behind the program's name ask for; `None` where that is nothing.
@@ -36,6 +39,7 @@ pub(crate) fn arguments_of(words: &[String]) -> Option<Asked<'_>> {
         "--help" | "-h" => Some(Asked::Help),
         "--version" | "-V" => Some(Asked::Version),
         "layout" => layout_of(rest),
+        "eval" => eval_of(rest),
         _ => None,
     }
 }
@@ -82,7 +86,14 @@ fn file_of(format: Format, words: &[String]) -> Option<Asked<'_>> {
     }))
 }
 
-// A word that begins so is neither a file nor a name; `-` alone is standard input.
-fn is_flag(word: &str) -> bool {
+/// A word that begins so is neither a file nor a name; `-` alone is standard input.
+pub(crate) fn is_flag(word: &str) -> bool {
     word.starts_with('-') && word != "-"
+}
+
+fn eval_of(words: &[String]) -> Option<Asked<'_>> {
+    match words.first()?.as_str() {
+        word if is_help(word) => Some(Asked::Help),
+        _ => Some(Asked::Eval(evaluating_of(words)?)),
+    }
 }

@@ -5,6 +5,8 @@ mod arguments;
 mod bytes;
 mod c;
 mod end;
+mod eval;
+mod evaluating;
 mod fields;
 mod json;
 mod report;
@@ -16,6 +18,8 @@ mod uniform;
 
 use arguments::{Arguments, Asked, arguments_of};
 use end::End;
+use eval::{Values, values_of};
+use evaluating::{Evaluating, Subject};
 use report::report_of;
 use std::process::ExitCode;
 use std::rt::{Env, Files};
@@ -25,8 +29,10 @@ const VERSION: &str = "wgsl_tool 0.1.0\n";
 
 const USAGE: &str = "\
 usage: wgsl_tool layout [--bytes | --json | --rust | --c] FILE [NAME ..]
+       wgsl_tool eval [--stage const | override | exec] [--strict] FILE
+       wgsl_tool eval [--stage const | override | exec] [--strict] -e EXPRESSION
 
-Prints where the members of each structure of a WGSL source stand in memory, and how large the
+`layout` prints where the members of each structure of a WGSL source stand in memory, and how large the
 buffers of its storage and uniform variables are. With names, prints these alone; for programs,
 also the structures inside them. The source is standard input where FILE is `-`.
 
@@ -34,6 +40,13 @@ also the structures inside them. The source is standard input where FILE is `-`.
   --json      the same as without a flag, for programs to read
   --rust      structures of the host in Rust, whose offsets its compiler checks
   --c         structures of the host in C, whose offsets its compiler checks
+
+`eval` prints the type and the value of each constant, or of the expression, and checks the
+assertions of the module. It warns of what the standard refuses and the library answers.
+
+  --stage     when the values are needed: for the module, for a pipeline, or while it runs
+  --strict    what is warned of is a fault
+
   --help      prints this
   --version   prints the version
 
@@ -71,7 +84,38 @@ fn run<R: AllocGlobal + Input + Print + Eprint + Files + Env>(rt: &R) -> io::Res
             Ok(End::Well)
         }
         Some(Asked::Layout(arguments)) => layout(rt, arguments),
+        Some(Asked::Eval(asked)) => print_values(rt, asked),
     }
+}
+
+// Reads what is to be evaluated, and prints its values.
+fn print_values<R: AllocGlobal + Input + Print + Eprint + Files>(
+    rt: &R,
+    asked: Evaluating<'_>,
+) -> io::Result<End> {
+    let file = match asked.subject {
+        Subject::Expression(text) => {
+            let values = values_of(rt.alloc(), text, "expression", asked)?;
+            return end_of(rt, &values);
+        }
+        Subject::File(file) => file,
+    };
+    match read(rt, file) {
+        Ok(source) => {
+            let values = values_of(rt.alloc(), source.as_str(), file, asked)?;
+            end_of(rt, &values)
+        }
+        Err(error) => {
+            eprintln!(rt; "wgsl_tool: {file}: {error}")?;
+            Ok(End::Io)
+        }
+    }
+}
+
+fn end_of<R: Print + Eprint>(rt: &R, values: &Values) -> io::Result<End> {
+    print!(rt; "{}", values.output)?;
+    eprint!(rt; "{}", values.errors)?;
+    Ok(values.end())
 }
 
 // Reads the source and prints what it is asked for.

@@ -94,8 +94,8 @@ fn add_faults(
     Ok(())
 }
 
-// Where it is, what is wrong, and the line with a mark below what was found.
-fn add_fault(
+/// Where it is, what is wrong, and the line with a mark below what was found.
+pub(crate) fn add_fault(
     errors: &mut String,
     lines: &Lines,
     fault: Fault,
@@ -122,8 +122,8 @@ fn add_found(errors: &mut String, found: &str) -> Result<(), AllocError> {
     errors.push_str("`\n")
 }
 
-// The line, or the part of it round this character, and a mark below the character.
-fn add_line(errors: &mut String, line: &str, before: usize) -> Result<(), AllocError> {
+/// The line, or the part of it round this character, and a mark below the character.
+pub(crate) fn add_line(errors: &mut String, line: &str, before: usize) -> Result<(), AllocError> {
     let left_out = if before < SHOWN {
         0
     } else {

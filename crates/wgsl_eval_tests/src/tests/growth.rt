@@ -1,5 +1,6 @@
 //! Each call that takes memory.
 
+mod evaluations;
 mod functions;
 mod operators;
 mod values;

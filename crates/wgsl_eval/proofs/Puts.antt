@@ -1,0 +1,66 @@
+-- A meaning in the place of its declaration.
+use Rattle.std.proofs.Common.{◌≡◌, ◌≢◌, ◌↔◌, ℕ, ◌<◌, Bool, true, false, List, length, Result, Ok, Err, Some, refl, sym, ap, ◌∙◌, subst, inl, inr}
+use Rattle.std.specs.Prelude.{OnOk, slice_get, slice_set}
+use Rattle.std.proofs.lemmas.Bool.{false≢true}
+use Rattle.std.proofs.Math.Seq.{lt-length-set}
+use Rattle.std.proofs.lemmas.List.{length-set, get_or-set_other, get_or-set_same}
+use Rattle.std.proofs.lemmas.Option.{slice_get-get_or, slice_get_cases, slice_get_past, unwrap_or-slice_get}
+use Rattle.wgsl_eval.specs.Answers.{meaning_at}
+use Rattle.wgsl_eval.specs.Evaluators.{Setting}
+use Rattle.wgsl_eval.specs.Meanings.{IsDeclared, IsFoundAt, IsPlaced, IsSecond, told, with_meaning}
+use Rattle.wgsl_eval.specs.declared.answer.Answer.{Answer}
+use Rattle.wgsl_eval.specs.declared.answer.Answer.TheVariants as answers
+
+slice_get-set_other : (xs : List Answer) (i k : ℕ) (v : Answer) → k ≢ i → slice_get (slice_set xs i v) k ≡ slice_get xs k
+slice_get-set_other xs i k v ne =
+    elim (slice_get_cases xs k).1 as (λ _. slice_get (slice_set xs i v) k ≡ slice_get xs k) [
+      | inl w ↦ slice_get-get_or (slice_set xs i v) k w.0 (lt-length-set xs i v w.1) ∙ ap Some (get_or-set_other xs i k v w.0 ne ∙ w.3) ∙ sym w.2
+      | inr w ↦ slice_get_past (slice_set xs i v) k (rw length-set w.0) ∙ sym w.1
+    ]
+
+pub placed_same : (s t : Setting) (n : ℕ) → t ≡ s → IsPlaced s n t
+placed_same s t n e =
+    let P : Setting → Type 0 = λ u. IsPlaced s n u in
+    subst P (sym e) (record { source = refl; stage = refl; is_strict = refl; count = refl; others = λ k ne. refl })
+
+placed : (s : Setting) (n : ℕ) (m : Answer) → IsPlaced s n (with_meaning s n m)
+placed s n m = record {
+  source = refl;
+  stage = refl;
+  is_strict = refl;
+  count = length-set s.meanings n m;
+  others = λ k ne. slice_get-set_other s.meanings n k m ne;
+}
+
+pub placed_put : (s t u : Setting) (n : ℕ) (m : Answer) → t ≡ s → u ≡ with_meaning t n m → IsPlaced s n u
+placed_put s t u n m e f =
+    let P : Setting → Type 0 = λ v. IsPlaced s n v in
+    subst P (sym (f ∙ ap (λ x. with_meaning x n m) e)) (placed s n m)
+
+pub meaning_put : (s t u : Setting) (n : ℕ) (m a : Answer) → t ≡ s → u ≡ with_meaning t n m → m ≡ a → n < length s.meanings → meaning_at u.meanings n ≡ a
+meaning_put s t u n m a e f is h =
+    ap (λ (x : Setting). meaning_at x.meanings n) (f ∙ ap (λ x. with_meaning x n m) e)
+    ∙ unwrap_or-slice_get (slice_set s.meanings n m) n answers.Faulty
+    ∙ get_or-set_same s.meanings n m answers.Faulty h
+    ∙ is
+
+-- the test failed, so the fact does not hold
+pub fails : (b : Bool) (A : Type 0) → b ≡ true ↔ A → b ≡ false → A → ⊥
+fails b A e is a = false≢true (sym is ∙ e.1 a)
+
+pub found_second : (s : Setting) (n : ℕ) → IsSecond s.source n → IsFoundAt s n s
+found_second s n h = record { others = placed_same s s n refl; second = λ _. refl; first = λ not. absurd (not h) }
+
+pub found_first : {T E : Type 0} (result : Result T E) (s t u : Setting) (n len : ℕ) (m : Answer)
+    → t ≡ s → length t.meanings ≡ len → IsPlaced t n u → OnOk result (n < len → meaning_at u.meanings n ≡ told m)
+    → IsDeclared s (slice_get s.source.declared n) m → (IsSecond s.source n → ⊥) → OnOk result (IsFoundAt s n u)
+found_first (Ok x) s t u n len m e counted others there declared not =
+    let P : Setting → Type 0 = λ v. IsPlaced v n u in
+    let Q : Setting → Type 0 = λ v. n < length v.meanings in
+    let R : ℕ → Type 0 = λ k. n < k in
+    record {
+      others = subst P e others;
+      second = λ h. absurd (not h);
+      first = λ _. (m, declared, λ h. there (subst R counted (subst Q (sym e) h)));
+    }
+found_first (Err x) s t u n len m e counted others there declared not = tt

@@ -1,0 +1,72 @@
+-- What steps leave, as contracts see it.
+use Rattle.std.specs.Prelude.{◌≡◌, ◌-◌, ◌^◌, ℕ, min, Bool, true, false, Option, Some, None, List, slice_get, unwrap_or, ⊤, All}
+use Rattle.wgsl_rules.specs.Values.{Val, IsStorable}
+use Rattle.wgsl_values.specs.View.{value_of}
+use Rattle.wgsl_values.specs.declared.inst.Instance.{Instance}
+use Rattle.wgsl_eval.specs.declared.answer.Answer.{Answer}
+use Rattle.wgsl_eval.specs.declared.answer.Answer.TheVariants as answers
+use Rattle.wgsl_eval.specs.declared.answer.Guard.{Guard}
+use Rattle.wgsl_eval.specs.declared.answer.Guard.TheVariants as guards
+use Rattle.wgsl_eval.specs.declared.answer.Value.{Value}
+use Rattle.wgsl_eval.specs.declared.evaluator.Outcome.{Outcome}
+use Rattle.wgsl_eval.specs.declared.evaluator.Outcome.TheVariants as outcomes
+
+-- a number that stays at the largest of 64 bits
+abbrev pub at_most_largest : ℕ → ℕ
+at_most_largest n = min n (2 ^ 64 - 1)
+
+-- the value of an answer that is one
+abbrev pub value_in : Answer → Option Val
+value_in (answers.Value v) = Some (value_of v.instance)
+value_in a = None
+
+-- a value that a cell may hold
+abbrev pub IsSoundValue : Value → Type 0
+IsSoundValue v = IsStorable (value_of v.instance)
+
+-- an answer whose value, if it has one, may be stored
+abbrev pub IsAnswer : Answer → Type 0
+IsAnswer (answers.Value v) = IsStorable (value_of v.instance)
+IsAnswer a = ⊤
+
+abbrev pub AreAnswers : List Answer → Type 0
+AreAnswers = All IsAnswer
+
+-- values that may be stored
+abbrev pub AreSound : List Instance → Type 0
+AreSound = All (λ i. IsStorable (value_of i))
+
+abbrev pub IsFault : Answer → Type 0
+IsFault (answers.Wrong m guard) = ⊤
+IsFault a = ⊥
+
+abbrev pub IsFaultWith : Guard → Answer → Type 0
+IsFaultWith guard (answers.Wrong m g) = g ≡ guard
+IsFaultWith guard a = ⊥
+
+abbrev pub guard_for : Bool → Guard
+guard_for true = guards.Guarded
+guard_for false = guards.Never
+
+-- a fault of numbers, or one of types
+abbrev pub IsFaultOf : Bool → Answer → Type 0
+IsFaultOf of_numbers = IsFaultWith (guard_for of_numbers)
+
+abbrev pub IsSkipped : Answer → Type 0
+IsSkipped (answers.Skipped s) = ⊤
+IsSkipped a = ⊥
+
+-- what an answer that is no value leaves where a value belongs: a type is a fault there, and all else stays
+abbrev pub IsUnready : Answer → Answer → Type 0
+IsUnready (answers.Type t) answer = IsFault answer
+IsUnready (answers.Bitcast t) answer = IsFault answer
+IsUnready a answer = answer ≡ a
+
+-- what a declaration has, a value that may be stored
+abbrev pub IsSoundOutcome : Outcome → Type 0
+IsSoundOutcome (outcomes.Value i) = IsStorable (value_of i)
+IsSoundOutcome o = ⊤
+
+-- what the declaration of a number was found to be
+abbrev pub meaning_at : List Answer → ℕ → Answer
+meaning_at meanings number = unwrap_or (slice_get meanings number) answers.Faulty

@@ -1,0 +1,24 @@
+-- What is told of a source: the values of its declarations.
+use Rattle.std.specs.Prelude.{ℕ, ◌+◌, Bool, true, false, List, [], ◌∷◌, ◌++◌, length, slice_get, unwrap_or, if◌then◌else◌}
+use Rattle.wgsl_rules.specs.declared.syntax.ShaderStage.{ShaderStage}
+use Rattle.wgsl_rules.specs.declared.syntax.ShaderStage.TheVariants as stages
+use Rattle.wgsl_source.specs.Readings.{Outline}
+use Rattle.wgsl_source.specs.declared.module.Declared.{Declared}
+use Rattle.wgsl_source.specs.declared.module.Declared.TheVariants as declareds
+
+-- whether a declaration has a value: an override has one where a host has given it
+abbrev pub has_value : ShaderStage → Declared → Bool
+has_value stage (declareds.Const ty value) = true
+has_value stages.Const (declareds.Override ty value) = false
+has_value stage (declareds.Override ty value) = true
+has_value stage d = false
+
+-- the token that names a declaration
+abbrev pub name_at : Outline → ℕ → ℕ
+name_at o number = unwrap_or (slice_get o.names number) (length o.tokens)
+
+-- the tokens that name those of the declarations that have values, from this number on
+abbrev pub value_names : Outline → ShaderStage → ℕ → List Declared → List ℕ
+value_names o stage number [] = []
+value_names o stage number (d ∷ ds) =
+    (if has_value stage d then name_at o number ∷ [] else []) ++ value_names o stage (number + 1) ds

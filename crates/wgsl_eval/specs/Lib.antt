@@ -1,0 +1,11 @@
+pub mod Answers
+pub mod Calls
+pub mod Constructors
+pub mod Evaluation
+pub mod Evaluators
+pub mod Given
+pub mod Lists
+pub mod Meanings
+pub mod Parts
+pub mod Runs
+pub mod TypeNames

@@ -1,0 +1,122 @@
+-- What declarations are found to stand for (WGSL: declarations).
+use Rattle.std.specs.Prelude.{◌≡◌, ◌≢◌, ◌<◌, ℕ, Bool, true, false, Option, Some, None, IsSomeAnd, MatchBool, List, [], ◌∷◌, length, slice_get, slice_set, ⊤}
+use Rattle.wgsl_rules.specs.Conversion.{concretized}
+use Rattle.wgsl_rules.specs.Converted.{converted}
+use Rattle.wgsl_rules.specs.Values.{Val, type_of}
+use Rattle.wgsl_rules.specs.View.{type_view}
+use Rattle.wgsl_rules.specs.declared.syntax.ShaderStage.{ShaderStage}
+use Rattle.wgsl_rules.specs.declared.syntax.ShaderStage.TheVariants as stages
+use Rattle.wgsl_values.specs.View.{value_of}
+use Rattle.wgsl_source.specs.Readings.{Outline, first_named, word_at}
+use Rattle.wgsl_source.specs.declared.expression.Span.{Span}
+use Rattle.wgsl_source.specs.declared.module.Declared.{Declared}
+use Rattle.wgsl_source.specs.declared.module.Declared.TheVariants as declareds
+use Rattle.wgsl_eval.specs.Answers.{IsAnswer, IsFault, IsSkipped, IsUnready, meaning_at}
+use Rattle.wgsl_eval.specs.Evaluation.{name_at}
+use Rattle.wgsl_eval.specs.Evaluators.{Setting}
+use Rattle.wgsl_eval.specs.Given.{IsConverted}
+use Rattle.wgsl_eval.specs.Runs.{IsFound}
+use Rattle.wgsl_eval.specs.declared.answer.Answer.{Answer}
+use Rattle.wgsl_eval.specs.declared.answer.Answer.TheVariants as answers
+use Rattle.wgsl_eval.specs.declared.answer.SizedType.{SizedType}
+use Rattle.wgsl_eval.specs.declared.declare.Attribute.{Attribute}
+use Rattle.wgsl_eval.specs.declared.declare.Attribute.TheVariants as attributes
+
+-- ---- what a declaration is found to be
+
+abbrev pub is_first : ShaderStage → Bool
+is_first stages.Const = true
+is_first stage = false
+
+-- what an answer that is no type leaves where a type belongs
+abbrev pub IsNoType : Answer → Answer → Type 0
+IsNoType (answers.Value v) answer = IsFault answer
+IsNoType (answers.Bitcast t) answer = IsFault answer
+IsNoType a answer = answer ≡ a
+
+-- the value in the type that is given
+abbrev pub IsOfType : Val → Answer → Answer → Type 0
+IsOfType v (answers.Type t) answer = IsConverted v (type_view t.ty) answer
+IsOfType v a answer = IsNoType a answer
+
+abbrev pub IsTypedBy : Setting → Span → Val → Answer → Type 0
+IsTypedBy s ty v answer = (t : Answer) × IsFound s ty t × IsOfType v t answer
+
+abbrev pub IsTyped : Setting → Option Span → Answer → Answer → Type 0
+IsTyped s (Some ty) (answers.Value v) answer = IsTypedBy s ty (value_of v.instance) answer
+IsTyped s ty a answer = IsUnready a answer
+
+-- the value of a constant, in its type where one is given
+abbrev pub IsConstant : Setting → Option Span → Span → Answer → Type 0
+IsConstant s ty value answer = (a : Answer) × IsFound s value a × IsTyped s ty a answer
+
+-- a value in the concrete type of its own
+abbrev pub IsConcreteValue : Val → Answer → Type 0
+IsConcreteValue v (answers.Value w) = converted v (concretized (type_of v)) ≡ Some (value_of w.instance)
+IsConcreteValue v answer = IsFault answer
+
+abbrev pub IsConcrete : Answer → Answer → Type 0
+IsConcrete (answers.Value v) answer = IsConcreteValue (value_of v.instance) answer
+IsConcrete a answer = answer ≡ a
+
+-- an override has a value where one is given for it and the stage is not the first
+abbrev pub IsOverride : Setting → Option Span → Option Span → Answer → Type 0
+IsOverride s ty None answer = IsSkipped answer
+IsOverride s ty (Some value) answer =
+    MatchBool (is_first s.stage) (IsSkipped answer) ((a : Answer) × IsConstant s ty value a × IsConcrete a answer)
+
+abbrev pub IsAlias : Setting → Span → Answer → Type 0
+IsAlias s ty answer = (a : Answer) × IsFound s ty a × IsNoType a answer
+
+-- what a declaration stands for; of structures nothing is said
+abbrev pub IsDeclared : Setting → Option Declared → Answer → Type 0
+IsDeclared s (Some (declareds.Const ty value)) answer = IsConstant s ty value answer
+IsDeclared s (Some (declareds.Override ty value)) answer = IsOverride s ty value answer
+IsDeclared s (Some (declareds.Alias ty)) answer = IsAlias s ty answer
+IsDeclared s (Some declareds.Variable) answer = IsSkipped answer
+IsDeclared s (Some declareds.Function) answer = IsSkipped answer
+IsDeclared s (Some (declareds.Struct first end)) answer = ⊤
+IsDeclared s None answer = ⊤
+
+-- a fault is told once: what names the declaration has none
+abbrev pub told : Answer → Answer
+told (answers.Wrong message guard) = answers.Faulty
+told a = a
+
+-- another declaration before this one has its name
+abbrev pub IsSecond : Outline → ℕ → Type 0
+IsSecond o number = IsSomeAnd (first_named o (word_at o (name_at o number))) (λ first. first ≢ number)
+
+-- the type, or a fault where it is too large
+abbrev pub IsLimited : SizedType → Answer → Type 0
+IsLimited of (answers.Type t) = t ≡ of
+IsLimited of (answers.Wrong message guard) = ⊤
+IsLimited of answer = ⊥
+
+abbrev pub IsAttributeAnswer : Attribute → Type 0
+IsAttributeAnswer (attributes.Number n) = ⊤
+IsAttributeAnswer (attributes.Other answer) = IsAnswer answer
+
+-- the place of this declaration alone changes
+pub record IsPlaced (before : Setting) (number : ℕ) (after : Setting) : Type 0 where
+  pub source : after.source ≡ before.source
+  pub stage : after.stage ≡ before.stage
+  pub is_strict : after.is_strict ≡ before.is_strict
+  pub count : length after.meanings ≡ length before.meanings
+  pub others : (k : ℕ) → k ≢ number → slice_get after.meanings k ≡ slice_get before.meanings k
+
+-- with this meaning in the place of the declaration
+abbrev pub with_meaning : Setting → ℕ → Answer → Setting
+with_meaning s number m = record s { meanings = slice_set s.meanings number m }
+
+-- the place of the declaration has what it stands for; of two with one name only the first has any
+pub record IsFoundAt (before : Setting) (number : ℕ) (after : Setting) : Type 0 where
+  pub others : IsPlaced before number after
+  pub second : IsSecond before.source number → after ≡ before
+  pub first : ¬ IsSecond before.source number
+      → (a : Answer) × IsDeclared before (slice_get before.source.declared number) a × (number < length before.meanings → meaning_at after.meanings number ≡ told a)
+
+-- the declarations of these numbers have their meanings, one after the other
+abbrev pub AreDeclared : Setting → List ℕ → Setting → Type 0
+AreDeclared s [] after = after ≡ s
+AreDeclared s (n ∷ ns) after = (next : Setting) × IsFoundAt s n next × AreDeclared next ns after

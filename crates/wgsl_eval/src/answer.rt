@@ -1,0 +1,245 @@
+//! What steps leave: values, types, and why there are none.
+
+ghost use Rattle.std.specs.Prelude.{◌≡◌, ◌+◌, ◌*◌, ◌-◌, ◌/◌, ◌<◌, ◌↔◌, ◌⊎◌, max, IfOk, IsTrue};
+ghost use Rattle.wgsl_rules.specs.View.{type_view};
+ghost use Rattle.wgsl_values.specs.View.{value_of};
+ghost use Rattle.wgsl_eval.specs.Answers.{at_most_largest, IsAnswer};
+ghost use Rattle.wgsl_eval.specs.Given.{IsCopy};
+ghost use Rattle.wgsl_eval.specs.TypeNames.{IsFloatType};
+
+use crate::message::Message;
+use crate::types::is_float;
+use std::alloc::{AllocError, Global};
+use std::fmt;
+use wgsl_source::Extent;
+use wgsl_types::{Instance, Type};
+
+/// The most types in a type, those of members included.
+const NODES: usize = 4096;
+
+/// The most parts in a value, those of parts included.
+const PARTS: usize = 65_536;
+
+/// The most values that stand inside each other.
+const DEPTH: usize = 64;
+
+/// How large a value is.
+#[derive(Clone, Copy)]
+pub(crate) struct Size {
+    /// How many values are in it, itself too. A structure counts the types in its own.
+    pub(crate) parts: usize,
+    pub(crate) depth: usize,
+}
+
+/// A value.
+#[derive(Drop)]
+pub(crate) struct Value {
+    pub(crate) instance: Instance,
+    pub(crate) size: Size,
+}
+
+/// A type, how many types are in it, and how large a value of it is.
+#[derive(Drop)]
+pub(crate) struct SizedType {
+    pub(crate) ty: Type,
+    pub(crate) nodes: usize,
+    pub(crate) size: Size,
+    /// Whether floats are in a value of it.
+    pub(crate) has_float: bool,
+}
+
+/// What a step leaves.
+#[derive(Drop)]
+pub(crate) enum Answer {
+    Value(Value),
+    Type(SizedType),
+    /// The function `bitcast` with its type.
+    Bitcast(SizedType),
+    Skipped(Skip),
+    /// A fault, and whether `&&` and `||` pass it over where they do not evaluate it.
+    Wrong(Message, Guard),
+    /// What names something that has a fault.
+    Faulty,
+}
+
+/// Whether an operand that is not evaluated may have a fault.
+#[derive(Clone, Copy, PartialEq, Eq)]
+pub(crate) enum Guard {
+    /// A fault of types, which is one in any case.
+    Never,
+    /// A fault of numbers.
+    Guarded,
+}
+
+/// What an expression needs that no constant integer is.
+#[derive(Clone, Copy, Debug, PartialEq, Eq)]
+pub enum Need {
+    /// A number of floats.
+    Float,
+    /// A variable, a function, or another name that is no constant.
+    NotConstant,
+}
+
+impl fmt::Display for Need {
+    fn fmt<W: fmt::Write>(&self, f: &mut fmt::Formatter<W>) -> fmt::Result {
+        f.write_str(match self {
+            Need::Float => "needs floats",
+            Need::NotConstant => "needs what is no constant",
+        })
+    }
+}
+
+/// The bytes of a source because of which an expression is not evaluated.
+#[derive(Clone, Copy, Debug, PartialEq, Eq)]
+pub struct Skip {
+    pub start: usize,
+    pub end: usize,
+    pub need: Need,
+}
+
+impl Size {
+    pub(crate) const ONE: Size = Size { parts: 1, depth: 1 };
+
+    /// That of a value of so many parts of one size.
+    pub(crate) fn of_equal(self, count: usize) -> Size
+        ensures parts { result.parts ≡ at_most_largest (self.parts * count + 1) }
+        ensures depth { result.depth ≡ at_most_largest (self.depth + 1) }
+    {
+        Size {
+            parts: self.parts.saturating_mul(count).saturating_add(1),
+            depth: self.depth.saturating_add(1),
+        }
+    }
+
+    /// With one more part.
+    pub(crate) fn with(self, part: Size) -> Size
+        ensures parts { result.parts ≡ at_most_largest (self.parts + part.parts) }
+        ensures depth { result.depth ≡ max self.depth (at_most_largest (part.depth + 1)) }
+    {
+        Size {
+            parts: self.parts.saturating_add(part.parts),
+            depth: self.depth.max(part.depth.saturating_add(1)),
+        }
+    }
+
+    pub(crate) fn larger(self, other: Size) -> Size
+        ensures { result ≡ record { parts = max self.parts other.parts; depth = max self.depth other.depth } }
+    {
+        Size {
+            parts: self.parts.max(other.parts),
+            depth: self.depth.max(other.depth),
+        }
+    }
+
+    /// That of one of so many parts of one size.
+    pub(crate) fn part(self, count: usize) -> Size
+        ensures parts { 0 < count → result.parts ≡ max (self.parts / count) 1 }
+        ensures depth { result.depth ≡ max (self.depth - 1) 1 }
+    {
+        Size {
+            parts: self.parts.checked_div(count).unwrap_or(1).max(1),
+            depth: self.depth.saturating_sub(1).max(1),
+        }
+    }
+
+    pub(crate) fn is_too_large(self) -> bool
+        ensures { IsTrue result ↔ (PARTS < self.parts ⊎ DEPTH < self.depth) }
+    {
+        self.parts > PARTS || self.depth > DEPTH
+    }
+}
+
+impl Value {
+    /// A value that an operator or a function answered to values no larger than this size.
+    pub(crate) fn answered(instance: Instance, at_most: Size) -> Value
+        ensures { result.instance ≡ instance }
+    {
+        let size = match &instance {
+            Instance::Literal(_) => Size::ONE,
+            Instance::Vec(vector) => Size::ONE.of_equal(vector.n()),
+            Instance::Mat(matrix) => Size::ONE.of_equal(matrix.r()).of_equal(matrix.c()),
+            _ => at_most,
+        };
+        Value { instance, size }
+    }
+
+    pub(crate) fn copy(&self, alloc: Global) -> Result<Value, AllocError>
+        ensures value { IfOk result (λ v. value_of v.instance ≡ value_of self.now.instance) }
+        ensures size { IfOk result (λ v. v.size ≡ self.now.size) }
+    {
+        Ok(Value {
+            instance: self.instance.clone(alloc)?,
+            size: self.size,
+        })
+    }
+}
+
+impl SizedType {
+    pub(crate) fn scalar(ty: Type) -> SizedType
+        ensures ty { result.ty ≡ ty }
+        ensures floats { IsTrue result.has_float ↔ IsFloatType (type_view ty) }
+    {
+        let has_float = is_float(&ty);
+        SizedType {
+            ty,
+            nodes: 1,
+            size: Size::ONE,
+            has_float,
+        }
+    }
+
+    pub(crate) fn copy(&self, alloc: Global) -> Result<SizedType, AllocError>
+        ensures ty { IfOk result (λ t. type_view t.ty ≡ type_view self.now.ty) }
+        ensures size { IfOk result (λ t. t.size ≡ self.now.size) }
+        ensures floats { IfOk result (λ t. t.has_float ≡ self.now.has_float) }
+    {
+        Ok(SizedType {
+            ty: self.ty.clone(alloc)?,
+            nodes: self.nodes,
+            size: self.size,
+            has_float: self.has_float,
+        })
+    }
+
+    pub(crate) fn is_too_large(&self) -> bool
+        ensures { IsTrue result ↔ (NODES < self.now.nodes ⊎ DEPTH < self.now.size.depth) }
+    {
+        self.nodes > NODES || self.size.depth > DEPTH
+    }
+}
+
+impl Skip {
+    pub(crate) fn new(extent: Extent, need: Need) -> Skip
+        ensures { result ≡ record { start = extent.start; end = extent.end; need = need } }
+    {
+        Skip {
+            start: extent.start,
+            end: extent.end,
+            need,
+        }
+    }
+}
+
+impl Answer {
+    /// What is left of it behind a name: a fault is told once.
+    pub(crate) fn copy(&self, alloc: Global) -> Result<Answer, AllocError>
+        ensures copy { IfOk result (IsCopy self.now) }
+        ensures answer { IsAnswer self.now → IfOk result IsAnswer }
+    {
+        match self {
+            Answer::Value(value) => Ok(Answer::Value(value.copy(alloc)?)),
+            Answer::Type(ty) => Ok(Answer::Type(ty.copy(alloc)?)),
+            Answer::Skipped(skip) => Ok(Answer::Skipped(*skip)),
+            Answer::Bitcast(_) | Answer::Wrong(_, _) | Answer::Faulty => Ok(Answer::Faulty),
+        }
+    }
+
+    /// How much work a copy is.
+    pub(crate) fn work(&self) -> usize {
+        match self {
+            Answer::Value(value) => value.size.parts,
+            Answer::Type(ty) => ty.nodes,
+            _ => 1,
+        }
+    }
+}

@@ -1,0 +1,360 @@
+//! Names with template lists, and calls (WGSL: template lists; function call expression).
+
+ghost use Rattle.std.specs.Prelude.{[], ◌∷◌, ◌≡◌, IfOk, IfSome, Some, map};
+ghost use Rattle.wgsl_apply.specs.Literals.{natural_of};
+ghost use Rattle.wgsl_eval.specs.Answers.{AreAnswers, IsAnswer, IsFault, meaning_at};
+ghost use Rattle.wgsl_eval.specs.Calls.{
+  AreValues,
+  IsBitcastOf,
+  IsCall,
+  IsCallOf,
+  IsGenerated,
+  IsGeneratedOf,
+  IsOfValuesOf,
+  IsTemplateOf,
+  bitcast_alone,
+  function_of,
+  values_of,
+};
+ghost use Rattle.wgsl_eval.specs.Constructors.{MayBe};
+ghost use Rattle.wgsl_eval.specs.Evaluators.{setting_of};
+ghost use Rattle.wgsl_rules.specs.View.{type_view};
+ghost use Rattle.wgsl_source.specs.Readings.{word_at};
+ghost use Rattle.wgsl_values.specs.View.{value_of};
+
+use crate::answer::{Answer, Guard, Need, Size, Value};
+use crate::evaluator::{Evaluator, is_opaque};
+use crate::types::generated;
+use std::alloc::AllocError;
+use wgsl_apply::{Asked, literal_of, natural};
+use wgsl_functions::{Builtin, against_function, bitcast};
+use wgsl_source::{Generator, Predeclared, language_name};
+use wgsl_types::{Error, Instance, Type};
+
+/// Values that are called with and how large they are together, or why they are none.
+#[derive(Drop)]
+pub(crate) enum Arguments {
+    Values(Vec<Instance>, Size),
+    Other(Answer),
+}
+
+impl Evaluator<'_> {
+    /// A name with a template list.
+    pub(crate) fn template(
+        &mut self,
+        token: usize,
+        arguments: Vec<Answer>,
+    ) -> Result<Answer, AllocError>
+        requires { AreAnswers arguments.items }
+        ensures keeps { setting_of self.new ≡ setting_of self.old }
+        ensures template { IfOk result (IsTemplateOf (word_at self.old.reading.now token) arguments.items) }
+        ensures answer { IfOk result IsAnswer }
+    {
+        let reading = self.reading;
+        let word = reading.word(token);
+        if reading.number_of(word).is_some() {
+            return self.wrong_text(token, "this takes no template list");
+        }
+        if word == "bitcast" {
+            return self.bitcast_of(token, arguments);
+        }
+        match language_name(word) {
+            Some(Predeclared::Generator(generator)) => self.generated(token, generator, arguments),
+            Some(_) => self.wrong_text(token, "this takes no template list"),
+            None if is_opaque(word) => Ok(self.skipped(token, Need::NotConstant)),
+            None => self.wrong_text(token, "nothing has this name"),
+        }
+    }
+
+    fn bitcast_of(&self, token: usize, mut arguments: Vec<Answer>) -> Result<Answer, AllocError>
+        ensures bitcast { IfOk result (IsBitcastOf arguments.items) }
+        ensures answer { IfOk result IsAnswer }
+    {
+        let count = arguments.len();
+        match arguments.pop() {
+            Some(Answer::Type(of)) if count == 1 => Ok(Answer::Bitcast(of)),
+            _ => self.wrong_text(token, "bitcast takes a type"),
+        }
+    }
+
+    fn generated(
+        &self,
+        token: usize,
+        generator: Generator,
+        mut arguments: Vec<Answer>,
+    ) -> Result<Answer, AllocError>
+        ensures generated { IfOk result (IsGenerated generator arguments.items) }
+        ensures answer { IfOk result IsAnswer }
+    {
+        let count = arguments.len();
+        let last = arguments.pop().unwrap_or(Answer::Faulty);
+        match (generator, count) {
+            (_, 1) => self.generated_of(token, generator, last, None),
+            (Generator::Array, 2) => {
+                let inner = arguments.pop().unwrap_or(Answer::Faulty);
+                self.counted(token, inner, last)
+            }
+            _ => self.wrong_text(token, "this type takes other arguments"),
+        }
+    }
+
+    // An array of as many elements as the second argument says.
+    fn counted(&self, token: usize, inner: Answer, count: Answer) -> Result<Answer, AllocError>
+        ensures generated { IfOk result (IsGenerated Generator.Array (inner ∷ count ∷ [])) }
+        ensures answer { IfOk result IsAnswer }
+    {
+        let value = match count {
+            Answer::Value(value) => value,
+            other => return self.unready(token, other),
+        };
+        match count_in(&value.instance) {
+            Some(count) if count > 0 => {
+                self.generated_of(token, Generator::Array, inner, Some(count))
+            }
+            _ => self.wrong_text(token, "a count is from 1 to 4294967295"),
+        }
+    }
+
+    fn generated_of(
+        &self,
+        token: usize,
+        generator: Generator,
+        inner: Answer,
+        count: Option<u32>,
+    ) -> Result<Answer, AllocError>
+        ensures generated { IfOk result (IsGeneratedOf generator inner count) }
+        ensures answer { IfOk result IsAnswer }
+    {
+        match inner {
+            Answer::Type(inner) => {
+                if !generator.takes(&inner.ty) {
+                    return self.wrong_text(token, "this is no type of a component here");
+                }
+                let of = generated(self.alloc, generator, inner, count)?;
+                self.limited(token, of)
+            }
+            Answer::Value(_) | Answer::Bitcast(_) => self.wrong_text(token, "this is no type"),
+            other => Ok(other),
+        }
+    }
+}
+
+impl Evaluator<'_> {
+    /// A call of a name.
+    pub(crate) fn call(
+        &mut self,
+        token: usize,
+        arguments: Vec<Answer>,
+    ) -> Result<Answer, AllocError>
+        requires meanings { AreAnswers self.old.meanings.items }
+        requires arguments { AreAnswers arguments.items }
+        ensures keeps { setting_of self.new ≡ setting_of self.old }
+        ensures call { IfOk result (IsCall (setting_of self.old) (word_at self.old.reading.now token) arguments.items) }
+        ensures answer { IfOk result IsAnswer }
+    {
+        let reading = self.reading;
+        let word = reading.word(token);
+        if let Some(number) = reading.number_of(word) {
+            return self.call_declared(token, number, arguments);
+        }
+        if let Some(function) = Builtin::named(word) {
+            return self.call_function(token, function, arguments);
+        }
+        match language_name(word) {
+            Some(Predeclared::Generator(generator)) => self.inferred(token, generator, arguments),
+            Some(named) => {
+                let callee = self.language_type(token, named)?;
+                self.call_answer(token, callee, arguments)
+            }
+            None => self.wrong_text(token, "nothing has this name"),
+        }
+    }
+
+    fn call_declared(
+        &mut self,
+        token: usize,
+        number: usize,
+        arguments: Vec<Answer>,
+    ) -> Result<Answer, AllocError>
+        requires meanings { AreAnswers self.old.meanings.items }
+        requires arguments { AreAnswers arguments.items }
+        ensures keeps { setting_of self.new ≡ setting_of self.old }
+        ensures call { IfOk result (IsCallOf (meaning_at self.old.meanings.items number) arguments.items) }
+        ensures answer { IfOk result IsAnswer }
+    {
+        let callee = self.copied(token, number)?;
+        self.call_answer(token, callee, arguments)
+    }
+
+    /// A call of an answer: of a type, or of `bitcast` with its type.
+    pub(crate) fn call_answer(
+        &mut self,
+        token: usize,
+        callee: Answer,
+        arguments: Vec<Answer>,
+    ) -> Result<Answer, AllocError>
+        requires callee { IsAnswer callee }
+        requires arguments { AreAnswers arguments.items }
+        ensures keeps { setting_of self.new ≡ setting_of self.old }
+        ensures call { IfOk result (IsCallOf callee arguments.items) }
+        ensures answer { IfOk result IsAnswer }
+    {
+        match callee {
+            Answer::Type(of) => match self.values(token, arguments)? {
+                Arguments::Values(_, _) if of.has_float => Ok(self.skipped(token, Need::Float)),
+                Arguments::Values(values, size) => self.made(token, &of, values.as_slice(), size),
+                Arguments::Other(answer) => Ok(answer),
+            },
+            Answer::Bitcast(of) => match self.values(token, arguments)? {
+                Arguments::Values(_, _) if of.has_float => Ok(self.skipped(token, Need::Float)),
+                Arguments::Values(values, _) => self.bitcast(token, &of.ty, values.as_slice()),
+                Arguments::Other(answer) => Ok(answer),
+            },
+            Answer::Value(_) => self.wrong_text(token, "this is no type and no function"),
+            other => Ok(other),
+        }
+    }
+
+    /// The values of a call and how large they are together, or why there are none.
+    pub(crate) fn values(
+        &self,
+        token: usize,
+        arguments: Vec<Answer>,
+    ) -> Result<Arguments, AllocError>
+        requires { AreAnswers arguments.items }
+        ensures { IfOk result (AreValues (values_of arguments.items)) }
+    {
+        let mut values = Vec::with_capacity(self.alloc, arguments.len())?;
+        let mut size = Size::ONE;
+        for argument in arguments {
+            match argument {
+                Answer::Value(value) => {
+                    size = size.with(value.size);
+                    values.push(value.instance)?;
+                }
+                other => return Ok(Arguments::Other(self.unready(token, other)?)),
+            }
+        }
+        Ok(Arguments::Values(values, size))
+    }
+
+    fn call_function(
+        &mut self,
+        token: usize,
+        function: Builtin,
+        arguments: Vec<Answer>,
+    ) -> Result<Answer, AllocError>
+        requires { AreAnswers arguments.items }
+        ensures keeps { setting_of self.new ≡ setting_of self.old }
+        ensures call { IfOk result (IsOfValuesOf (function_of function self.old.stage) arguments.items) }
+        ensures answer { IfOk result IsAnswer }
+    {
+        let Some(count) = function.count() else {
+            let need = match function {
+                Builtin::Float => Need::Float,
+                _ => Need::NotConstant,
+            };
+            return Ok(self.skipped(token, need));
+        };
+        match self.values(token, arguments)? {
+            Arguments::Values(values, _) if values.len() != count => {
+                self.wrong_count(token, count, values.len())
+            }
+            Arguments::Values(values, size) => {
+                self.answered(token, function, values.as_slice(), size)
+            }
+            Arguments::Other(answer) => Ok(answer),
+        }
+    }
+
+    fn answered(
+        &mut self,
+        token: usize,
+        function: Builtin,
+        values: &[Instance],
+        size: Size,
+    ) -> Result<Answer, AllocError>
+        ensures keeps { setting_of self.new ≡ setting_of self.old }
+        ensures value { IfOk result (MayBe (function_of function self.old.stage (map value_of values.now))) }
+        ensures answer { IfOk result IsAnswer }
+    {
+        if !self.spend(size.parts) {
+            return self.too_large(token);
+        }
+        match function.answer(self.alloc, self.stage, values) {
+            Ok(answer) => {
+                let against = against_function(function, self.stage, values);
+                self.judged(token, Value::answered(answer, size), against)
+            }
+            Err(error) => self.refused_call(token, &error, values),
+        }
+    }
+
+    fn refused_call(
+        &self,
+        token: usize,
+        error: &Error,
+        values: &[Instance],
+    ) -> Result<Answer, AllocError>
+        ensures { IfOk result IsFault }
+    {
+        let word = self.reading.word(token);
+        self.refused(token, error, Asked::Function(word, values))
+    }
+
+    fn bitcast(&self, token: usize, ty: &Type, values: &[Instance]) -> Result<Answer, AllocError>
+        ensures value { IfOk result (MayBe (bitcast_alone (type_view ty.now) (map value_of values.now))) }
+        ensures answer { IfOk result IsAnswer }
+    {
+        if values.len() != 1 {
+            return self.wrong_count(token, 1, values.len());
+        }
+        match bitcast(self.alloc, ty, &values[0]) {
+            Ok(answer) => Ok(Answer::Value(Value::answered(answer, Size::ONE))),
+            Err(error) => self.refused_bitcast(token, &error, values),
+        }
+    }
+
+    // The standard takes a negative number as an i32 first.
+    fn refused_bitcast(
+        &self,
+        token: usize,
+        error: &Error,
+        values: &[Instance],
+    ) -> Result<Answer, AllocError>
+        ensures { IfOk result IsFault }
+    {
+        match error {
+            Error::ConvOverflow(number, Type::U32) => {
+                let number = *number;
+                let mut text = String::new(self.alloc);
+                write!(text, "{number} is no u32: bitcast<u32>({number}); ")?;
+                text.push_str("the standard takes it as an i32 first (WGSL: bitcast)")?;
+                Ok(self.wrong(token, Guard::Guarded, text))
+            }
+            _ => self.refused_call(token, error, values),
+        }
+    }
+
+    /// A call with another count of values than it takes.
+    pub(crate) fn wrong_count(
+        &self,
+        token: usize,
+        wanted: usize,
+        given: usize,
+    ) -> Result<Answer, AllocError>
+        ensures { IfOk result IsFault }
+    {
+        let word = self.reading.word(token);
+        let mut text = String::new(self.alloc);
+        write!(text, "{word} takes {wanted} values, and {given} are given")?;
+        Ok(self.wrong(token, Guard::Never, text))
+    }
+}
+
+// The integer from 0 on that a count is.
+fn count_in(value: &Instance) -> Option<u32>
+    ensures { IfSome result (λ n. natural_of (value_of value.now) ≡ Some n) }
+{
+    natural(literal_of(value)?)
+}

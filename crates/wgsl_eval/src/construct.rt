@@ -1,0 +1,495 @@
+//! Values that are made of others (WGSL: value constructor built-in functions; zero value built-in
+//! functions).
+
+ghost use Rattle.std.specs.Prelude.{◌≡◌, ◌*◌, IfOk, IfSome, Some, length, map, option_map};
+ghost use Rattle.wgsl_apply.specs.Zeros.{zero_of};
+ghost use Rattle.wgsl_eval.specs.Answers.{AreAnswers, AreSound, IsAnswer, IsFault, value_in};
+ghost use Rattle.wgsl_eval.specs.Calls.{AreValues, IsOfValuesOf};
+ghost use Rattle.wgsl_eval.specs.Constructors.{
+  AreScalars,
+  MayBe,
+  array_made,
+  common_array,
+  common_matrix,
+  common_vector,
+  components_for,
+  constructed,
+  inferred_of,
+  made_of,
+  matrix_made,
+  matrix_of,
+  members_made,
+  of_length,
+  scalar_made,
+  scalars_of,
+  structure_made,
+  vector_made,
+};
+ghost use Rattle.wgsl_eval.specs.Evaluators.{setting_of};
+ghost use Rattle.wgsl_eval.specs.Lists.{each_of};
+ghost use Rattle.wgsl_rules.specs.Converted.{converted};
+ghost use Rattle.wgsl_rules.specs.Values.{IsStorable};
+ghost use Rattle.wgsl_rules.specs.View.{members_view, struct_view, type_view};
+ghost use Rattle.wgsl_scalar.specs.Literals.{literal_of as value_of_literal};
+ghost use Rattle.wgsl_values.specs.View.{value_of};
+
+use crate::answer::{Answer, Guard, Size, SizedType, Value};
+use crate::call::Arguments;
+use crate::evaluator::Evaluator;
+use crate::literals::{Conversion, Scalars, columns_of, components_of, flattened, vector_of};
+use std::alloc::AllocError;
+use wgsl_apply::{
+    automatic, in_common, literal_of, make_array, make_matrix, make_structure, zero, zero_literal,
+};
+use wgsl_functions::written;
+use wgsl_source::Generator;
+use wgsl_types::{Instance, LiteralInstance, StructMemberType, StructType, Type, convert_all};
+
+impl Evaluator<'_> {
+    /// A value of the type, made of these values of this size.
+    #[tactic(auto, using(crate::proofs::Answered::answered_steps))]
+    pub(crate) fn made(
+        &mut self,
+        token: usize,
+        of: &SizedType,
+        values: &[Instance],
+        size: Size,
+    ) -> Result<Answer, AllocError>
+        requires { AreSound values.now }
+        ensures value { IfOk result (MayBe (constructed (type_view of.now.ty) (map value_of values.now))) }
+        ensures answer { IfOk result IsAnswer }
+        ensures keeps { setting_of self.new ≡ setting_of self.old }
+    {
+        if !self.affords(of.size, size) {
+            return self.too_large(token);
+        }
+        if values.is_empty() {
+            self.zero(token, &of.ty, of.size)
+        } else {
+            self.made_of(token, &of.ty, values, of.size)
+        }
+    }
+
+    // Whether a value of the one size may be made of values of the other.
+    fn affords(&mut self, made: Size, given: Size) -> bool
+        ensures { setting_of self.new ≡ setting_of self.old }
+    {
+        if made.is_too_large() || given.is_too_large() {
+            return false;
+        }
+        self.spend(made.larger(given).parts)
+    }
+
+    #[tactic(auto, using(crate::proofs::Answered::answered_steps))]
+    fn zero(&self, token: usize, ty: &Type, size: Size) -> Result<Answer, AllocError>
+        ensures value { IfOk result (MayBe (zero_of (type_view ty.now))) }
+        ensures answer { IfOk result IsAnswer }
+    {
+        match zero(self.alloc, ty)? {
+            Some(instance) => Ok(Answer::Value(Value { instance, size })),
+            None => self.no_value(token, ty),
+        }
+    }
+
+    // A value that is made of some.
+    #[tactic(auto, using(crate::proofs::Answered::answered_steps))]
+    fn made_of(
+        &self,
+        token: usize,
+        ty: &Type,
+        values: &[Instance],
+        size: Size,
+    ) -> Result<Answer, AllocError>
+        requires { AreSound values.now }
+        ensures value { IfOk result (MayBe (made_of (type_view ty.now) (map value_of values.now))) }
+        ensures answer { IfOk result IsAnswer }
+    {
+        if zero_literal(ty).is_some() {
+            return self.scalar(token, ty, values);
+        }
+        if let Some((n, scalar)) = ty.as_vec() {
+            return self.vector(token, n, scalar, values);
+        }
+        if let Some((columns, rows, scalar)) = ty.as_mat() {
+            return self.matrix(token, columns, rows, scalar, values);
+        }
+        if let Some((inner, Some(count))) = ty.as_array() {
+            return self.array(token, inner, count, values, size);
+        }
+        match ty.as_struct() {
+            Some(of) => self.structure_value(token, of, values, size),
+            None => self.no_value(token, ty),
+        }
+    }
+
+    fn no_value(&self, token: usize, ty: &Type) -> Result<Answer, AllocError>
+        ensures { IfOk result IsFault }
+    {
+        let mut text = String::new(self.alloc);
+        write!(text, "no value of {ty} is made so")?;
+        Ok(self.wrong(token, Guard::Never, text))
+    }
+
+    // A conversion that is written out.
+    #[tactic(auto, using(crate::proofs::Answered::answered_steps))]
+    fn scalar(&self, token: usize, ty: &Type, values: &[Instance]) -> Result<Answer, AllocError>
+        ensures value { IfOk result (MayBe (scalar_made (type_view ty.now) (map value_of values.now))) }
+        ensures answer { IfOk result IsAnswer }
+    {
+        if values.len() != 1 {
+            return self.wrong_count(token, 1, values.len());
+        }
+        let value = &values[0];
+        let Some(literal) = literal_of(value) else {
+            return self.not_converted(token, value, ty);
+        };
+        match written(literal, ty) {
+            Some(literal) => Ok(answer_of(Some(Instance::from(literal)), Size::ONE)),
+            None => self.not_converted(token, value, ty),
+        }
+    }
+
+    #[tactic(auto, using(crate::proofs::Answered::answered_steps))]
+    fn vector(
+        &self,
+        token: usize,
+        n: u8,
+        scalar: &Type,
+        values: &[Instance],
+    ) -> Result<Answer, AllocError>
+        ensures value { IfOk result (MayBe (vector_made n (type_view scalar.now) (map value_of values.now))) }
+        ensures answer { IfOk result IsAnswer }
+    {
+        let components = match self.components(token, n, values)? {
+            Scalars::Of(components) => components,
+            Scalars::Other(answer) => return Ok(answer),
+        };
+        let conversion = Conversion::of(values);
+        match self.converted_scalars(token, components.as_slice(), scalar, conversion)? {
+            Scalars::Of(converted) => {
+                let vector = vector_of(self.alloc, converted.as_slice())?;
+                Ok(answer_of(vector, Size::ONE))
+            }
+            Scalars::Other(answer) => Ok(answer),
+        }
+    }
+
+    // As many components as the vector has.
+    fn components(&self, token: usize, n: u8, values: &[Instance]) -> Result<Scalars, AllocError>
+        ensures { IfOk result (AreScalars (of_length n (components_for n (map value_of values.now)))) }
+    {
+        let n = usize::from(n);
+        let Some(components) = components_of(self.alloc, n, values)? else {
+            let answer = self.wrong_text(token, "a vector is made of scalars and vectors")?;
+            return Ok(Scalars::Other(answer));
+        };
+        if components.len() == n {
+            Ok(Scalars::Of(components))
+        } else {
+            let answer = self.wrong_count(token, n, components.len())?;
+            Ok(Scalars::Other(answer))
+        }
+    }
+
+    #[tactic(auto, using(crate::proofs::Answered::answered_steps))]
+    fn matrix(
+        &self,
+        token: usize,
+        columns: u8,
+        rows: u8,
+        scalar: &Type,
+        values: &[Instance],
+    ) -> Result<Answer, AllocError>
+        ensures value { IfOk result (MayBe (matrix_made columns rows (type_view scalar.now) (map value_of values.now))) }
+        ensures answer { IfOk result IsAnswer }
+    {
+        let scalars = match self.scalars(token, columns, rows, values)? {
+            Scalars::Of(scalars) => scalars,
+            Scalars::Other(answer) => return Ok(answer),
+        };
+        let conversion = Conversion::Automatic;
+        match self.converted_scalars(token, scalars.as_slice(), scalar, conversion)? {
+            Scalars::Of(converted) => self.matrix_of(columns, rows, converted.as_slice()),
+            Scalars::Other(answer) => Ok(answer),
+        }
+    }
+
+    // The scalars of a matrix, from columns or from scalars alone.
+    fn scalars(
+        &self,
+        token: usize,
+        columns: u8,
+        rows: u8,
+        values: &[Instance],
+    ) -> Result<Scalars, AllocError>
+        ensures { IfOk result (AreScalars (of_length (columns * rows) (scalars_of (map value_of values.now)))) }
+    {
+        let (columns, rows) = (usize::from(columns), usize::from(rows));
+        let is_made_of = are_columns(values, rows) || are_scalars(values);
+        match flattened(self.alloc, values)? {
+            Some(scalars) if is_made_of && scalars.len() == columns * rows => {
+                Ok(Scalars::Of(scalars))
+            }
+            _ => {
+                let text = "a matrix is made of its columns or of its scalars";
+                Ok(Scalars::Other(self.wrong_text(token, text)?))
+            }
+        }
+    }
+
+    // The matrix of the scalars of its columns, one after the other.
+    #[tactic(auto, using(crate::proofs::Answered::answered_steps))]
+    fn matrix_of(
+        &self,
+        columns: u8,
+        rows: u8,
+        scalars: &[LiteralInstance],
+    ) -> Result<Answer, AllocError>
+        ensures value { IfOk result (MayBe (Some (matrix_of columns rows (map value_of_literal scalars.now)))) }
+        ensures answer { IfOk result IsAnswer }
+    {
+        let (columns, rows) = (usize::from(columns), usize::from(rows));
+        match columns_of(self.alloc, columns, rows, scalars)? {
+            Some(columns) => Ok(answer_of(make_matrix(columns), Size::ONE)),
+            None => Ok(Answer::Faulty),
+        }
+    }
+
+    #[tactic(auto, using(crate::proofs::Answered::answered_steps))]
+    fn array(
+        &self,
+        token: usize,
+        inner: &Type,
+        count: usize,
+        values: &[Instance],
+        size: Size,
+    ) -> Result<Answer, AllocError>
+        requires { AreSound values.now }
+        ensures value { IfOk result (MayBe (array_made count (type_view inner.now) (map value_of values.now))) }
+        ensures answer { IfOk result IsAnswer }
+    {
+        if values.len() != count {
+            return self.wrong_count(token, count, values.len());
+        }
+        match self.each_converted(token, values, inner)? {
+            Arguments::Values(elements, _) => Ok(answer_of(make_array(elements), size)),
+            Arguments::Other(answer) => Ok(answer),
+        }
+    }
+
+    // Each of the values in the type to which it converts by itself.
+    fn each_converted(
+        &self,
+        token: usize,
+        values: &[Instance],
+        ty: &Type,
+    ) -> Result<Arguments, AllocError>
+        requires { AreSound values.now }
+        ensures { IfOk result (AreValues (each_of (λ v. converted v (type_view ty.now)) (map value_of values.now))) }
+    {
+        let mut converted = Vec::with_capacity(self.alloc, values.len())?;
+        for value in values {
+            match automatic(self.alloc, value, ty)? {
+                Some(element) => converted.push(element)?,
+                None => {
+                    let answer = self.not_converted(token, value, ty)?;
+                    return Ok(Arguments::Other(answer));
+                }
+            }
+        }
+        Ok(Arguments::Values(converted, Size::ONE))
+    }
+
+    #[tactic(auto, using(crate::proofs::Answered::answered_steps))]
+    fn structure_value(
+        &self,
+        token: usize,
+        ty: &StructType,
+        values: &[Instance],
+        size: Size,
+    ) -> Result<Answer, AllocError>
+        requires { AreSound values.now }
+        ensures value { IfOk result (MayBe (structure_made (struct_view ty.now) (map value_of values.now))) }
+        ensures answer { IfOk result IsAnswer }
+    {
+        if values.len() != ty.members.len() {
+            return self.wrong_count(token, ty.members.len(), values.len());
+        }
+        match self.members_converted(token, ty.members.as_slice(), values)? {
+            Arguments::Values(members, _) => {
+                Ok(answer_of(make_structure(ty.clone(self.alloc)?, members), size))
+            }
+            Arguments::Other(answer) => Ok(answer),
+        }
+    }
+
+    // Each of the values in the type of its member.
+    fn members_converted(
+        &self,
+        token: usize,
+        members: &[StructMemberType],
+        values: &[Instance],
+    ) -> Result<Arguments, AllocError>
+        requires sound { AreSound values.now }
+        requires count { length values.now ≡ length members.now }
+        ensures { IfOk result (AreValues (members_made (members_view members.now) (map value_of values.now))) }
+    {
+        let mut converted = Vec::with_capacity(self.alloc, values.len())?;
+        for (i, value) in values.iter().enumerate() {
+            let ty = &members[i].ty;
+            match automatic(self.alloc, value, ty)? {
+                Some(member) => converted.push(member)?,
+                None => {
+                    let answer = self.not_converted(token, value, ty)?;
+                    return Ok(Arguments::Other(answer));
+                }
+            }
+        }
+        Ok(Arguments::Values(converted, Size::ONE))
+    }
+}
+
+impl Evaluator<'_> {
+    /// A call of a vector, a matrix or an array whose component type the values give.
+    pub(crate) fn inferred(
+        &mut self,
+        token: usize,
+        generator: Generator,
+        arguments: Vec<Answer>,
+    ) -> Result<Answer, AllocError>
+        requires { AreAnswers arguments.items }
+        ensures value { IfOk result (IsOfValuesOf (inferred_of generator) arguments.items) }
+        ensures answer { IfOk result IsAnswer }
+        ensures keeps { setting_of self.new ≡ setting_of self.old }
+    {
+        let (values, size) = match self.values(token, arguments)? {
+            Arguments::Values(values, size) => (values, size),
+            Arguments::Other(answer) => return Ok(answer),
+        };
+        if !self.affords(size, size) {
+            return self.too_large(token);
+        }
+        self.inferred_of(token, generator, values.as_slice(), size)
+    }
+
+    #[tactic(auto, using(crate::proofs::Answered::answered_steps))]
+    fn inferred_of(
+        &self,
+        token: usize,
+        generator: Generator,
+        values: &[Instance],
+        size: Size,
+    ) -> Result<Answer, AllocError>
+        requires { AreSound values.now }
+        ensures value { IfOk result (MayBe (inferred_of generator (map value_of values.now))) }
+        ensures answer { IfOk result IsAnswer }
+    {
+        match generator {
+            Generator::Vec(n) => self.inferred_vector(token, n, values),
+            Generator::Mat(columns, rows) => self.inferred_matrix(token, columns, rows, values),
+            Generator::Array => self.inferred_array(token, values, size),
+            Generator::Atomic => self.wrong_text(token, "an atomic is no value"),
+        }
+    }
+
+    #[tactic(auto, using(crate::proofs::Answered::answered_steps))]
+    fn inferred_vector(
+        &self,
+        token: usize,
+        n: u8,
+        values: &[Instance],
+    ) -> Result<Answer, AllocError>
+        requires { AreSound values.now }
+        ensures value { IfOk result (MayBe (common_vector n (map value_of values.now))) }
+        ensures answer { IfOk result IsAnswer }
+    {
+        if values.is_empty() {
+            let ty = Type::Vec(n, Box::new(self.alloc, Type::AbstractInt)?);
+            return Ok(answer_of(zero(self.alloc, &ty)?, Size::ONE));
+        }
+        let components = match self.components(token, n, values)? {
+            Scalars::Of(components) => components,
+            Scalars::Other(answer) => return Ok(answer),
+        };
+        match convert_all(self.alloc, components.as_slice())? {
+            Some(components) => {
+                let vector = vector_of(self.alloc, components.as_slice())?;
+                Ok(answer_of(vector, Size::ONE))
+            }
+            None => self.no_common(token),
+        }
+    }
+
+    #[tactic(auto, using(crate::proofs::Answered::answered_steps))]
+    fn inferred_matrix(
+        &self,
+        token: usize,
+        columns: u8,
+        rows: u8,
+        values: &[Instance],
+    ) -> Result<Answer, AllocError>
+        requires { AreSound values.now }
+        ensures value { IfOk result (MayBe (common_matrix columns rows (map value_of values.now))) }
+        ensures answer { IfOk result IsAnswer }
+    {
+        let scalars = match self.scalars(token, columns, rows, values)? {
+            Scalars::Of(scalars) => scalars,
+            Scalars::Other(answer) => return Ok(answer),
+        };
+        match convert_all(self.alloc, scalars.as_slice())? {
+            Some(scalars) => self.matrix_of(columns, rows, scalars.as_slice()),
+            None => self.no_common(token),
+        }
+    }
+
+    #[tactic(auto, using(crate::proofs::Answered::answered_steps))]
+    fn inferred_array(
+        &self,
+        token: usize,
+        values: &[Instance],
+        size: Size,
+    ) -> Result<Answer, AllocError>
+        requires { AreSound values.now }
+        ensures value { IfOk result (MayBe (common_array (map value_of values.now))) }
+        ensures answer { IfOk result IsAnswer }
+    {
+        if values.is_empty() {
+            return self.wrong_text(token, "an array has elements");
+        }
+        match in_common(self.alloc, values)? {
+            Some(elements) => Ok(answer_of(make_array(elements), size)),
+            None => self.no_common(token),
+        }
+    }
+
+    fn no_common(&self, token: usize) -> Result<Answer, AllocError>
+        ensures { IfOk result IsFault }
+    {
+        self.wrong_text(token, "the values have no common type")
+    }
+}
+
+// A value that was made of parts that fit.
+fn answer_of(value: Option<Instance>, size: Size) -> Answer
+    requires { IfSome value (λ v. IsStorable (value_of v)) }
+    ensures value { value_in result ≡ option_map value_of value }
+    ensures answer { IsAnswer result }
+{
+    match value {
+        Some(instance) => Answer::Value(Value::answered(instance, size)),
+        None => Answer::Faulty,
+    }
+}
+
+fn are_columns(values: &[Instance], rows: usize) -> bool {
+    values.iter().all(|value| match value {
+        Instance::Vec(vector) => vector.n() == rows,
+        _ => false,
+    })
+}
+
+fn are_scalars(values: &[Instance]) -> bool {
+    values
+        .iter()
+        .all(|value| matches!(value, Instance::Literal(_)))
+}

@@ -1,0 +1,336 @@
+//! Gives declarations their meanings (WGSL: value declarations; type aliases; structure types).
+
+ghost use Rattle.std.specs.Prelude.{◌≡◌, ◌≢◌, ◌<◌, ◌↔◌, IfOk, IfSome, IsSomeAnd, IsTrue, OnOk, slice_get, vec_len};
+ghost use Rattle.wgsl_values.specs.View.{value_of};
+ghost use Rattle.wgsl_eval.specs.Answers.{AreAnswers, IsAnswer, IsSoundValue, meaning_at};
+ghost use Rattle.wgsl_eval.specs.Meanings.{IsAlias, IsAttributeAnswer, IsConcreteValue, IsConstant, IsDeclared, IsFoundAt, IsLimited, IsNoType, IsOverride, IsPlaced, IsSecond, IsTypedBy, told, with_meaning};
+ghost use Rattle.wgsl_eval.specs.Evaluators.{setting_of};
+
+use crate::answer::{Answer, Guard, Need, Size, SizedType, Value};
+use crate::evaluator::Evaluator;
+use crate::types::structure;
+use std::alloc::AllocError;
+use std::collections::BTreeMap;
+use wgsl_apply::{concrete, literal_of, natural};
+use wgsl_source::{Declared, Field, Span};
+use wgsl_types::{ShaderStage, StructMemberType, StructType};
+
+/// The members of a structure as far as they are read.
+#[derive(Drop)]
+struct Members {
+    members: Vec<StructMemberType>,
+    nodes: usize,
+    size: Size,
+    has_float: bool,
+}
+
+impl Evaluator<'_> {
+    /// Gives one declaration its meaning, those that it names having theirs.
+    pub(crate) fn declare(&mut self, number: usize) -> Result<(), AllocError>
+        requires { AreAnswers self.old.meanings.items }
+        ensures found { OnOk result (IsFoundAt (setting_of self.old) number (setting_of self.new)) }
+        ensures answers { AreAnswers self.new.meanings.items }
+    {
+        if self.is_second(number) {
+            return Ok(());
+        }
+        let meaning = self.meaning_of(number)?;
+        self.set_meaning(number, meaning)
+    }
+
+    // What the declaration stands for.
+    fn meaning_of(&mut self, number: usize) -> Result<Answer, AllocError>
+        requires { AreAnswers self.old.meanings.items }
+        ensures keeps { setting_of self.new ≡ setting_of self.old }
+        ensures declared { IfOk result (IsDeclared (setting_of self.old) (slice_get self.old.reading.now.declared number)) }
+        ensures answer { IfOk result IsAnswer }
+    {
+        let name = self.reading.name(number);
+        match self.reading.declared(number) {
+            Some(Declared::Const { ty, value }) => self.constant(ty, value),
+            Some(Declared::Override { ty, value }) => self.changeable(name, ty, value),
+            Some(Declared::Alias(ty)) => self.alias(ty),
+            Some(Declared::Struct { first, end }) => self.structure(name, first, end),
+            Some(Declared::Variable) => Ok(self.skipped(name, Need::NotConstant)),
+            Some(Declared::Function) => Ok(self.skipped(name, Need::NotConstant)),
+            None => Ok(Answer::Faulty),
+        }
+    }
+
+    // Whether another declaration has the name, which is a fault of its own.
+    fn is_second(&self, number: usize) -> bool
+        ensures { IsTrue result ↔ IsSecond self.now.reading.now number }
+    {
+        let name = self.reading.word(self.reading.name(number));
+        is_other(self.reading.number_of(name), number)
+    }
+
+    fn set_meaning(&mut self, number: usize, meaning: Answer) -> Result<(), AllocError>
+        requires answers { AreAnswers self.old.meanings.items }
+        requires answer { IsAnswer meaning }
+        ensures others { IsPlaced (setting_of self.old) number (setting_of self.new) }
+        ensures there { OnOk result (number < vec_len self.old.meanings → meaning_at self.new.meanings.items number ≡ told meaning) }
+        ensures answers { AreAnswers self.new.meanings.items }
+    {
+        let meaning = self.told(meaning)?;
+        if number >= self.meanings.len() {
+            return Ok(());
+        }
+        self.put(number, meaning);
+        Ok(())
+    }
+
+    // Tells a fault, which is told once.
+    fn told(&mut self, meaning: Answer) -> Result<Answer, AllocError>
+        requires { IsAnswer meaning }
+        ensures keeps { setting_of self.new ≡ setting_of self.old }
+        ensures told { IfOk result (λ a. a ≡ told meaning) }
+        ensures answer { IfOk result IsAnswer }
+    {
+        match meaning {
+            Answer::Wrong(message, guard) => {
+                self.tell(Answer::Wrong(message, guard))?;
+                Ok(Answer::Faulty)
+            }
+            other => Ok(other),
+        }
+    }
+
+    fn put(&mut self, number: usize, meaning: Answer)
+        requires place { number < vec_len self.old.meanings }
+        requires answers { AreAnswers self.old.meanings.items }
+        requires answer { IsAnswer meaning }
+        ensures put { setting_of self.new ≡ with_meaning (setting_of self.old) number meaning }
+        ensures answers { AreAnswers self.new.meanings.items }
+    {
+        self.meanings[number] = meaning;
+    }
+
+    fn constant(&mut self, ty: Option<Span>, value: Span) -> Result<Answer, AllocError>
+        requires { AreAnswers self.old.meanings.items }
+        ensures keeps { setting_of self.new ≡ setting_of self.old }
+        ensures found { IfOk result (IsConstant (setting_of self.old) ty value) }
+        ensures answer { IfOk result IsAnswer }
+    {
+        let answer = self.expression(value)?;
+        match answer {
+            Answer::Value(found) => match ty {
+                Some(ty) => self.typed(value.token, found, ty),
+                None => Ok(Answer::Value(found)),
+            },
+            other => self.unready(value.token, other),
+        }
+    }
+
+    // The value in the type that is given.
+    fn typed(&mut self, token: usize, value: Value, ty: Span) -> Result<Answer, AllocError>
+        requires meanings { AreAnswers self.old.meanings.items }
+        requires value { IsSoundValue value }
+        ensures keeps { setting_of self.new ≡ setting_of self.old }
+        ensures found { IfOk result (IsTypedBy (setting_of self.old) ty (value_of value.instance)) }
+        ensures answer { IfOk result IsAnswer }
+    {
+        let answer = self.expression(ty)?;
+        match answer {
+            Answer::Type(of) => self.converted(token, value, &of),
+            other => self.no_type(ty.token, other),
+        }
+    }
+
+    // The value of an override where no host gives another; in the first stage it has none.
+    fn changeable(
+        &mut self,
+        name: usize,
+        ty: Option<Span>,
+        value: Option<Span>,
+    ) -> Result<Answer, AllocError>
+        requires { AreAnswers self.old.meanings.items }
+        ensures keeps { setting_of self.new ≡ setting_of self.old }
+        ensures found { IfOk result (IsOverride (setting_of self.old) ty value) }
+        ensures answer { IfOk result IsAnswer }
+    {
+        let Some(span) = value else {
+            return Ok(self.skipped(name, Need::NotConstant));
+        };
+        if self.stage == ShaderStage::Const {
+            return Ok(self.skipped(name, Need::NotConstant));
+        }
+        let answer = self.constant(ty, span)?;
+        match answer {
+            Answer::Value(value) => self.concretized(span.token, value),
+            other => Ok(other),
+        }
+    }
+
+    fn concretized(&self, token: usize, value: Value) -> Result<Answer, AllocError>
+        requires { IsSoundValue value }
+        ensures concrete { IfOk result (IsConcreteValue (value_of value.instance)) }
+        ensures answer { IfOk result IsAnswer }
+    {
+        match concrete(self.alloc, &value.instance)? {
+            Some(instance) => Ok(Answer::Value(Value {
+                instance,
+                size: value.size,
+            })),
+            None => self.wrong_text(token, "this value is none of a concrete type"),
+        }
+    }
+
+    fn alias(&mut self, ty: Span) -> Result<Answer, AllocError>
+        requires { AreAnswers self.old.meanings.items }
+        ensures keeps { setting_of self.new ≡ setting_of self.old }
+        ensures found { IfOk result (IsAlias (setting_of self.old) ty) }
+        ensures answer { IfOk result IsAnswer }
+    {
+        let answer = self.expression(ty)?;
+        match answer {
+            Answer::Type(of) => Ok(Answer::Type(of)),
+            other => self.no_type(ty.token, other),
+        }
+    }
+
+    // What an answer that is no type leaves where a type belongs.
+    fn no_type(&self, token: usize, answer: Answer) -> Result<Answer, AllocError>
+        ensures none { IfOk result (IsNoType answer) }
+        ensures answer { IfOk result IsAnswer }
+    {
+        match answer {
+            Answer::Value(_) => self.wrong_text(token, "this is no type"),
+            Answer::Bitcast(_) => self.wrong_text(token, "this is no type"),
+            other => Ok(other),
+        }
+    }
+
+    fn structure(&mut self, name: usize, first: usize, end: usize) -> Result<Answer, AllocError>
+        requires { AreAnswers self.old.meanings.items }
+        ensures keeps { setting_of self.new ≡ setting_of self.old }
+        ensures answer { IfOk result IsAnswer }
+    {
+        let mut members = Members {
+            members: Vec::new(self.alloc),
+            nodes: 0,
+            size: Size::ONE,
+            has_float: false,
+        };
+        let mut names = BTreeMap::new(self.alloc);
+        for number in first..end {
+            let Some(field) = self.reading.field(number) else {
+                break;
+            };
+            let word = String::from_str(self.alloc, self.reading.word(field.name))?;
+            if names.insert(word, ())?.is_some() {
+                return self.wrong_text(field.name, "another member has this name");
+            }
+            if let Some(answer) = self.member_type(&mut members, field)? {
+                return Ok(answer);
+            }
+        }
+        self.structure_of(name, members)
+    }
+
+    fn structure_of(&self, name: usize, members: Members) -> Result<Answer, AllocError>
+        ensures { IfOk result IsAnswer }
+    {
+        let Members {
+            members,
+            nodes,
+            size,
+            has_float,
+        } = members;
+        let name_text = String::from_str(self.alloc, self.reading.word(name))?;
+        let ty = StructType {
+            name: name_text,
+            members,
+        };
+        let of = structure(self.alloc, ty, nodes, size, has_float)?;
+        self.limited(name, of)
+    }
+
+    // Adds a member, or answers why it is none.
+    fn member_type(
+        &mut self,
+        members: &mut Members,
+        field: Field,
+    ) -> Result<Option<Answer>, AllocError>
+        requires { AreAnswers self.old.meanings.items }
+        ensures keeps { setting_of self.new ≡ setting_of self.old }
+        ensures answer { IfOk result (λ o. IfSome o IsAnswer) }
+    {
+        let answer = self.expression(field.ty)?;
+        let of = match answer {
+            Answer::Type(of) => of,
+            other => return Ok(Some(self.no_type(field.ty.token, other)?)),
+        };
+        let size = match self.attribute(field.size)? {
+            Attribute::Number(number) => number,
+            Attribute::Other(answer) => return Ok(Some(answer)),
+        };
+        let align = match self.attribute(field.align)? {
+            Attribute::Number(number) => number,
+            Attribute::Other(answer) => return Ok(Some(answer)),
+        };
+        members.nodes = members.nodes.saturating_add(of.nodes);
+        members.size = members.size.with(of.size);
+        members.has_float = members.has_float || of.has_float;
+        members.members.push(StructMemberType {
+            name: String::from_str(self.alloc, self.reading.word(field.name))?,
+            ty: of.ty,
+            size,
+            align,
+        })?;
+        Ok(None)
+    }
+
+    // The number that an attribute gives.
+    fn attribute(&mut self, span: Option<Span>) -> Result<Attribute, AllocError>
+        requires { AreAnswers self.old.meanings.items }
+        ensures keeps { setting_of self.new ≡ setting_of self.old }
+        ensures answer { IfOk result IsAttributeAnswer }
+    {
+        let Some(span) = span else {
+            return Ok(Attribute::Number(None));
+        };
+        let answer = self.expression(span)?;
+        match answer {
+            Answer::Value(value) => match literal_of(&value.instance).and_then(|literal| natural(
+                literal,
+            )) {
+                Some(number) => Ok(Attribute::Number(Some(number))),
+                None => {
+                    let text = "an attribute is from 0 to 4294967295";
+                    Ok(Attribute::Other(self.wrong_text(span.token, text)?))
+                }
+            },
+            other => Ok(Attribute::Other(self.unready(span.token, other)?)),
+        }
+    }
+
+    /// A type that is not too large.
+    pub(crate) fn limited(&self, token: usize, of: SizedType) -> Result<Answer, AllocError>
+        ensures limited { IfOk result (IsLimited of) }
+        ensures answer { IfOk result IsAnswer }
+    {
+        if of.is_too_large() {
+            let text = String::from_str(self.alloc, "this type has too many parts")?;
+            return Ok(self.wrong(token, Guard::Never, text));
+        }
+        Ok(Answer::Type(of))
+    }
+}
+
+/// What an attribute gives, or why it gives nothing.
+#[derive(Drop)]
+enum Attribute {
+    Number(Option<u32>),
+    Other(Answer),
+}
+
+// Whether the name has a declaration, and another one than this.
+fn is_other(first: Option<usize>, number: usize) -> bool
+    ensures { IsTrue result ↔ IsSomeAnd first (λ n. n ≢ number) }
+{
+    match first {
+        Some(first) => first != number,
+        None => false,
+    }
+}

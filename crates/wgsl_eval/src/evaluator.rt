@@ -1,0 +1,693 @@
+//! Walks the steps of expressions, whose answers wait on a stack of their own.
+
+ghost use Rattle.std.specs.Prelude.{if◌then◌else◌, [], ◌∷◌, ◌++◌, ◌≡◌, ◌≤◌, ◌+◌, ◌↔◌, ◌&&◌, ℕ, All, IfOk, IsSome, IsTrue, MatchBool, None, OnOk, Some, false, is_some, length, map, unwrap_or, vec_len};
+ghost use Rattle.std.specs.List.Sorted.{IsSortedByKey};
+ghost use Rattle.std.specs.Option.{option_map};
+ghost use Rattle.std.specs.Ordering.{nat_cmp};
+ghost use Rattle.wgsl_rules.specs.View.{type_view};
+ghost use Rattle.wgsl_scalar.specs.Answers.{builtin_reason_of, refusal_of};
+ghost use Rattle.wgsl_apply.specs.Refused.{is_of_numbers as is_number_refusal};
+ghost use Rattle.wgsl_scalar.specs.Literals.{literal_of};
+ghost use Rattle.wgsl_values.specs.View.{value_of as val_of};
+ghost use Rattle.wgsl_source.specs.Readings.{extent_at, word_at};
+ghost use Rattle.wgsl_eval.specs.Answers.{AreAnswers, IsAnswer, IsFault, IsFaultOf, IsFaultWith, IsSkipped, IsSoundOutcome, IsSoundValue, IsUnready, guard_for, meaning_at, value_in};
+ghost use Rattle.wgsl_eval.specs.Evaluation.{has_value, value_names};
+ghost use Rattle.wgsl_eval.specs.Evaluators.{setting_of};
+ghost use Rattle.wgsl_eval.specs.Given.{IsConverted, IsCopy, IsGiven, IsJudged, IsLanguageType, IsNamed, IsOfNumber, IsOfOne, IsOfTwo, IsOfValue, IsOfValues, UnlessRefused, below, is_decided, last_ones, rest_of, top, without};
+ghost use Rattle.wgsl_eval.specs.Meanings.{AreDeclared};
+ghost use Rattle.wgsl_eval.specs.Runs.{IsFound};
+ghost use Rattle.wgsl_eval.specs.TypeNames.{predeclared_type};
+
+use crate::answer::{Answer, Guard, Need, Size, SizedType, Skip, Value};
+use crate::message::{Message, Messages};
+use crate::types::predeclared;
+use std::alloc::{AllocError, Global};
+use wgsl_apply::{
+    Asked, against_operator, automatic, has_rank, is_of_numbers, is_short, refusal_text,
+};
+use wgsl_source::{
+    Callee, Declared, Extent, Literal, Predeclared, Reading, Span, Step, language_name,
+};
+use wgsl_types::{
+    BinaryOperator, Error, Instance, LiteralInstance, ShaderStage, Type, UnaryOperator,
+};
+
+/// The most parts of values that are made and copied in all.
+const WORK: usize = 1 << 22;
+
+/// The values of a source and what is told of them, in its order; of many messages the first that
+/// are found.
+#[derive(Debug, Drop)]
+pub struct Evaluation {
+    pub values: Vec<Evaluated>,
+    pub messages: Vec<Message>,
+}
+
+/// A declaration of a value: the token that names it, and what it has.
+#[derive(Debug, Drop)]
+pub struct Evaluated {
+    pub token: usize,
+    pub outcome: Outcome,
+}
+
+/// What a declaration has.
+#[derive(Debug, Drop)]
+pub enum Outcome {
+    Value(Instance),
+    /// What stands there is not evaluated.
+    Skipped(Skip),
+    /// What has a fault, or names what has one.
+    Faulty,
+}
+
+/// Evaluates expressions one after the other.
+#[derive(Drop)]
+pub(crate) struct Evaluator<'a> {
+    pub(crate) alloc: Global,
+    pub(crate) reading: &'a Reading<'a>,
+    pub(crate) stage: ShaderStage,
+    /// Whether what the standard refuses is a fault.
+    pub(crate) is_strict: bool,
+    messages: Messages,
+    pub(crate) meanings: Vec<Answer>,
+    /// How many parts may still be made.
+    work: usize,
+}
+
+/// The values of the declarations of a source, and what is wrong in them. In another stage than
+/// `Const` the values of overrides are evaluated too, as if no host had given others.
+///
+/// The only error is that memory is wanting.
+pub fn evaluate(
+    alloc: Global,
+    reading: &Reading<'_>,
+    stage: ShaderStage,
+    is_strict: bool,
+) -> Result<Evaluation, AllocError>
+    ensures count { IfOk result (λ e. vec_len e.messages ≤ 100) }
+    ensures sorted { IfOk result (λ e. IsSortedByKey (λ m. m.start) nat_cmp e.messages.items) }
+    ensures names { IfOk result (λ e. map (λ v. v.token) e.values.items ≡ value_names reading.now stage 0 reading.now.declared) }
+    ensures sound { IfOk result (λ e. All (λ v. IsSoundOutcome v.outcome) e.values.items) }
+{
+    let mut evaluator = Evaluator {
+        alloc,
+        reading,
+        stage,
+        is_strict,
+        messages: Messages::new(alloc),
+        meanings: unknown(alloc, reading.len())?,
+        work: WORK,
+    };
+    evaluator.declare_all()?;
+    evaluator.assert_all()?;
+    evaluator.into_evaluation()
+}
+
+impl<'a> Evaluator<'a> {
+    // Gives each declaration its meaning, those that it names having theirs.
+    #[tactic(auto, using(crate::proofs::Walks::declared_none, crate::proofs::Walks::declared_more, crate::proofs::Walks::declared_all))]
+    fn declare_all(&mut self) -> Result<(), AllocError>
+        requires { AreAnswers self.old.meanings.items }
+        ensures declared { OnOk result (AreDeclared (setting_of self.old) self.old.reading.now.order (setting_of self.new)) }
+        ensures answers { AreAnswers self.new.meanings.items }
+    {
+        let order = self.reading.order();
+        for number in order {
+            self.declare(*number)?;
+        }
+        Ok(())
+    }
+
+    fn assert_all(&mut self) -> Result<(), AllocError>
+        requires { AreAnswers self.old.meanings.items }
+        ensures { setting_of self.new ≡ setting_of self.old }
+    {
+        let asserts = self.reading.asserts();
+        for span in asserts {
+            self.assert(*span)?;
+        }
+        Ok(())
+    }
+
+    fn into_evaluation(self) -> Result<Evaluation, AllocError>
+        requires { AreAnswers self.meanings.items }
+        ensures count { IfOk result (λ e. vec_len e.messages ≤ 100) }
+        ensures sorted { IfOk result (λ e. IsSortedByKey (λ m. m.start) nat_cmp e.messages.items) }
+        ensures names { IfOk result (λ e. map (λ v. v.token) e.values.items ≡ value_names self.entry.reading.now self.entry.stage 0 self.entry.reading.now.declared) }
+        ensures sound { IfOk result (λ e. All (λ v. IsSoundOutcome v.outcome) e.values.items) }
+    {
+        let Evaluator {
+            alloc,
+            reading,
+            stage,
+            is_strict: _,
+            messages,
+            mut meanings,
+            work: _,
+        } = self;
+        let messages = messages.into_sorted()?;
+        let mut values = Vec::new(alloc);
+        meanings.reverse();
+        for number in 0..reading.len() {
+            let meaning = popped(&mut meanings);
+            let is_value = is_value(reading.declared(number), stage);
+            add_value(&mut values, is_value, reading.name(number), meaning)?;
+        }
+        Ok(Evaluation { values, messages })
+    }
+
+    /// What an expression stands for.
+    #[tactic(auto, using(crate::proofs::Walks::run_none, crate::proofs::Walks::run_more, crate::proofs::Walks::run_all))]
+    pub(crate) fn expression(&mut self, span: Span) -> Result<Answer, AllocError>
+        requires { AreAnswers self.old.meanings.items }
+        ensures keeps { setting_of self.new ≡ setting_of self.old }
+        ensures found { IfOk result (IsFound (setting_of self.old) span) }
+        ensures answer { IfOk result IsAnswer }
+    {
+        let steps = self.reading.steps(span);
+        let mut answers = Vec::new(self.alloc);
+        for step in steps {
+            let answer = self.step(*step, &mut answers)?;
+            answers.push(answer)?;
+        }
+        Ok(popped(&mut answers))
+    }
+
+    // Does a step, and takes the answers that it needs away.
+    fn step(&mut self, step: Step, answers: &mut Vec<Answer>) -> Result<Answer, AllocError>
+        requires meanings { AreAnswers self.old.meanings.items }
+        requires answers { AreAnswers answers.old.items }
+        ensures keeps { setting_of self.new ≡ setting_of self.old }
+        ensures given { IfOk result (IsGiven (setting_of self.old) step answers.old.items) }
+        ensures rest { OnOk result (answers.new.items ≡ rest_of step answers.old.items) }
+        ensures left { OnOk result (AreAnswers answers.new.items) }
+        ensures answer { IfOk result IsAnswer }
+    {
+        match step {
+            Step::Name(token) => self.named(token),
+            Step::Number(token) => self.number(token),
+            Step::Unary(operator, token) => {
+                let operand = popped(answers);
+                self.unary(operator, token, operand)
+            }
+            Step::Binary(operator, token) => {
+                let right = popped(answers);
+                let left = popped(answers);
+                self.binary(operator, token, left, right)
+            }
+            Step::Template(token, count) => {
+                let arguments = taken(self.alloc, answers, count)?;
+                self.template(token, arguments)
+            }
+            Step::Call(token, Callee::Name, count) => {
+                let arguments = taken(self.alloc, answers, count)?;
+                self.call(token, arguments)
+            }
+            Step::Call(token, Callee::Answer, count) => {
+                let arguments = taken(self.alloc, answers, count)?;
+                let callee = popped(answers);
+                self.call_answer(token, callee, arguments)
+            }
+            Step::Member(token) => {
+                let whole = popped(answers);
+                self.member(token, whole)
+            }
+            Step::Index(token) => {
+                let index = popped(answers);
+                let whole = popped(answers);
+                self.index(token, whole, index)
+            }
+        }
+    }
+}
+
+impl Evaluator<'_> {
+    /// A fault at a token.
+    pub(crate) fn wrong(&self, token: usize, guard: Guard, text: String) -> Answer
+        ensures fault { IsFault result }
+        ensures guard { IsFaultWith guard result }
+        ensures answer { IsAnswer result }
+    {
+        let extent = self.reading.extent(token);
+        Answer::Wrong(Message::fault(extent, text), guard)
+    }
+
+    /// A fault of types at a token.
+    pub(crate) fn wrong_text(&self, token: usize, text: &str) -> Result<Answer, AllocError>
+        ensures fault { IfOk result IsFault }
+        ensures answer { IfOk result IsAnswer }
+    {
+        let text = String::from_str(self.alloc, text)?;
+        Ok(self.wrong(token, Guard::Never, text))
+    }
+
+    pub(crate) fn skipped(&self, token: usize, need: Need) -> Answer
+        ensures extent { result ≡ Answer.Skipped (record {
+          start = (extent_at self.now.reading.now token).start;
+          end = (extent_at self.now.reading.now token).end;
+          need = need;
+        }) }
+        ensures skipped { IsSkipped result }
+        ensures answer { IsAnswer result }
+    {
+        Answer::Skipped(Skip::new(self.reading.extent(token), need))
+    }
+
+    /// What a refused call leaves.
+    pub(crate) fn refused(
+        &self,
+        token: usize,
+        error: &Error,
+        asked: Asked<'_>,
+    ) -> Result<Answer, AllocError>
+        ensures fault { IfOk result IsFault }
+        ensures guard { IfOk result (IsFaultOf (is_number_refusal (refusal_of error.now) (builtin_reason_of error.now))) }
+        ensures refusal { OnOk result (IsSome (refusal_of error.now)) }
+        ensures answer { IfOk result IsAnswer }
+    {
+        if *error == Error::Memory {
+            return Err(AllocError);
+        }
+        let text = refusal_text(self.alloc, error, asked)?;
+        let guard = guard_for(is_of_numbers(error));
+        Ok(self.wrong(token, guard, text))
+    }
+
+    /// The value, unless the standard refuses it and is to be obeyed.
+    pub(crate) fn judged(
+        &mut self,
+        token: usize,
+        value: Value,
+        against: Option<&'static str>,
+    ) -> Result<Answer, AllocError>
+        requires { IsSoundValue value }
+        ensures keeps { setting_of self.new ≡ setting_of self.old }
+        ensures judged { IfOk result (IsJudged (self.old.is_strict && is_some against.entry) (val_of value.instance)) }
+        ensures answer { IfOk result IsAnswer }
+    {
+        let Some(against) = against else {
+            return Ok(Answer::Value(value));
+        };
+        let text = String::from_str(self.alloc, against)?;
+        if self.is_strict {
+            return Ok(self.wrong(token, Guard::Guarded, text));
+        }
+        let extent = self.reading.extent(token);
+        self.messages.add(Message::warning(extent, text))?;
+        Ok(Answer::Value(value))
+    }
+
+    /// Whether so much more may be made.
+    pub(crate) fn spend(&mut self, parts: usize) -> bool
+        ensures keeps { setting_of self.new ≡ setting_of self.old }
+        ensures work { MatchBool result (self.new.work + parts ≡ self.old.work) (self.new.work ≡ self.old.work) }
+    {
+        match self.work.checked_sub(parts) {
+            Some(left) => {
+                self.work = left;
+                true
+            }
+            None => false,
+        }
+    }
+
+    /// A fault of a value that is too large to be made.
+    pub(crate) fn too_large(&self, token: usize) -> Result<Answer, AllocError>
+        ensures fault { IfOk result IsFault }
+        ensures answer { IfOk result IsAnswer }
+    {
+        self.wrong_text(token, "this has too many parts to be evaluated")
+    }
+
+    fn number(&self, token: usize) -> Result<Answer, AllocError>
+        ensures number { IfOk result (IsOfNumber (word_at self.now.reading.now token)) }
+        ensures answer { IfOk result IsAnswer }
+    {
+        match self.reading.literal(token) {
+            Literal::Integer(literal) => Ok(value_of(literal)),
+            Literal::Float => Ok(self.skipped(token, Need::Float)),
+            Literal::Wrong => self.wrong_text(token, "this is no number of its kind"),
+        }
+    }
+
+    // What a name stands for by itself.
+    fn named(&mut self, token: usize) -> Result<Answer, AllocError>
+        requires { AreAnswers self.old.meanings.items }
+        ensures keeps { setting_of self.new ≡ setting_of self.old }
+        ensures named { IfOk result (IsNamed (setting_of self.old) (word_at self.old.reading.now token)) }
+        ensures answer { IfOk result IsAnswer }
+    {
+        let reading = self.reading;
+        let name = reading.word(token);
+        if let Some(number) = reading.number_of(name) {
+            return self.copied(token, number);
+        }
+        match name {
+            "true" => return Ok(value_of(LiteralInstance::Bool(true))),
+            "false" => return Ok(value_of(LiteralInstance::Bool(false))),
+            _ => {}
+        }
+        match language_name(name) {
+            Some(named) => self.language_type(token, named),
+            None if is_opaque(name) => Ok(self.skipped(token, Need::NotConstant)),
+            None => self.wrong_text(token, "nothing has this name"),
+        }
+    }
+
+    pub(crate) fn language_type(
+        &self,
+        token: usize,
+        named: Predeclared,
+    ) -> Result<Answer, AllocError>
+        ensures ty { IfOk result (IsLanguageType (predeclared_type named)) }
+        ensures none { IfOk result (λ a. value_in a ≡ None) }
+        ensures answer { IfOk result IsAnswer }
+    {
+        match predeclared(self.alloc, named)? {
+            Some(ty) => Ok(Answer::Type(ty)),
+            None => self.wrong_text(token, "this type takes a template list"),
+        }
+    }
+
+    // What a declaration was found to stand for.
+    pub(crate) fn copied(&mut self, token: usize, number: usize) -> Result<Answer, AllocError>
+        requires { AreAnswers self.old.meanings.items }
+        ensures keeps { setting_of self.new ≡ setting_of self.old }
+        ensures copy { IfOk result (IsCopy (meaning_at self.old.meanings.items number)) }
+        ensures answer { IfOk result IsAnswer }
+    {
+        let work = match self.meanings.get(number) {
+            Some(meaning) => meaning.work(),
+            None => 1,
+        };
+        if !self.spend(work) {
+            return self.too_large(token);
+        }
+        match self.meanings.get(number) {
+            Some(Answer::Skipped(skip)) => Ok(self.skipped(token, skip.need)),
+            Some(meaning) => meaning.copy(self.alloc),
+            None => Ok(Answer::Faulty),
+        }
+    }
+
+    fn unary(
+        &mut self,
+        operator: UnaryOperator,
+        token: usize,
+        operand: Answer,
+    ) -> Result<Answer, AllocError>
+        requires { IsAnswer operand }
+        ensures keeps { setting_of self.new ≡ setting_of self.old }
+        ensures given { IfOk result (λ answer. UnlessRefused self.old.reading.now token answer (IsOfOne operator operand answer)) }
+        ensures answer { IfOk result IsAnswer }
+    {
+        if self.reading.is_refused(token) {
+            return Ok(Answer::Faulty);
+        }
+        match operand {
+            Answer::Value(value) => self.of_one(operator, token, value),
+            other => self.unready(token, other),
+        }
+    }
+
+    fn of_one(
+        &self,
+        operator: UnaryOperator,
+        token: usize,
+        value: Value,
+    ) -> Result<Answer, AllocError>
+        ensures given { IfOk result (IsOfValue operator (val_of value.instance)) }
+        ensures answer { IfOk result IsAnswer }
+    {
+        match wgsl_apply::unary(self.alloc, operator, &value.instance) {
+            Ok(answer) => Ok(Answer::Value(Value::answered(answer, value.size))),
+            Err(error) => self.refused(token, &error, Asked::Unary(operator, &value.instance)),
+        }
+    }
+
+    fn binary(
+        &mut self,
+        operator: BinaryOperator,
+        token: usize,
+        left: Answer,
+        right: Answer,
+    ) -> Result<Answer, AllocError>
+        requires left { IsAnswer left }
+        requires right { IsAnswer right }
+        ensures keeps { setting_of self.new ≡ setting_of self.old }
+        ensures given { IfOk result (λ answer. UnlessRefused self.old.reading.now token answer (IsOfTwo (setting_of self.old) operator left right answer)) }
+        ensures answer { IfOk result IsAnswer }
+    {
+        if self.reading.is_refused(token) {
+            return Ok(Answer::Faulty);
+        }
+        match (left, right) {
+            (Answer::Value(left), Answer::Value(right)) => {
+                self.of_two(operator, token, left, right)
+            }
+            (Answer::Value(left), Answer::Wrong(message, Guard::Guarded)) => {
+                if is_decided(operator, &left.instance) {
+                    Ok(Answer::Value(left))
+                } else {
+                    Ok(Answer::Wrong(message, Guard::Guarded))
+                }
+            }
+            (Answer::Value(_), right) => self.unready(token, right),
+            (left, _) => self.unready(token, left),
+        }
+    }
+
+    fn of_two(
+        &mut self,
+        operator: BinaryOperator,
+        token: usize,
+        left: Value,
+        right: Value,
+    ) -> Result<Answer, AllocError>
+        ensures keeps { setting_of self.new ≡ setting_of self.old }
+        ensures given { IfOk result (IsOfValues self.old.stage self.old.is_strict operator (val_of left.instance) (val_of right.instance)) }
+        ensures answer { IfOk result IsAnswer }
+    {
+        let (a, b) = (&left.instance, &right.instance);
+        match wgsl_apply::binary(self.alloc, operator, self.stage, a, b) {
+            Ok(answer) => {
+                let value = Value::answered(answer, left.size.larger(right.size));
+                let against = against_operator(operator, self.stage, a, b);
+                self.judged(token, value, against)
+            }
+            Err(error) => self.refused(token, &error, Asked::Binary(operator, a, b)),
+        }
+    }
+
+    /// What an answer that is no value leaves where a value belongs.
+    pub(crate) fn unready(&self, token: usize, answer: Answer) -> Result<Answer, AllocError>
+        requires { IsAnswer answer }
+        ensures unready { IfOk result (IsUnready answer) }
+        ensures answer { IfOk result IsAnswer }
+    {
+        match answer {
+            Answer::Type(_) | Answer::Bitcast(_) => {
+                self.wrong_text(token, "a type stands where a value belongs")
+            }
+            other => Ok(other),
+        }
+    }
+
+    /// The value in a type to which it converts by itself.
+    pub(crate) fn converted(
+        &mut self,
+        token: usize,
+        value: Value,
+        of: &SizedType,
+    ) -> Result<Answer, AllocError>
+        requires { IsSoundValue value }
+        ensures keeps { setting_of self.new ≡ setting_of self.old }
+        ensures converted { IfOk result (IsConverted (val_of value.instance) (type_view of.now.ty)) }
+        ensures answer { IfOk result IsAnswer }
+    {
+        if of.has_float {
+            return Ok(self.skipped(token, Need::Float));
+        }
+        if !self.spend(value.size.parts) {
+            return self.too_large(token);
+        }
+        match automatic(self.alloc, &value.instance, &of.ty)? {
+            Some(instance) => Ok(Answer::Value(Value {
+                instance,
+                size: value.size,
+            })),
+            None => self.not_converted(token, &value.instance, &of.ty),
+        }
+    }
+
+    /// A value does not convert to the type.
+    pub(crate) fn not_converted(
+        &self,
+        token: usize,
+        value: &Instance,
+        ty: &Type,
+    ) -> Result<Answer, AllocError>
+        ensures fault { IfOk result IsFault }
+        ensures answer { IfOk result IsAnswer }
+    {
+        let guard = if has_rank(self.alloc, value, ty)? {
+            Guard::Guarded
+        } else {
+            Guard::Never
+        };
+        let mut text = String::new(self.alloc);
+        if is_short(value) {
+            write!(text, "{value} is no {ty}")?;
+        } else {
+            write!(text, "this value is no {ty}")?;
+        }
+        Ok(self.wrong(token, guard, text))
+    }
+
+    /// The condition of a `const_assert`.
+    fn assert(&mut self, span: Span) -> Result<(), AllocError>
+        requires { AreAnswers self.old.meanings.items }
+        ensures { setting_of self.new ≡ setting_of self.old }
+    {
+        let answer = self.expression(span)?;
+        let answer = match answer {
+            Answer::Value(value) => match value.instance {
+                Instance::Literal(LiteralInstance::Bool(true)) => return Ok(()),
+                Instance::Literal(LiteralInstance::Bool(false)) => {
+                    self.wrong_text(span.token, "this is asserted and false")?
+                }
+                _ => self.wrong_text(span.token, "what is asserted is no bool")?,
+            },
+            other => self.unready(span.token, other)?,
+        };
+        self.tell(answer)
+    }
+
+    /// Tells what is wrong.
+    pub(crate) fn tell(&mut self, answer: Answer) -> Result<(), AllocError>
+        ensures { setting_of self.new ≡ setting_of self.old }
+    {
+        match answer {
+            Answer::Wrong(message, _) => self.messages.add(message),
+            _ => Ok(()),
+        }
+    }
+}
+
+/// Whether the name is that of a type whose values are no constants.
+pub(crate) fn is_opaque(name: &str) -> bool {
+    matches!(name, "ptr" | "sampler" | "sampler_comparison") || name.starts_with("texture_")
+}
+
+/// A literal as an answer.
+pub(crate) fn value_of(literal: LiteralInstance) -> Answer
+    ensures value { value_in result ≡ Some (literal_of literal) }
+    ensures answer { IsAnswer result }
+{
+    Answer::Value(Value {
+        instance: Instance::from(literal),
+        size: Size::ONE,
+    })
+}
+
+// So many declarations of which nothing is known.
+fn unknown(alloc: Global, count: usize) -> Result<Vec<Answer>, AllocError>
+    ensures count { IfOk result (λ v. vec_len v ≡ count) }
+    ensures answers { IfOk result (λ v. AreAnswers v.items) }
+{
+    let mut meanings = Vec::with_capacity(alloc, count)?;
+    for number in 0..count {
+        meanings.push(Answer::Faulty)?;
+    }
+    Ok(meanings)
+}
+
+fn guard_for(of_numbers: bool) -> Guard
+    ensures { result ≡ guard_for of_numbers }
+{
+    if of_numbers {
+        Guard::Guarded
+    } else {
+        Guard::Never
+    }
+}
+
+fn popped(answers: &mut Vec<Answer>) -> Answer
+    requires { AreAnswers answers.old.items }
+    ensures top { result ≡ top answers.old.items }
+    ensures below { answers.new.items ≡ below answers.old.items }
+    ensures answer { IsAnswer result }
+    ensures left { AreAnswers answers.new.items }
+{
+    answers.pop().unwrap_or(Answer::Faulty)
+}
+
+// So many answers, taken away from the last ones, in their order.
+fn taken(alloc: Global, answers: &mut Vec<Answer>, count: usize) -> Result<Vec<Answer>, AllocError>
+    requires { AreAnswers answers.old.items }
+    ensures taken { IfOk result (λ list. list.items ≡ last_ones count answers.old.items) }
+    ensures without { OnOk result (answers.new.items ≡ without count answers.old.items) }
+    ensures answers { IfOk result (λ list. AreAnswers list.items) }
+    ensures left { OnOk result (AreAnswers answers.new.items) }
+{
+    let mut list = Vec::with_capacity(alloc, count)?;
+    for number in 0..count {
+        let answer = popped(answers);
+        list.push(answer)?;
+    }
+    list.reverse();
+    Ok(list)
+}
+
+// Whether the operator does not evaluate its right operand.
+fn is_decided(operator: BinaryOperator, left: &Instance) -> bool
+    ensures { result ≡ is_decided operator (val_of left.now) }
+{
+    match (operator, left) {
+        (BinaryOperator::ShortCircuitAnd, Instance::Literal(LiteralInstance::Bool(false))) => true,
+        (BinaryOperator::ShortCircuitOr, Instance::Literal(LiteralInstance::Bool(true))) => true,
+        _ => false,
+    }
+}
+
+fn add_value(
+    values: &mut Vec<Evaluated>,
+    is_value: bool,
+    token: usize,
+    meaning: Answer,
+) -> Result<(), AllocError>
+    requires answer { IsAnswer meaning }
+    requires sound { All (λ v. IsSoundOutcome v.outcome) values.old.items }
+    ensures names { OnOk result (map (λ v. v.token) values.new.items ≡
+        (if is_value then map (λ v. v.token) values.old.items ++ token ∷ [] else map (λ v. v.token) values.old.items)) }
+    ensures sound { OnOk result (All (λ v. IsSoundOutcome v.outcome) values.new.items) }
+{
+    if is_value {
+        values.push(Evaluated {
+            token,
+            outcome: outcome_of(meaning),
+        })?;
+    }
+    Ok(())
+}
+
+fn is_value(declared: Option<Declared>, stage: ShaderStage) -> bool
+    ensures { result ≡ unwrap_or (option_map (has_value stage) declared) false }
+{
+    match declared {
+        Some(Declared::Const { .. }) => true,
+        Some(Declared::Override { .. }) => stage != ShaderStage::Const,
+        _ => false,
+    }
+}
+
+fn outcome_of(meaning: Answer) -> Outcome
+    requires { IsAnswer meaning }
+    ensures { IsSoundOutcome result }
+{
+    match meaning {
+        Answer::Value(value) => Outcome::Value(value.instance),
+        Answer::Skipped(skip) => Outcome::Skipped(skip),
+        _ => Outcome::Faulty,
+    }
+}

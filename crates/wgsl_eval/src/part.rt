@@ -1,0 +1,302 @@
+//! Parts of values: elements, members and swizzles (WGSL: composite value decomposition expressions).
+
+ghost use Rattle.std.specs.Prelude.{◌≡◌, ◌==◌, IfOk, IfSome, MatchOption, Ok, map, Some, option_map};
+ghost use Rattle.std.specs.List.{position};
+ghost use Rattle.wgsl_eval.specs.Answers.{IsAnswer, IsFault, value_in};
+ghost use Rattle.wgsl_eval.specs.Evaluators.{setting_of};
+ghost use Rattle.wgsl_eval.specs.Lists.{each_of};
+ghost use Rattle.wgsl_eval.specs.Parts.{
+  AreLetters,
+  IsElement,
+  IsElementOf,
+  IsMember,
+  IsMemberOf,
+  IsPosition,
+  IsSwizzle,
+  component_named,
+  swizzled,
+};
+ghost use Rattle.wgsl_rules.specs.Paths.{parts, viewed};
+ghost use Rattle.wgsl_rules.specs.Values.{IsStorable};
+ghost use Rattle.wgsl_source.specs.Readings.{word_at};
+ghost use Rattle.wgsl_scalar.specs.Literals.{literal_of as value_of_literal};
+ghost use Rattle.wgsl_values.specs.View.{steps_of, value_of, vec_view};
+
+use crate::answer::{Answer, Guard, Size, Value};
+use crate::evaluator::Evaluator;
+use crate::literals::vector_of;
+use std::alloc::{AllocError, Global};
+use wgsl_apply::{Asked, literal_of};
+use wgsl_types::{Instance, LiteralInstance, MemView, VecInstance};
+
+impl Evaluator<'_> {
+    /// An element of a value.
+    pub(crate) fn index(
+        &mut self,
+        token: usize,
+        whole: Answer,
+        index: Answer,
+    ) -> Result<Answer, AllocError>
+        requires whole { IsAnswer whole }
+        requires index { IsAnswer index }
+        ensures keeps { setting_of self.new ≡ setting_of self.old }
+        ensures element { IfOk result (IsElementOf whole index) }
+        ensures answer { IfOk result IsAnswer }
+    {
+        let whole = match whole {
+            Answer::Value(whole) => whole,
+            other => return self.unready(token, other),
+        };
+        let index = match index {
+            Answer::Value(index) => index,
+            other => return self.unready(token, other),
+        };
+        self.element(token, &whole, &index.instance)
+    }
+
+    #[tactic(auto, using(crate::proofs::PartLemmas::element_steps))]
+    fn element(
+        &mut self,
+        token: usize,
+        whole: &Value,
+        index: &Instance,
+    ) -> Result<Answer, AllocError>
+        requires { IsStorable (value_of whole.now.instance) }
+        ensures keeps { setting_of self.new ≡ setting_of self.old }
+        ensures element { IfOk result (λ answer. IfSome (value_in answer) (IsElement (value_of whole.now.instance) (value_of index.now))) }
+        ensures answer { IfOk result IsAnswer }
+    {
+        match position_of(index) {
+            Position::At(at) => {
+                let view = MemView::Index(at, Box::new(self.alloc, MemView::Whole)?);
+                let size = whole.size.part(count_of(&whole.instance));
+                self.viewed(token, &whole.instance, &view, size)
+            }
+            Position::Negative => self.negative(token, index),
+            Position::None => self.wrong_text(token, "an index is an integer"),
+        }
+    }
+
+    // An index below 0 is a fault of numbers.
+    fn negative(&self, token: usize, index: &Instance) -> Result<Answer, AllocError>
+        ensures { IfOk result IsFault }
+    {
+        let mut text = String::new(self.alloc);
+        write!(text, "no element {index}")?;
+        Ok(self.wrong(token, Guard::Guarded, text))
+    }
+
+    fn viewed(
+        &mut self,
+        token: usize,
+        whole: &Instance,
+        view: &MemView,
+        size: Size,
+    ) -> Result<Answer, AllocError>
+        requires { IsStorable (value_of whole.now) }
+        ensures keeps { setting_of self.new ≡ setting_of self.old }
+        ensures part { IfOk result (λ answer. IfSome (value_in answer) (λ v. viewed (steps_of view.now) (value_of whole.now) ≡ Ok v)) }
+        ensures answer { IfOk result IsAnswer }
+    {
+        if !self.spend(size.parts) {
+            return self.too_large(token);
+        }
+        match whole.view(self.alloc, view) {
+            Ok(part) => {
+                let part = part.clone(self.alloc)?;
+                Ok(Answer::Value(Value::answered(part, size)))
+            }
+            Err(error) => self.refused(token, &error, Asked::Part),
+        }
+    }
+
+    /// A member of a structure, or components of a vector.
+    pub(crate) fn member(&mut self, token: usize, whole: Answer) -> Result<Answer, AllocError>
+        requires { IsAnswer whole }
+        ensures keeps { setting_of self.new ≡ setting_of self.old }
+        ensures member { IfOk result (IsMemberOf (word_at self.old.reading.now token) whole) }
+        ensures answer { IfOk result IsAnswer }
+    {
+        match whole {
+            Answer::Value(whole) => self.member_of(token, &whole),
+            other => self.unready(token, other),
+        }
+    }
+
+    #[tactic(auto, using(crate::proofs::PartLemmas::member_steps))]
+    fn member_of(&mut self, token: usize, whole: &Value) -> Result<Answer, AllocError>
+        requires { IsStorable (value_of whole.now.instance) }
+        ensures keeps { setting_of self.new ≡ setting_of self.old }
+        ensures member { IfOk result (λ answer. IfSome (value_in answer) (IsMember (word_at self.old.reading.now token) (value_of whole.now.instance))) }
+        ensures answer { IfOk result IsAnswer }
+    {
+        match &whole.instance {
+            Instance::Vec(vector) => self.swizzle(token, vector),
+            _ => {
+                let name = String::from_str(self.alloc, self.reading.word(token))?;
+                let view = MemView::Member(name, Box::new(self.alloc, MemView::Whole)?);
+                self.viewed(token, &whole.instance, &view, whole.size.part(1))
+            }
+        }
+    }
+
+    fn swizzle(&self, token: usize, vector: &VecInstance) -> Result<Answer, AllocError>
+        ensures swizzle { IfOk result (λ answer. IfSome (value_in answer) (IsSwizzle (word_at self.now.reading.now token) (parts (vec_view vector.now)))) }
+        ensures answer { IfOk result IsAnswer }
+    {
+        let word = self.reading.word(token);
+        let Some(letters) = letters_of(word) else {
+            return self.wrong_text(token, "components are named by xyzw or by rgba");
+        };
+        match picked(self.alloc, vector, letters, word.as_bytes())? {
+            Some(components) => components_of(self.alloc, components.as_slice()),
+            None => self.no_component(token, vector),
+        }
+    }
+
+    fn no_component(&self, token: usize, vector: &VecInstance) -> Result<Answer, AllocError>
+        ensures { IfOk result IsFault }
+    {
+        let word = self.reading.word(token);
+        let count = vector.n();
+        let mut text = String::new(self.alloc);
+        write!(text, "no {word} of a vector of {count} components")?;
+        Ok(self.wrong(token, Guard::Never, text))
+    }
+}
+
+/// Which element is asked for.
+#[derive(Clone, Copy)]
+enum Position {
+    At(usize),
+    Negative,
+    None,
+}
+
+fn position_of(index: &Instance) -> Position
+    ensures { IsPosition (value_of index.now) result }
+{
+    match literal_of(index) {
+        Some(literal) => position_in(literal),
+        None => Position::None,
+    }
+}
+
+fn position_in(literal: LiteralInstance) -> Position
+    ensures { IsPosition (value_of_literal literal) result }
+{
+    match literal {
+        LiteralInstance::AbstractInt(n) => from_zero_on(usize::try_from(n).ok()),
+        LiteralInstance::I64(n) => from_zero_on(usize::try_from(n).ok()),
+        LiteralInstance::I32(n) => from_zero_on(usize::try_from(n).ok()),
+        LiteralInstance::U32(n) => Position::At(n as usize),
+        LiteralInstance::U64(n) => from_zero_on(usize::try_from(n).ok()),
+        LiteralInstance::Bool(_) => Position::None,
+    }
+}
+
+fn from_zero_on(at: Option<usize>) -> Position
+    ensures { MatchOption at (result ≡ Position.Negative) (λ n. result ≡ Position.At n) }
+{
+    match at {
+        Some(at) => Position::At(at),
+        None => Position::Negative,
+    }
+}
+
+// How many parts of one size a value has.
+fn count_of(value: &Instance) -> usize {
+    match value {
+        Instance::Array(array) => array.n(),
+        Instance::Vec(vector) => vector.n(),
+        Instance::Mat(matrix) => matrix.c(),
+        _ => 1,
+    }
+}
+
+// The letters that the word is of, if it is of one kind and has 1 to 4.
+fn letters_of(word: &str) -> Option<&'static [u8; 4]>
+    ensures { IfSome result (λ letters. AreLetters letters.now) }
+{
+    if word.is_empty() || word.len() > 4 {
+        return None;
+    }
+    if word.bytes().all(|letter| b"xyzw".contains(&letter)) {
+        return Some(b"xyzw");
+    }
+    if word.bytes().all(|letter| b"rgba".contains(&letter)) {
+        return Some(b"rgba");
+    }
+    None
+}
+
+// The components that the letters of the word name, one after the other.
+#[tactic(auto, using(crate::proofs::Each::each_steps))]
+fn picked(
+    alloc: Global,
+    vector: &VecInstance,
+    letters: &[u8; 4],
+    word: &[u8],
+) -> Result<Option<Vec<LiteralInstance>>, AllocError>
+    ensures { IfOk result (λ o. IfSome o (λ ls. each_of (component_named letters.now (parts (vec_view vector.now))) word.now ≡ Some (map value_of_literal ls.items))) }
+{
+    let mut components = Vec::with_capacity(alloc, word.len())?;
+    for letter in word {
+        match component(vector, letters, *letter) {
+            Some(component) => components.push(component)?,
+            None => return Ok(None),
+        }
+    }
+    Ok(Some(components))
+}
+
+fn component(vector: &VecInstance, letters: &[u8; 4], letter: u8) -> Option<LiteralInstance>
+    ensures { IfSome result (λ l. component_named letters.now (parts (vec_view vector.now)) letter ≡ Some (value_of_literal l)) }
+{
+    match component_at(vector, letters, letter) {
+        Some(component) => literal_of(component),
+        None => None,
+    }
+}
+
+fn component_at<'a>(vector: &'a VecInstance, letters: &[u8; 4], letter: u8) -> Option<&'a Instance>
+    ensures { option_map (λ v. value_of v.now) result ≡ component_named letters.now (parts (vec_view vector.now)) letter }
+{
+    vector.get(position_among(letters, letter)?)
+}
+
+fn position_among(letters: &[u8; 4], letter: u8) -> Option<usize>
+    ensures { result ≡ position (λ own. own == letter) letters.now }
+{
+    letters.iter().position(|own| *own == letter)
+}
+
+// One component, or a vector of more.
+#[tactic(auto, using(crate::proofs::Swizzles::swizzle_steps))]
+fn components_of(alloc: Global, components: &[LiteralInstance]) -> Result<Answer, AllocError>
+    ensures value { IfOk result (λ answer. IfSome (value_in answer) (λ v. v ≡ swizzled (map value_of_literal components.now))) }
+    ensures answer { IfOk result IsAnswer }
+{
+    if components.len() == 1 {
+        return Ok(component_answer(components[0]));
+    }
+    Ok(vector_answer(vector_of(alloc, components)?))
+}
+
+fn component_answer(component: LiteralInstance) -> Answer
+    ensures value { value_in result ≡ Some (value_of_literal component) }
+    ensures answer { IsAnswer result }
+{
+    Answer::Value(Value::answered(Instance::from(component), Size::ONE))
+}
+
+fn vector_answer(vector: Option<Instance>) -> Answer
+    requires { IfSome vector (λ v. IsStorable (value_of v)) }
+    ensures value { value_in result ≡ option_map value_of vector }
+    ensures answer { IsAnswer result }
+{
+    match vector {
+        Some(vector) => Answer::Value(Value::answered(vector, Size::ONE)),
+        None => Answer::Faulty,
+    }
+}

@@ -1,0 +1,100 @@
+//! The types that names and template lists stand for (WGSL: predeclared types and type-generators).
+
+ghost use Rattle.std.specs.Prelude.{◌≡◌, ◌↔◌, IfOk, IsTrue};
+ghost use Rattle.std.specs.Option.{option_map};
+ghost use Rattle.wgsl_rules.specs.View.{struct_view, type_view};
+ghost use Rattle.wgsl_eval.specs.TypeNames.{generated_type, predeclared_type, IsFloatType};
+
+use crate::answer::{Size, SizedType};
+use std::alloc::{AllocError, Global};
+use wgsl_source::{Generator, Predeclared};
+use wgsl_types::{StructType, Type};
+
+/// The type that the language gives a name; `None` of a name that needs a template list.
+pub(crate) fn predeclared(
+    alloc: Global,
+    named: Predeclared,
+) -> Result<Option<SizedType>, AllocError>
+    ensures { IfOk result (λ o. option_map (λ t. type_view t.ty) o ≡ predeclared_type named) }
+{
+    match named {
+        Predeclared::Scalar(scalar) => Ok(Some(SizedType::scalar(scalar.ty()))),
+        Predeclared::Vec(n, scalar) => {
+            let inner = SizedType::scalar(scalar.ty());
+            Ok(Some(generated(alloc, Generator::Vec(n), inner, None)?))
+        }
+        Predeclared::Mat(columns, rows, scalar) => {
+            let inner = SizedType::scalar(scalar.ty());
+            let generator = Generator::Mat(columns, rows);
+            Ok(Some(generated(alloc, generator, inner, None)?))
+        }
+        Predeclared::Generator(_) => Ok(None),
+    }
+}
+
+/// The type of the generator of the inner type, with the count that is given.
+pub(crate) fn generated(
+    alloc: Global,
+    generator: Generator,
+    inner: SizedType,
+    count: Option<u32>,
+) -> Result<SizedType, AllocError>
+    ensures ty { IfOk result (λ t. type_view t.ty ≡ generated_type generator (type_view inner.ty) count) }
+    ensures floats { IfOk result (λ t. t.has_float ≡ inner.has_float) }
+{
+    let SizedType {
+        ty,
+        nodes,
+        size,
+        has_float,
+    } = inner;
+    let inner = Box::new(alloc, ty)?;
+    let (ty, size) = match generator {
+        Generator::Vec(n) => (Type::Vec(n, inner), size.of_equal(n as usize)),
+        Generator::Mat(columns, rows) => {
+            let size = size.of_equal(rows as usize).of_equal(columns as usize);
+            (Type::Mat(columns, rows, inner), size)
+        }
+        Generator::Atomic => (Type::Atomic(inner), size.of_equal(1)),
+        Generator::Array => {
+            let count = count.map(|count| count as usize);
+            (Type::Array(inner, count), size.of_equal(count.unwrap_or(1)))
+        }
+    };
+    Ok(SizedType {
+        ty,
+        nodes: nodes.saturating_add(1),
+        size,
+        has_float,
+    })
+}
+
+/// A structure type of members of so many types in all, whose values have these sizes together.
+pub(crate) fn structure(
+    alloc: Global,
+    ty: StructType,
+    nodes: usize,
+    members: Size,
+    has_float: bool,
+) -> Result<SizedType, AllocError>
+    ensures ty { IfOk result (λ t. type_view t.ty ≡ struct_view ty) }
+    ensures floats { IfOk result (λ t. t.has_float ≡ has_float) }
+{
+    let nodes = nodes.saturating_add(1);
+    Ok(SizedType {
+        ty: Type::Struct(Box::new(alloc, ty)?),
+        nodes,
+        size: Size {
+            parts: members.parts.saturating_add(nodes),
+            depth: members.depth,
+        },
+        has_float,
+    })
+}
+
+/// Whether it is a type of floats.
+pub(crate) fn is_float(ty: &Type) -> bool
+    ensures { IsTrue result ↔ IsFloatType (type_view ty.now) }
+{
+    matches!(ty, Type::F32 | Type::F16 | Type::F64 | Type::AbstractFloat)
+}
