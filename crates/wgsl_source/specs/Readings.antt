@@ -5,11 +5,13 @@ use Rattle.wgsl_source.specs.Cuts.{cut_of}
 use Rattle.wgsl_source.specs.declared.declaration.Kind.{Kind}
 use Rattle.wgsl_source.specs.declared.declaration.Kind.TheVariants as kinds
 use Rattle.wgsl_source.specs.declared.declaration.Member.{Member}
+use Rattle.wgsl_source.specs.declared.declaration.Variable.{Variable}
 use Rattle.wgsl_source.specs.declared.expression.Span.{Span}
 use Rattle.wgsl_source.specs.declared.expression.Step.{Step}
 use Rattle.wgsl_source.specs.declared.fault.Fault.{Fault}
 use Rattle.wgsl_source.specs.declared.module.Declared.{Declared}
 use Rattle.wgsl_source.specs.declared.module.Declared.TheVariants as declareds
+use Rattle.wgsl_source.specs.declared.module.DeclaredVariable.{DeclaredVariable}
 use Rattle.wgsl_source.specs.declared.module.Extent.{Extent}
 use Rattle.wgsl_source.specs.declared.module.Field.{Field}
 use Rattle.wgsl_source.specs.declared.token.Token.{Token}
@@ -35,13 +37,18 @@ pub record Outline : Type 0 where
 abbrev pub extent_in : Token → Extent
 extent_in token = record { start = token.start; end = token.end }
 
+-- a variable of a module
+abbrev pub variable_in : Variable → DeclaredVariable
+variable_in v =
+    record { ty = v.ty; space = v.space; access = v.access; group = v.attributes.group; binding = v.attributes.binding }
+
 -- what is declared
 abbrev pub declared_in : Kind → Declared
 declared_in (kinds.Struct first end) = declareds.Struct first end
 declared_in (kinds.Alias ty) = declareds.Alias ty
 declared_in (kinds.Constant ty value) = declareds.Const ty value
 declared_in (kinds.Override ty value) = declareds.Override ty value
-declared_in (kinds.Variable variable) = declareds.Variable
+declared_in (kinds.Variable variable) = declareds.Variable (variable_in variable)
 declared_in kinds.Function = declareds.Function
 
 -- a member of a structure

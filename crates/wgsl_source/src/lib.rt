@@ -24,7 +24,7 @@ mod token;
 pub use expression::{Callee, Span, Step};
 pub use fault::{Expected, Fault, Reason};
 pub use literal::Literal;
-pub use module::{Declared, Extent, Field, Reading};
+pub use module::{Declared, DeclaredVariable, Extent, Field, Reading};
 pub use names::{Generator, Predeclared, Scalar, language_name};
 pub use place::{Lines, Place};
 pub use source::{Item, ItemKind, Source, Variable};

@@ -16,6 +16,7 @@ use crate::token::Token;
 use std::alloc::{AllocError, Global};
 use std::collections::{BTreeMap, BTreeSet};
 use std::marker::Model;
+use wgsl_rules::{AccessMode, AddressSpace};
 
 /// The declarations of a source, its expressions as steps, and all that is wrong in its form.
 ///
@@ -83,8 +84,19 @@ pub enum Declared {
         ty: Option<Span>,
         value: Option<Span>,
     },
-    Variable,
+    Variable(DeclaredVariable),
     Function,
+}
+
+/// A variable of a module: its type, where one is given, its address space and access mode where they are
+/// given, and the numbers by which a host names it (WGSL: variable declarations; resource interface).
+#[derive(Clone, Copy, Debug, PartialEq, Eq)]
+pub struct DeclaredVariable {
+    pub ty: Option<Span>,
+    pub space: Option<AddressSpace>,
+    pub access: Option<AccessMode>,
+    pub group: Option<Span>,
+    pub binding: Option<Span>,
 }
 
 /// A member of a structure: the token that names it, its type, and its attributes.
@@ -177,7 +189,13 @@ impl<'a> Reading<'a> {
         match declaration.kind {
             Kind::Struct { first, end } => Some(Declared::Struct { first, end }),
             Kind::Alias(ty) => Some(Declared::Alias(ty)),
-            Kind::Variable(_) => Some(Declared::Variable),
+            Kind::Variable(variable) => Some(Declared::Variable(DeclaredVariable {
+                ty: variable.ty,
+                space: variable.space,
+                access: variable.access,
+                group: variable.attributes.group,
+                binding: variable.attributes.binding,
+            })),
             Kind::Function => Some(Declared::Function),
             Kind::Constant(ty, value) => Some(Declared::Const { ty, value }),
             Kind::Override(ty, value) => Some(Declared::Override { ty, value }),
