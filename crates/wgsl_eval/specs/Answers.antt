@@ -70,3 +70,9 @@ IsSoundOutcome o = ⊤
 -- what the declaration of a number was found to be
 abbrev pub meaning_at : List Answer → ℕ → Answer
 meaning_at meanings number = unwrap_or (slice_get meanings number) answers.Faulty
+
+-- what a declaration of a value has, of what it was found to be
+abbrev pub outcome_in : Answer → Outcome
+outcome_in (answers.Value v) = outcomes.Value v.instance
+outcome_in (answers.Skipped s) = outcomes.Skipped s
+outcome_in a = outcomes.Faulty

@@ -17,8 +17,11 @@ has_value stage d = false
 abbrev pub name_at : Outline → ℕ → ℕ
 name_at o number = unwrap_or (slice_get o.names number) (length o.tokens)
 
--- the tokens that name those of the declarations that have values, from this number on
+-- what is told of each of the declarations that have values, from this number on
+abbrev pub for_values : {A : Type 0} → ShaderStage → (ℕ → A) → ℕ → List Declared → List A
+for_values stage f number [] = []
+for_values stage f number (d ∷ ds) = (if has_value stage d then f number ∷ [] else []) ++ for_values stage f (number + 1) ds
+
+-- the tokens that name them
 abbrev pub value_names : Outline → ShaderStage → ℕ → List Declared → List ℕ
-value_names o stage number [] = []
-value_names o stage number (d ∷ ds) =
-    (if has_value stage d then name_at o number ∷ [] else []) ++ value_names o stage (number + 1) ds
+value_names o stage = for_values stage (name_at o)

@@ -27,6 +27,7 @@ use Rattle.wgsl_eval.specs.Evaluators.{Setting}
 use Rattle.wgsl_eval.specs.declared.answer.Answer.{Answer}
 use Rattle.wgsl_eval.specs.declared.answer.Answer.TheVariants as answers
 use Rattle.wgsl_eval.specs.declared.answer.Guard.TheVariants as guards
+use Rattle.wgsl_eval.specs.declared.answer.Need.TheVariants as needs
 
 -- ---- the stack of answers, the last one on top
 
@@ -70,16 +71,18 @@ IsOfNumber text answer = (x : Literal) × Means text x × IsOfLiteral x answer
 
 -- ---- names
 
--- a name of a declaration stands for what that was found to be; a fault is told once, and what is too
--- large to be copied is one
+-- a name of a declaration stands for what that was found to be; a variable is no constant, a fault is told
+-- once, and what is too large to be copied is one
 abbrev pub IsCopy : Answer → Answer → Type 0
 IsCopy m (answers.Wrong message guard) = ⊤
 IsCopy (answers.Value v) (answers.Value w) = value_of w.instance ≡ value_of v.instance
 IsCopy (answers.Type t) (answers.Type u) = type_view u.ty ≡ type_view t.ty
 IsCopy (answers.Skipped s) (answers.Skipped t) = t.need ≡ s.need
+IsCopy (answers.Variable v) (answers.Skipped t) = t.need ≡ needs.NotConstant
 IsCopy (answers.Value v) answer = ⊥
 IsCopy (answers.Type t) answer = ⊥
 IsCopy (answers.Skipped s) answer = ⊥
+IsCopy (answers.Variable v) answer = ⊥
 IsCopy m answer = answer ≡ answers.Faulty
 
 -- the value of a name that the language gives one

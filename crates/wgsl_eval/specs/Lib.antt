@@ -1,6 +1,7 @@
 pub mod Answers
 pub mod Calls
 pub mod Constructors
+pub mod Evaluated
 pub mod Evaluation
 pub mod Evaluators
 pub mod Given
@@ -8,4 +9,5 @@ pub mod Lists
 pub mod Meanings
 pub mod Parts
 pub mod Runs
+pub mod Structures
 pub mod TypeNames

@@ -11,16 +11,15 @@ use Rattle.wgsl_source.specs.Readings.{Outline, first_named, word_at}
 use Rattle.wgsl_source.specs.declared.expression.Span.{Span}
 use Rattle.wgsl_source.specs.declared.module.Declared.{Declared}
 use Rattle.wgsl_source.specs.declared.module.Declared.TheVariants as declareds
-use Rattle.wgsl_eval.specs.Answers.{IsAnswer, IsFault, IsSkipped, IsUnready, meaning_at}
+use Rattle.wgsl_eval.specs.Answers.{IsFault, IsSkipped, IsUnready, meaning_at}
 use Rattle.wgsl_eval.specs.Evaluation.{name_at}
 use Rattle.wgsl_eval.specs.Evaluators.{Setting}
 use Rattle.wgsl_eval.specs.Given.{IsConverted}
 use Rattle.wgsl_eval.specs.Runs.{IsFound}
+use Rattle.wgsl_eval.specs.Structures.{IsStructure, IsVariable}
 use Rattle.wgsl_eval.specs.declared.answer.Answer.{Answer}
 use Rattle.wgsl_eval.specs.declared.answer.Answer.TheVariants as answers
 use Rattle.wgsl_eval.specs.declared.answer.SizedType.{SizedType}
-use Rattle.wgsl_eval.specs.declared.declare.Attribute.{Attribute}
-use Rattle.wgsl_eval.specs.declared.declare.Attribute.TheVariants as attributes
 
 -- ---- what a declaration is found to be
 
@@ -68,15 +67,15 @@ IsOverride s ty (Some value) answer =
 abbrev pub IsAlias : Setting → Span → Answer → Type 0
 IsAlias s ty answer = (a : Answer) × IsFound s ty a × IsNoType a answer
 
--- what a declaration stands for; of structures nothing is said
-abbrev pub IsDeclared : Setting → Option Declared → Answer → Type 0
-IsDeclared s (Some (declareds.Const ty value)) answer = IsConstant s ty value answer
-IsDeclared s (Some (declareds.Override ty value)) answer = IsOverride s ty value answer
-IsDeclared s (Some (declareds.Alias ty)) answer = IsAlias s ty answer
-IsDeclared s (Some declareds.Variable) answer = IsSkipped answer
-IsDeclared s (Some declareds.Function) answer = IsSkipped answer
-IsDeclared s (Some (declareds.Struct first end)) answer = ⊤
-IsDeclared s None answer = ⊤
+-- what a declaration of this name stands for
+abbrev pub IsDeclared : Setting → ℕ → Option Declared → Answer → Type 0
+IsDeclared s name (Some (declareds.Const ty value)) answer = IsConstant s ty value answer
+IsDeclared s name (Some (declareds.Override ty value)) answer = IsOverride s ty value answer
+IsDeclared s name (Some (declareds.Alias ty)) answer = IsAlias s ty answer
+IsDeclared s name (Some (declareds.Variable v)) answer = IsVariable s v answer
+IsDeclared s name (Some declareds.Function) answer = IsSkipped answer
+IsDeclared s name (Some (declareds.Struct first end)) answer = IsStructure s name first end answer
+IsDeclared s name None answer = answer ≡ answers.Faulty
 
 -- a fault is told once: what names the declaration has none
 abbrev pub told : Answer → Answer
@@ -92,10 +91,6 @@ abbrev pub IsLimited : SizedType → Answer → Type 0
 IsLimited of (answers.Type t) = t ≡ of
 IsLimited of (answers.Wrong message guard) = ⊤
 IsLimited of answer = ⊥
-
-abbrev pub IsAttributeAnswer : Attribute → Type 0
-IsAttributeAnswer (attributes.Number n) = ⊤
-IsAttributeAnswer (attributes.Other answer) = IsAnswer answer
 
 -- the place of this declaration alone changes
 pub record IsPlaced (before : Setting) (number : ℕ) (after : Setting) : Type 0 where
@@ -114,7 +109,7 @@ pub record IsFoundAt (before : Setting) (number : ℕ) (after : Setting) : Type 
   pub others : IsPlaced before number after
   pub second : IsSecond before.source number → after ≡ before
   pub first : ¬ IsSecond before.source number
-      → (a : Answer) × IsDeclared before (slice_get before.source.declared number) a × (number < length before.meanings → meaning_at after.meanings number ≡ told a)
+      → (a : Answer) × IsDeclared before (name_at before.source number) (slice_get before.source.declared number) a × (number < length before.meanings → meaning_at after.meanings number ≡ told a)
 
 -- the declarations of these numbers have their meanings, one after the other
 abbrev pub AreDeclared : Setting → List ℕ → Setting → Type 0

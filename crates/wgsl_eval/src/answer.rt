@@ -3,12 +3,12 @@
 ghost use Rattle.std.specs.Prelude.{◌≡◌, ◌+◌, ◌*◌, ◌-◌, ◌/◌, ◌<◌, ◌↔◌, ◌⊎◌, max, IfOk, IsTrue};
 ghost use Rattle.wgsl_rules.specs.View.{type_view};
 ghost use Rattle.wgsl_values.specs.View.{value_of};
-ghost use Rattle.wgsl_eval.specs.Answers.{at_most_largest, IsAnswer};
-ghost use Rattle.wgsl_eval.specs.Given.{IsCopy};
+ghost use Rattle.wgsl_eval.specs.Answers.{at_most_largest};
 ghost use Rattle.wgsl_eval.specs.TypeNames.{IsFloatType};
 
 use crate::message::Message;
 use crate::types::is_float;
+use crate::variable::Variable;
 use std::alloc::{AllocError, Global};
 use std::fmt;
 use wgsl_source::Extent;
@@ -16,6 +16,9 @@ use wgsl_types::{Instance, Type};
 
 /// The most types in a type, those of members included.
 const NODES: usize = 4096;
+
+/// How many parts of values a type in a type is as much work as.
+const NODE: usize = 4;
 
 /// The most parts in a value, those of parts included.
 const PARTS: usize = 65_536;
@@ -46,6 +49,8 @@ pub(crate) struct SizedType {
     pub(crate) size: Size,
     /// Whether floats are in a value of it.
     pub(crate) has_float: bool,
+    /// Whether each align attribute in it is a multiple of the alignment of its member's type.
+    pub(crate) is_aligned: bool,
 }
 
 /// What a step leaves.
@@ -55,6 +60,8 @@ pub(crate) enum Answer {
     Type(SizedType),
     /// The function `bitcast` with its type.
     Bitcast(SizedType),
+    /// A variable of the module. What names it needs what is no constant.
+    Variable(Variable),
     Skipped(Skip),
     /// A fault, and whether `&&` and `||` pass it over where they do not evaluate it.
     Wrong(Message, Guard),
@@ -185,6 +192,7 @@ impl SizedType {
             nodes: 1,
             size: Size::ONE,
             has_float,
+            is_aligned: true,
         }
     }
 
@@ -198,13 +206,14 @@ impl SizedType {
             nodes: self.nodes,
             size: self.size,
             has_float: self.has_float,
+            is_aligned: self.is_aligned,
         })
     }
 
     pub(crate) fn is_too_large(&self) -> bool
-        ensures { IsTrue result ↔ (NODES < self.now.nodes ⊎ DEPTH < self.now.size.depth) }
+        ensures { IsTrue result ↔ NODES < self.now.nodes }
     {
-        self.nodes > NODES || self.size.depth > DEPTH
+        self.nodes > NODES
     }
 }
 
@@ -221,24 +230,11 @@ impl Skip {
 }
 
 impl Answer {
-    /// What is left of it behind a name: a fault is told once.
-    pub(crate) fn copy(&self, alloc: Global) -> Result<Answer, AllocError>
-        ensures copy { IfOk result (IsCopy self.now) }
-        ensures answer { IsAnswer self.now → IfOk result IsAnswer }
-    {
-        match self {
-            Answer::Value(value) => Ok(Answer::Value(value.copy(alloc)?)),
-            Answer::Type(ty) => Ok(Answer::Type(ty.copy(alloc)?)),
-            Answer::Skipped(skip) => Ok(Answer::Skipped(*skip)),
-            Answer::Bitcast(_) | Answer::Wrong(_, _) | Answer::Faulty => Ok(Answer::Faulty),
-        }
-    }
-
     /// How much work a copy is.
     pub(crate) fn work(&self) -> usize {
         match self {
             Answer::Value(value) => value.size.parts,
-            Answer::Type(ty) => ty.nodes,
+            Answer::Type(ty) => ty.nodes.saturating_mul(NODE),
             _ => 1,
         }
     }

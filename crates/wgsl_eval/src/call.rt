@@ -23,7 +23,8 @@ ghost use Rattle.wgsl_source.specs.Readings.{word_at};
 ghost use Rattle.wgsl_values.specs.View.{value_of};
 
 use crate::answer::{Answer, Guard, Need, Size, Value};
-use crate::evaluator::{Evaluator, is_opaque};
+use crate::evaluator::Evaluator;
+use crate::opaque::is_opaque;
 use crate::types::generated;
 use std::alloc::AllocError;
 use wgsl_apply::{Asked, literal_of, natural};
@@ -107,7 +108,7 @@ impl Evaluator<'_> {
             Answer::Value(value) => value,
             other => return self.unready(token, other),
         };
-        match count_in(&value.instance) {
+        match natural_in(&value.instance) {
             Some(count) if count > 0 => {
                 self.generated_of(token, Generator::Array, inner, Some(count))
             }
@@ -352,9 +353,9 @@ impl Evaluator<'_> {
     }
 }
 
-// The integer from 0 on that a count is.
-fn count_in(value: &Instance) -> Option<u32>
-    ensures { IfSome result (λ n. natural_of (value_of value.now) ≡ Some n) }
+/// The integer from 0 to 4294967295 that a value is.
+pub(crate) fn natural_in(value: &Instance) -> Option<u32>
+    ensures { result ≡ natural_of (value_of value.now) }
 {
     natural(literal_of(value)?)
 }

@@ -1,28 +1,18 @@
-//! Gives declarations their meanings (WGSL: value declarations; type aliases; structure types).
+//! Gives declarations their meanings (WGSL: value declarations; type aliases).
 
 ghost use Rattle.std.specs.Prelude.{◌≡◌, ◌≢◌, ◌<◌, ◌↔◌, IfOk, IfSome, IsSomeAnd, IsTrue, OnOk, slice_get, vec_len};
 ghost use Rattle.wgsl_values.specs.View.{value_of};
 ghost use Rattle.wgsl_eval.specs.Answers.{AreAnswers, IsAnswer, IsSoundValue, meaning_at};
-ghost use Rattle.wgsl_eval.specs.Meanings.{IsAlias, IsAttributeAnswer, IsConcreteValue, IsConstant, IsDeclared, IsFoundAt, IsLimited, IsNoType, IsOverride, IsPlaced, IsSecond, IsTypedBy, told, with_meaning};
+ghost use Rattle.wgsl_eval.specs.Evaluation.{name_at};
+ghost use Rattle.wgsl_eval.specs.Meanings.{IsAlias, IsConcreteValue, IsConstant, IsDeclared, IsFoundAt, IsLimited, IsNoType, IsOverride, IsPlaced, IsSecond, IsTypedBy, told, with_meaning};
 ghost use Rattle.wgsl_eval.specs.Evaluators.{setting_of};
 
-use crate::answer::{Answer, Guard, Need, Size, SizedType, Value};
+use crate::answer::{Answer, Guard, Need, SizedType, Value};
 use crate::evaluator::Evaluator;
-use crate::types::structure;
 use std::alloc::AllocError;
-use std::collections::BTreeMap;
-use wgsl_apply::{concrete, literal_of, natural};
-use wgsl_source::{Declared, Field, Span};
-use wgsl_types::{ShaderStage, StructMemberType, StructType};
-
-/// The members of a structure as far as they are read.
-#[derive(Drop)]
-struct Members {
-    members: Vec<StructMemberType>,
-    nodes: usize,
-    size: Size,
-    has_float: bool,
-}
+use wgsl_apply::concrete;
+use wgsl_source::{Declared, Span};
+use wgsl_types::ShaderStage;
 
 impl Evaluator<'_> {
     /// Gives one declaration its meaning, those that it names having theirs.
@@ -42,7 +32,7 @@ impl Evaluator<'_> {
     fn meaning_of(&mut self, number: usize) -> Result<Answer, AllocError>
         requires { AreAnswers self.old.meanings.items }
         ensures keeps { setting_of self.new ≡ setting_of self.old }
-        ensures declared { IfOk result (IsDeclared (setting_of self.old) (slice_get self.old.reading.now.declared number)) }
+        ensures declared { IfOk result (IsDeclared (setting_of self.old) (name_at self.old.reading.now number) (slice_get self.old.reading.now.declared number)) }
         ensures answer { IfOk result IsAnswer }
     {
         let name = self.reading.name(number);
@@ -51,7 +41,7 @@ impl Evaluator<'_> {
             Some(Declared::Override { ty, value }) => self.changeable(name, ty, value),
             Some(Declared::Alias(ty)) => self.alias(ty),
             Some(Declared::Struct { first, end }) => self.structure(name, first, end),
-            Some(Declared::Variable) => Ok(self.skipped(name, Need::NotConstant)),
+            Some(Declared::Variable(variable)) => self.variable(name, variable),
             Some(Declared::Function) => Ok(self.skipped(name, Need::NotConstant)),
             None => Ok(Answer::Faulty),
         }
@@ -189,8 +179,8 @@ impl Evaluator<'_> {
         }
     }
 
-    // What an answer that is no type leaves where a type belongs.
-    fn no_type(&self, token: usize, answer: Answer) -> Result<Answer, AllocError>
+    /// What an answer that is no type leaves where a type belongs.
+    pub(crate) fn no_type(&self, token: usize, answer: Answer) -> Result<Answer, AllocError>
         ensures none { IfOk result (IsNoType answer) }
         ensures answer { IfOk result IsAnswer }
     {
@@ -198,110 +188,6 @@ impl Evaluator<'_> {
             Answer::Value(_) => self.wrong_text(token, "this is no type"),
             Answer::Bitcast(_) => self.wrong_text(token, "this is no type"),
             other => Ok(other),
-        }
-    }
-
-    fn structure(&mut self, name: usize, first: usize, end: usize) -> Result<Answer, AllocError>
-        requires { AreAnswers self.old.meanings.items }
-        ensures keeps { setting_of self.new ≡ setting_of self.old }
-        ensures answer { IfOk result IsAnswer }
-    {
-        let mut members = Members {
-            members: Vec::new(self.alloc),
-            nodes: 0,
-            size: Size::ONE,
-            has_float: false,
-        };
-        let mut names = BTreeMap::new(self.alloc);
-        for number in first..end {
-            let Some(field) = self.reading.field(number) else {
-                break;
-            };
-            let word = String::from_str(self.alloc, self.reading.word(field.name))?;
-            if names.insert(word, ())?.is_some() {
-                return self.wrong_text(field.name, "another member has this name");
-            }
-            if let Some(answer) = self.member_type(&mut members, field)? {
-                return Ok(answer);
-            }
-        }
-        self.structure_of(name, members)
-    }
-
-    fn structure_of(&self, name: usize, members: Members) -> Result<Answer, AllocError>
-        ensures { IfOk result IsAnswer }
-    {
-        let Members {
-            members,
-            nodes,
-            size,
-            has_float,
-        } = members;
-        let name_text = String::from_str(self.alloc, self.reading.word(name))?;
-        let ty = StructType {
-            name: name_text,
-            members,
-        };
-        let of = structure(self.alloc, ty, nodes, size, has_float)?;
-        self.limited(name, of)
-    }
-
-    // Adds a member, or answers why it is none.
-    fn member_type(
-        &mut self,
-        members: &mut Members,
-        field: Field,
-    ) -> Result<Option<Answer>, AllocError>
-        requires { AreAnswers self.old.meanings.items }
-        ensures keeps { setting_of self.new ≡ setting_of self.old }
-        ensures answer { IfOk result (λ o. IfSome o IsAnswer) }
-    {
-        let answer = self.expression(field.ty)?;
-        let of = match answer {
-            Answer::Type(of) => of,
-            other => return Ok(Some(self.no_type(field.ty.token, other)?)),
-        };
-        let size = match self.attribute(field.size)? {
-            Attribute::Number(number) => number,
-            Attribute::Other(answer) => return Ok(Some(answer)),
-        };
-        let align = match self.attribute(field.align)? {
-            Attribute::Number(number) => number,
-            Attribute::Other(answer) => return Ok(Some(answer)),
-        };
-        members.nodes = members.nodes.saturating_add(of.nodes);
-        members.size = members.size.with(of.size);
-        members.has_float = members.has_float || of.has_float;
-        members.members.push(StructMemberType {
-            name: String::from_str(self.alloc, self.reading.word(field.name))?,
-            ty: of.ty,
-            size,
-            align,
-        })?;
-        Ok(None)
-    }
-
-    // The number that an attribute gives.
-    fn attribute(&mut self, span: Option<Span>) -> Result<Attribute, AllocError>
-        requires { AreAnswers self.old.meanings.items }
-        ensures keeps { setting_of self.new ≡ setting_of self.old }
-        ensures answer { IfOk result IsAttributeAnswer }
-    {
-        let Some(span) = span else {
-            return Ok(Attribute::Number(None));
-        };
-        let answer = self.expression(span)?;
-        match answer {
-            Answer::Value(value) => match literal_of(&value.instance).and_then(|literal| natural(
-                literal,
-            )) {
-                Some(number) => Ok(Attribute::Number(Some(number))),
-                None => {
-                    let text = "an attribute is from 0 to 4294967295";
-                    Ok(Attribute::Other(self.wrong_text(span.token, text)?))
-                }
-            },
-            other => Ok(Attribute::Other(self.unready(span.token, other)?)),
         }
     }
 
@@ -316,13 +202,6 @@ impl Evaluator<'_> {
         }
         Ok(Answer::Type(of))
     }
-}
-
-/// What an attribute gives, or why it gives nothing.
-#[derive(Drop)]
-enum Attribute {
-    Number(Option<u32>),
-    Other(Answer),
 }
 
 // Whether the name has a declaration, and another one than this.

@@ -1,6 +1,6 @@
 //! Walks the steps of expressions, whose answers wait on a stack of their own.
 
-ghost use Rattle.std.specs.Prelude.{if◌then◌else◌, [], ◌∷◌, ◌++◌, ◌≡◌, ◌≤◌, ◌+◌, ◌↔◌, ◌&&◌, ℕ, All, IfOk, IsSome, IsTrue, MatchBool, None, OnOk, Some, false, is_some, length, map, unwrap_or, vec_len};
+ghost use Rattle.std.specs.Prelude.{if◌then◌else◌, [], ◌∷◌, ◌++◌, ◌≡◌, ◌≤◌, ◌+◌, ◌↔◌, ◌&&◌, ℕ, All, IfOk, IsSome, IsTrue, MatchBool, None, OnOk, Some, false, is_some, length, map, replicate, unwrap_or, vec_len};
 ghost use Rattle.std.specs.List.Sorted.{IsSortedByKey};
 ghost use Rattle.std.specs.Option.{option_map};
 ghost use Rattle.std.specs.Ordering.{nat_cmp};
@@ -10,7 +10,8 @@ ghost use Rattle.wgsl_apply.specs.Refused.{is_of_numbers as is_number_refusal};
 ghost use Rattle.wgsl_scalar.specs.Literals.{literal_of};
 ghost use Rattle.wgsl_values.specs.View.{value_of as val_of};
 ghost use Rattle.wgsl_source.specs.Readings.{extent_at, word_at};
-ghost use Rattle.wgsl_eval.specs.Answers.{AreAnswers, IsAnswer, IsFault, IsFaultOf, IsFaultWith, IsSkipped, IsSoundOutcome, IsSoundValue, IsUnready, guard_for, meaning_at, value_in};
+ghost use Rattle.wgsl_eval.specs.Answers.{AreAnswers, IsAnswer, IsFault, IsFaultOf, IsFaultWith, IsSkipped, IsSoundOutcome, IsSoundValue, IsUnready, guard_for, meaning_at, outcome_in, value_in};
+ghost use Rattle.wgsl_eval.specs.Evaluated.{AreEvaluated, setting_before, values_of};
 ghost use Rattle.wgsl_eval.specs.Evaluation.{has_value, value_names};
 ghost use Rattle.wgsl_eval.specs.Evaluators.{setting_of};
 ghost use Rattle.wgsl_eval.specs.Given.{IsConverted, IsCopy, IsGiven, IsJudged, IsLanguageType, IsNamed, IsOfNumber, IsOfOne, IsOfTwo, IsOfValue, IsOfValues, UnlessRefused, below, is_decided, last_ones, rest_of, top, without};
@@ -20,6 +21,7 @@ ghost use Rattle.wgsl_eval.specs.TypeNames.{predeclared_type};
 
 use crate::answer::{Answer, Guard, Need, Size, SizedType, Skip, Value};
 use crate::message::{Message, Messages};
+use crate::opaque::is_opaque;
 use crate::types::predeclared;
 use std::alloc::{AllocError, Global};
 use wgsl_apply::{
@@ -68,7 +70,7 @@ pub(crate) struct Evaluator<'a> {
     pub(crate) stage: ShaderStage,
     /// Whether what the standard refuses is a fault.
     pub(crate) is_strict: bool,
-    messages: Messages,
+    pub(crate) messages: Messages,
     pub(crate) meanings: Vec<Answer>,
     /// How many parts may still be made.
     work: usize,
@@ -87,26 +89,40 @@ pub fn evaluate(
     ensures count { IfOk result (λ e. vec_len e.messages ≤ 100) }
     ensures sorted { IfOk result (λ e. IsSortedByKey (λ m. m.start) nat_cmp e.messages.items) }
     ensures names { IfOk result (λ e. map (λ v. v.token) e.values.items ≡ value_names reading.now stage 0 reading.now.declared) }
+    ensures values { IfOk result (λ e. AreEvaluated reading.now stage is_strict e.values.items) }
     ensures sound { IfOk result (λ e. All (λ v. IsSoundOutcome v.outcome) e.values.items) }
 {
-    let mut evaluator = Evaluator {
-        alloc,
-        reading,
-        stage,
-        is_strict,
-        messages: Messages::new(alloc),
-        meanings: unknown(alloc, reading.len())?,
-        work: WORK,
-    };
+    let mut evaluator = Evaluator::new(alloc, reading, stage, is_strict)?;
     evaluator.declare_all()?;
     evaluator.assert_all()?;
     evaluator.into_evaluation()
 }
 
 impl<'a> Evaluator<'a> {
-    // Gives each declaration its meaning, those that it names having theirs.
+    /// One to which nothing is known of the declarations.
+    pub(crate) fn new(
+        alloc: Global,
+        reading: &'a Reading<'a>,
+        stage: ShaderStage,
+        is_strict: bool,
+    ) -> Result<Evaluator<'a>, AllocError>
+        ensures unknown { IfOk result (λ e. setting_of e ≡ setting_before reading.entry.now stage is_strict) }
+        ensures answers { IfOk result (λ e. AreAnswers e.meanings.items) }
+    {
+        Ok(Evaluator {
+            alloc,
+            reading,
+            stage,
+            is_strict,
+            messages: Messages::new(alloc),
+            meanings: unknown(alloc, reading.len())?,
+            work: WORK,
+        })
+    }
+
+    /// Gives each declaration its meaning, those that it names having theirs.
     #[tactic(auto, using(crate::proofs::Walks::declared_none, crate::proofs::Walks::declared_more, crate::proofs::Walks::declared_all))]
-    fn declare_all(&mut self) -> Result<(), AllocError>
+    pub(crate) fn declare_all(&mut self) -> Result<(), AllocError>
         requires { AreAnswers self.old.meanings.items }
         ensures declared { OnOk result (AreDeclared (setting_of self.old) self.old.reading.now.order (setting_of self.new)) }
         ensures answers { AreAnswers self.new.meanings.items }
@@ -134,6 +150,7 @@ impl<'a> Evaluator<'a> {
         ensures count { IfOk result (λ e. vec_len e.messages ≤ 100) }
         ensures sorted { IfOk result (λ e. IsSortedByKey (λ m. m.start) nat_cmp e.messages.items) }
         ensures names { IfOk result (λ e. map (λ v. v.token) e.values.items ≡ value_names self.entry.reading.now self.entry.stage 0 self.entry.reading.now.declared) }
+        ensures values { IfOk result (λ e. e.values.items ≡ values_of (setting_of self.entry) 0 self.entry.reading.now.declared) }
         ensures sound { IfOk result (λ e. All (λ v. IsSoundOutcome v.outcome) e.values.items) }
     {
         let Evaluator {
@@ -369,7 +386,7 @@ impl Evaluator<'_> {
         }
     }
 
-    // What a declaration was found to stand for.
+    /// What is left behind a name of what a declaration was found to stand for: a fault is told once.
     pub(crate) fn copied(&mut self, token: usize, number: usize) -> Result<Answer, AllocError>
         requires { AreAnswers self.old.meanings.items }
         ensures keeps { setting_of self.new ≡ setting_of self.old }
@@ -384,9 +401,11 @@ impl Evaluator<'_> {
             return self.too_large(token);
         }
         match self.meanings.get(number) {
+            Some(Answer::Value(value)) => Ok(Answer::Value(value.copy(self.alloc)?)),
+            Some(Answer::Type(ty)) => Ok(Answer::Type(ty.copy(self.alloc)?)),
+            Some(Answer::Variable(_)) => Ok(self.skipped(token, Need::NotConstant)),
             Some(Answer::Skipped(skip)) => Ok(self.skipped(token, skip.need)),
-            Some(meaning) => meaning.copy(self.alloc),
-            None => Ok(Answer::Faulty),
+            _ => Ok(Answer::Faulty),
         }
     }
 
@@ -574,11 +593,6 @@ impl Evaluator<'_> {
     }
 }
 
-/// Whether the name is that of a type whose values are no constants.
-pub(crate) fn is_opaque(name: &str) -> bool {
-    matches!(name, "ptr" | "sampler" | "sampler_comparison") || name.starts_with("texture_")
-}
-
 /// A literal as an answer.
 pub(crate) fn value_of(literal: LiteralInstance) -> Answer
     ensures value { value_in result ≡ Some (literal_of literal) }
@@ -592,7 +606,7 @@ pub(crate) fn value_of(literal: LiteralInstance) -> Answer
 
 // So many declarations of which nothing is known.
 fn unknown(alloc: Global, count: usize) -> Result<Vec<Answer>, AllocError>
-    ensures count { IfOk result (λ v. vec_len v ≡ count) }
+    ensures unknown { IfOk result (λ v. v.items ≡ replicate count Answer.Faulty) }
     ensures answers { IfOk result (λ v. AreAnswers v.items) }
 {
     let mut meanings = Vec::with_capacity(alloc, count)?;
@@ -612,7 +626,7 @@ fn guard_for(of_numbers: bool) -> Guard
     }
 }
 
-fn popped(answers: &mut Vec<Answer>) -> Answer
+pub(crate) fn popped(answers: &mut Vec<Answer>) -> Answer
     requires { AreAnswers answers.old.items }
     ensures top { result ≡ top answers.old.items }
     ensures below { answers.new.items ≡ below answers.old.items }
@@ -660,6 +674,8 @@ fn add_value(
     requires sound { All (λ v. IsSoundOutcome v.outcome) values.old.items }
     ensures names { OnOk result (map (λ v. v.token) values.new.items ≡
         (if is_value then map (λ v. v.token) values.old.items ++ token ∷ [] else map (λ v. v.token) values.old.items)) }
+    ensures values { OnOk result (values.new.items ≡
+        (if is_value then values.old.items ++ (record { token = token; outcome = outcome_in meaning }) ∷ [] else values.old.items)) }
     ensures sound { OnOk result (All (λ v. IsSoundOutcome v.outcome) values.new.items) }
 {
     if is_value {
@@ -683,7 +699,8 @@ fn is_value(declared: Option<Declared>, stage: ShaderStage) -> bool
 
 fn outcome_of(meaning: Answer) -> Outcome
     requires { IsAnswer meaning }
-    ensures { IsSoundOutcome result }
+    ensures outcome { result ≡ outcome_in meaning }
+    ensures sound { IsSoundOutcome result }
 {
     match meaning {
         Answer::Value(value) => Outcome::Value(value.instance),

@@ -1,17 +1,24 @@
-//! Evaluates the constant expressions of a WGSL source by the operators and builtin functions of
-//! `wgsl_types`, and adds no arithmetic of its own.
+//! Evaluates the constant expressions of a WGSL source, and gives its declarations their types, by
+//! the operators and builtin functions of `wgsl_types`; it adds no arithmetic of its own.
 #![tactic(auto)]
 
 mod answer;
+mod attribute;
 mod call;
 mod construct;
+mod declarations;
 mod declare;
 mod evaluator;
 mod literals;
 mod message;
+mod opaque;
 mod part;
+mod structure;
 mod types;
+mod variable;
 
 pub use answer::{Need, Skip};
+pub use declarations::{Declarations, Item, ItemKind, declarations};
 pub use evaluator::{Evaluated, Evaluation, Outcome, evaluate};
 pub use message::{Message, Severity};
+pub use variable::Variable;

@@ -1,6 +1,6 @@
 //! The types that names and template lists stand for (WGSL: predeclared types and type-generators).
 
-ghost use Rattle.std.specs.Prelude.{◌≡◌, ◌↔◌, IfOk, IsTrue};
+ghost use Rattle.std.specs.Prelude.{◌≡◌, ◌↔◌, ◌||◌, IfOk, IsTrue};
 ghost use Rattle.std.specs.Option.{option_map};
 ghost use Rattle.wgsl_rules.specs.View.{struct_view, type_view};
 ghost use Rattle.wgsl_eval.specs.TypeNames.{generated_type, predeclared_type, IsFloatType};
@@ -47,6 +47,7 @@ pub(crate) fn generated(
         nodes,
         size,
         has_float,
+        is_aligned,
     } = inner;
     let inner = Box::new(alloc, ty)?;
     let (ty, size) = match generator {
@@ -66,29 +67,60 @@ pub(crate) fn generated(
         nodes: nodes.saturating_add(1),
         size,
         has_float,
+        is_aligned,
     })
 }
 
-/// A structure type of members of so many types in all, whose values have these sizes together.
+/// What the types of members are together: how many types, how large values of them are, whether
+/// floats are in one, and whether each align attribute is a multiple of the alignment of its type.
+#[derive(Clone, Copy)]
+pub(crate) struct Together {
+    pub(crate) nodes: usize,
+    pub(crate) size: Size,
+    pub(crate) has_float: bool,
+    pub(crate) is_aligned: bool,
+}
+
+impl Together {
+    pub(crate) const NONE: Together = Together {
+        nodes: 0,
+        size: Size::ONE,
+        has_float: false,
+        is_aligned: true,
+    };
+
+    /// With those of one more.
+    pub(crate) fn with(self, other: Together) -> Together
+        ensures { result.has_float ≡ (self.has_float || other.has_float) }
+    {
+        Together {
+            nodes: self.nodes.saturating_add(other.nodes),
+            size: self.size.with(other.size),
+            has_float: self.has_float || other.has_float,
+            is_aligned: self.is_aligned && other.is_aligned,
+        }
+    }
+}
+
+/// A structure type of members whose types are these together.
 pub(crate) fn structure(
     alloc: Global,
     ty: StructType,
-    nodes: usize,
-    members: Size,
-    has_float: bool,
+    members: Together,
 ) -> Result<SizedType, AllocError>
     ensures ty { IfOk result (λ t. type_view t.ty ≡ struct_view ty) }
-    ensures floats { IfOk result (λ t. t.has_float ≡ has_float) }
+    ensures floats { IfOk result (λ t. t.has_float ≡ members.has_float) }
 {
-    let nodes = nodes.saturating_add(1);
+    let nodes = members.nodes.saturating_add(1);
     Ok(SizedType {
         ty: Type::Struct(Box::new(alloc, ty)?),
         nodes,
         size: Size {
-            parts: members.parts.saturating_add(nodes),
-            depth: members.depth,
+            parts: members.size.parts.saturating_add(nodes),
+            depth: members.size.depth,
         },
-        has_float,
+        has_float: members.has_float,
+        is_aligned: members.is_aligned,
     })
 }
 

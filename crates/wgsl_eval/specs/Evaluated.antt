@@ -1,0 +1,69 @@
+-- What is told of a source: its declarations with what they are found to be.
+use Rattle.std.specs.Prelude.{◌≡◌, ℕ, ◌+◌, Bool, false, Option, Some, List, [], ◌∷◌, ⊤, length, replicate, slice_get, string_bytes}
+use Rattle.wgsl_rules.specs.declared.syntax.ShaderStage.{ShaderStage}
+use Rattle.wgsl_rules.specs.declared.syntax.ShaderStage.TheVariants as stages
+use Rattle.wgsl_source.specs.Readings.{Outline, extent_at, word_at}
+use Rattle.wgsl_source.specs.declared.module.Declared.{Declared}
+use Rattle.wgsl_source.specs.declared.module.Declared.TheVariants as declareds
+use Rattle.wgsl_eval.specs.Answers.{meaning_at, outcome_in}
+use Rattle.wgsl_eval.specs.Evaluation.{for_values, name_at}
+use Rattle.wgsl_eval.specs.Evaluators.{Setting}
+use Rattle.wgsl_eval.specs.Meanings.{AreDeclared}
+use Rattle.wgsl_eval.specs.declared.answer.Answer.{Answer}
+use Rattle.wgsl_eval.specs.declared.answer.Answer.TheVariants as answers
+use Rattle.wgsl_eval.specs.declared.declarations.Item.{Item}
+use Rattle.wgsl_eval.specs.declared.declarations.ItemKind.{ItemKind}
+use Rattle.wgsl_eval.specs.declared.declarations.ItemKind.TheVariants as items
+use Rattle.wgsl_eval.specs.declared.evaluator.Evaluated.{Evaluated}
+
+-- nothing is known of the declarations
+abbrev pub setting_before : Outline → ShaderStage → Bool → Setting
+setting_before o stage is_strict = record {
+  source = o;
+  stage = stage;
+  is_strict = is_strict;
+  meanings = replicate (length o.declared) answers.Faulty;
+}
+
+-- ---- values
+
+-- the name of a declaration, and what it has
+abbrev pub evaluated_at : Setting → ℕ → Evaluated
+evaluated_at s number = record { token = name_at s.source number; outcome = outcome_in (meaning_at s.meanings number) }
+
+abbrev pub values_of : Setting → ℕ → List Declared → List Evaluated
+values_of s = for_values s.stage (evaluated_at s)
+
+-- these are the values of the declarations, each of which has its meaning in the order of the source
+abbrev pub AreEvaluated : Outline → ShaderStage → Bool → List Evaluated → Type 0
+AreEvaluated o stage is_strict values =
+    (after : Setting) × AreDeclared (setting_before o stage is_strict) o.order after × (values ≡ values_of after 0 o.declared)
+
+-- ---- declarations
+
+-- what is declared, of what the declaration was found to be
+abbrev pub kind_in : Option Declared → Answer → ItemKind
+kind_in (Some (declareds.Struct first end)) (answers.Type t) = items.Struct t.ty
+kind_in d (answers.Type t) = items.Alias t.ty
+kind_in d (answers.Value v) = items.Value v.instance
+kind_in d (answers.Variable v) = items.Variable v
+kind_in d (answers.Skipped s) = items.Skipped
+kind_in d a = items.Faulty
+
+-- the declaration of a number that was found to be this: its name, the bytes of that, and what is declared
+pub record IsItem (o : Outline) (number : ℕ) (meaning : Answer) (item : Item) : Type 0 where
+  pub name : string_bytes item.name ≡ word_at o (name_at o number)
+  pub start : item.start ≡ (extent_at o (name_at o number)).start
+  pub end : item.end ≡ (extent_at o (name_at o number)).end
+  pub kind : item.kind ≡ kind_in (slice_get o.declared number) meaning
+
+-- those from this number on, one for each that is declared
+abbrev pub AreItems : Setting → ℕ → List Declared → List Item → Type 0
+AreItems s number [] [] = ⊤
+AreItems s number (d ∷ ds) (i ∷ is) = IsItem s.source number (meaning_at s.meanings number) i × AreItems s (number + 1) ds is
+AreItems s number ds is = ⊥
+
+-- these are the declarations, each of which has its meaning in the order of the source
+abbrev pub AreDeclarations : Outline → List Item → Type 0
+AreDeclarations o items =
+    (after : Setting) × AreDeclared (setting_before o stages.Const false) o.order after × AreItems after 0 o.declared items

@@ -1,0 +1,104 @@
+-- What structures and variables are found to be (WGSL: structure types; variable declarations; attributes).
+use Rattle.std.specs.Prelude.{◌≡◌, ◌-◌, ◌+◌, ℕ, Bool, true, Option, Some, None, List, [], ◌∷◌, ⊤, length, slice_get, IsSomeAnd}
+use Rattle.std.specs.Int.{is_power_of_two}
+use Rattle.std.specs.Option.{option_and_then}
+use Rattle.wgsl_apply.specs.Literals.{natural_of}
+use Rattle.wgsl_rules.specs.Layout.{is_at_least}
+use Rattle.wgsl_rules.specs.Size.{size_of}
+use Rattle.wgsl_rules.specs.Types.{Ty, struct}
+use Rattle.wgsl_rules.specs.Values.{Val}
+use Rattle.wgsl_rules.specs.View.{«Field» as Member, fields_of, member_view, type_view}
+use Rattle.wgsl_source.specs.Readings.{word_at}
+use Rattle.wgsl_source.specs.declared.expression.Span.{Span}
+use Rattle.wgsl_source.specs.declared.module.DeclaredVariable.{DeclaredVariable}
+use Rattle.wgsl_source.specs.declared.module.Field.{Field}
+use Rattle.wgsl_eval.specs.Answers.{IsAnswer, value_in}
+use Rattle.wgsl_eval.specs.Calls.{type_in}
+use Rattle.wgsl_eval.specs.Evaluators.{Setting}
+use Rattle.wgsl_eval.specs.Runs.{IsFound}
+use Rattle.wgsl_eval.specs.declared.answer.Answer.{Answer}
+use Rattle.wgsl_eval.specs.declared.answer.Answer.TheVariants as answers
+use Rattle.wgsl_eval.specs.declared.attribute.Attribute.{Attribute}
+use Rattle.wgsl_eval.specs.declared.attribute.Attribute.TheVariants as attributes
+use Rattle.wgsl_eval.specs.declared.attribute.Use.{Use}
+use Rattle.wgsl_eval.specs.declared.attribute.Use.TheVariants as uses
+use Rattle.wgsl_eval.specs.declared.structure.FoundMember.{FoundMember}
+use Rattle.wgsl_eval.specs.declared.structure.FoundMember.TheVariants as founds
+use Rattle.wgsl_eval.specs.declared.variable.Variable.{Variable}
+
+-- no value and no type
+abbrev pub IsNone : Answer → Type 0
+IsNone (answers.Value v) = ⊥
+IsNone (answers.Type t) = ⊥
+IsNone (answers.Bitcast t) = ⊥
+IsNone (answers.Variable v) = ⊥
+IsNone a = ⊤
+
+-- the expression stands for the type
+abbrev pub IsTypeFound : Setting → Span → Ty → Type 0
+IsTypeFound s span t = (a : Answer) × IsFound s span a × (type_in a ≡ Some t)
+
+-- ---- attributes
+
+-- whether a number is valid: a size is at least that of the type, an alignment a power of two
+abbrev pub is_valid_for : Use → ℕ → Bool
+is_valid_for (uses.Size t) n = is_at_least n (size_of (type_view t.now))
+is_valid_for uses.Align n = is_power_of_two n
+is_valid_for uses.Binding n = true
+
+-- an attribute that is given has a valid number
+abbrev pub IsNumberGiven : Setting → Option Span → (ℕ → Bool) → Option ℕ → Type 0
+IsNumberGiven s None valid n = n ≡ None
+IsNumberGiven s (Some span) valid n =
+    (a : Answer) × IsFound s span a × (option_and_then natural_of (value_in a) ≡ n) × IsSomeAnd n (λ k. valid k ≡ true)
+
+abbrev pub IsAttribute : Setting → Option Span → (ℕ → Bool) → Attribute → Type 0
+IsAttribute s span valid (attributes.Number n) = IsNumberGiven s span valid n
+IsAttribute s span valid (attributes.Other a) = IsAnswer a × IsNone a
+
+-- the number that a value is, where it is valid
+abbrev pub IsNumberOf : Val → (ℕ → Bool) → Attribute → Type 0
+IsNumberOf v valid (attributes.Number n) = (natural_of v ≡ n) × IsSomeAnd n (λ k. valid k ≡ true)
+IsNumberOf v valid (attributes.Other a) = IsAnswer a × IsNone a
+
+-- ---- structures
+
+-- a member has its name, its type, and its attributes
+pub record IsMember (s : Setting) (f : Field) (m : Member) : Type 0 where
+  pub name : m.name ≡ word_at s.source f.name
+  pub ty : IsTypeFound s f.ty m.ty
+  pub size : IsNumberGiven s f.size (λ n. is_at_least n (size_of m.ty)) m.size
+  pub align : IsNumberGiven s f.align is_power_of_two m.align
+
+abbrev pub IsFoundMember : Setting → Field → FoundMember → Type 0
+IsFoundMember s f (founds.Member m of) = IsMember s f (member_view m)
+IsFoundMember s f (founds.Other a) = IsAnswer a × IsNone a
+
+-- the members of these numbers, from the first on
+abbrev pub AreMembers : Setting → ℕ → List Member → Type 0
+AreMembers s first [] = ⊤
+AreMembers s first (m ∷ ms) = IsSomeAnd (slice_get s.source.fields first) (λ f. IsMember s f m) × AreMembers s (first + 1) ms
+
+-- an answer that is a type is the structure of these members
+abbrev pub IsStructureOf : List ℕ → List Member → Answer → Type 0
+IsStructureOf name ms (answers.Type t) = type_view t.ty ≡ struct name (fields_of ms)
+IsStructureOf name ms answer = IsNone answer
+
+abbrev pub IsStructure : Setting → ℕ → ℕ → ℕ → Answer → Type 0
+IsStructure s name first end (answers.Type t) =
+    (ms : List Member) × (type_view t.ty ≡ struct (word_at s.source name) (fields_of ms)) × (length ms ≡ end - first) × AreMembers s first ms
+IsStructure s name first end answer = IsNone answer
+
+-- ---- variables
+
+-- a variable has its type, its address space and access mode as they are given, and the numbers of its attributes
+pub record IsVariableOf (s : Setting) (d : DeclaredVariable) (v : Variable) : Type 0 where
+  pub ty : IsSomeAnd d.ty (λ span. IsTypeFound s span (type_view v.ty))
+  pub space : v.space ≡ d.space
+  pub access : v.access ≡ d.access
+  pub group : IsNumberGiven s d.group (λ n. true) v.group
+  pub binding : IsNumberGiven s d.binding (λ n. true) v.binding
+
+abbrev pub IsVariable : Setting → DeclaredVariable → Answer → Type 0
+IsVariable s d (answers.Variable v) = IsVariableOf s d v
+IsVariable s d answer = IsNone answer

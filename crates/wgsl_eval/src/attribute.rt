@@ -1,0 +1,117 @@
+//! The numbers that attributes give (WGSL: attributes).
+
+ghost use Rattle.std.specs.Prelude.{◌≡◌, IfOk, None, is_none};
+ghost use Rattle.wgsl_rules.specs.Layout.{is_at_least};
+ghost use Rattle.wgsl_values.specs.View.{value_of};
+ghost use Rattle.wgsl_eval.specs.Answers.{AreAnswers, value_in};
+ghost use Rattle.wgsl_eval.specs.Evaluators.{setting_of};
+ghost use Rattle.wgsl_eval.specs.Structures.{IsAttribute, IsNone, IsNumberOf, is_valid_for};
+
+use crate::answer::{Answer, Need, Skip};
+use crate::call::natural_in;
+use crate::evaluator::Evaluator;
+use std::alloc::AllocError;
+use wgsl_source::Span;
+use wgsl_types::{Instance, Type};
+
+/// What an attribute gives, or why it gives nothing.
+#[derive(Drop)]
+pub(crate) enum Attribute {
+    /// A number, where an attribute is given.
+    Number(Option<u32>),
+    Other(Answer),
+}
+
+/// What the number of an attribute is used for.
+#[derive(Clone, Copy)]
+pub(crate) enum Use<'a> {
+    /// The size of a member of the type.
+    Size(&'a Type),
+    /// The alignment of a member.
+    Align,
+    /// The group or the binding of a variable.
+    Binding,
+}
+
+impl Evaluator<'_> {
+    /// The number that an attribute gives.
+    pub(crate) fn attribute(
+        &mut self,
+        span: Option<Span>,
+        of: Use<'_>,
+    ) -> Result<Attribute, AllocError>
+        requires { AreAnswers self.old.meanings.items }
+        ensures keeps { setting_of self.new ≡ setting_of self.old }
+        ensures attribute { IfOk result (IsAttribute (setting_of self.old) span (is_valid_for of)) }
+    {
+        let Some(span) = span else {
+            return Ok(Attribute::Number(None));
+        };
+        let answer = self.expression(span)?;
+        match answer {
+            Answer::Value(value) => self.number_for(span.token, &value.instance, of),
+            other => Ok(Attribute::Other(self.no_number(span.token, other)?)),
+        }
+    }
+}
+
+impl Evaluator<'_> {
+    // The number that a value is, where it may be used so.
+    fn number_for(
+        &self,
+        token: usize,
+        value: &Instance,
+        of: Use<'_>,
+    ) -> Result<Attribute, AllocError>
+        ensures { IfOk result (IsNumberOf (value_of value.now) (is_valid_for of)) }
+    {
+        let Some(number) = natural_in(value) else {
+            let text = "an attribute is from 0 to 4294967295";
+            return Ok(Attribute::Other(self.wrong_text(token, text)?));
+        };
+        match of.refusal(number) {
+            None => Ok(Attribute::Number(Some(number))),
+            Some(text) => Ok(Attribute::Other(self.wrong_text(token, text)?)),
+        }
+    }
+
+    // What is left where no value is found: an attribute is a constant.
+    fn no_number(&self, token: usize, answer: Answer) -> Result<Answer, AllocError>
+        requires none { value_in answer ≡ None }
+        ensures none { IfOk result IsNone }
+    {
+        match answer {
+            Answer::Skipped(Skip {
+                need: Need::NotConstant, ..
+            }) => self.wrong_text(token, "an attribute is a constant"),
+            Answer::Type(_) | Answer::Bitcast(_) => {
+                self.wrong_text(token, "a type stands where a value belongs")
+            }
+            other => Ok(other),
+        }
+    }
+}
+
+impl Use<'_> {
+    // Why the number may not be used so.
+    fn refusal(self, number: u32) -> Option<&'static str>
+        ensures { is_none result ≡ is_valid_for self number }
+    {
+        match self {
+            Use::Size(ty) if !is_at_least(number, ty.size_of()) => {
+                Some("the type takes another size")
+            }
+            Use::Align if !number.is_power_of_two() => Some("an alignment is a power of 2"),
+            Use::Size(_) | Use::Align | Use::Binding => None,
+        }
+    }
+}
+
+fn is_at_least(number: u32, least: Option<u32>) -> bool
+    ensures { result ≡ is_at_least number least }
+{
+    match least {
+        Some(least) => least <= number,
+        None => false,
+    }
+}

@@ -1,0 +1,124 @@
+//! The declarations of a module with their types and values (WGSL: declaration and scope).
+
+ghost use Rattle.std.specs.Prelude.{◌≡◌, ◌≤◌, IfOk, vec_len};
+ghost use Rattle.std.specs.List.Sorted.{IsSortedByKey};
+ghost use Rattle.std.specs.Ordering.{nat_cmp};
+ghost use Rattle.wgsl_eval.specs.Answers.{AreAnswers};
+ghost use Rattle.wgsl_eval.specs.Evaluated.{AreDeclarations, AreItems, IsItem, kind_in};
+ghost use Rattle.wgsl_eval.specs.Evaluators.{setting_of};
+
+use crate::answer::Answer;
+use crate::evaluator::{Evaluator, popped};
+use crate::message::Message;
+use crate::variable::Variable;
+use std::alloc::{AllocError, Global};
+use wgsl_source::{Declared, Extent, Reading};
+use wgsl_types::{Instance, ShaderStage, Type};
+
+/// The declarations of a module in their order, and what is told of them in its order; of many messages
+/// the first that are found.
+#[derive(Debug, Drop)]
+pub struct Declarations {
+    pub items: Vec<Item>,
+    pub messages: Vec<Message>,
+}
+
+/// A declaration: its name, the bytes of the source that the name has, and what is declared.
+#[derive(Debug, Drop)]
+pub struct Item {
+    pub name: String,
+    pub start: usize,
+    pub end: usize,
+    pub kind: ItemKind,
+}
+
+/// What is declared.
+#[derive(Debug, Drop)]
+pub enum ItemKind {
+    /// A structure type.
+    Struct(Type),
+    /// Another name for a type.
+    Alias(Type),
+    /// A value that is known before the shader runs.
+    Value(Instance),
+    /// A variable whose type has values in memory.
+    Variable(Variable),
+    /// A function, an `override`, a float, a texture, and whatever else has no such type and no such
+    /// value.
+    Skipped,
+    /// What has a fault, or names what has one.
+    Faulty,
+}
+
+/// What the declarations of a module are found to be, for a host: the types of its structures and
+/// variables with their counts and attributes, which are evaluated as the constants are. Its
+/// assertions are not checked.
+///
+/// The only error is that memory is wanting.
+pub fn declarations(alloc: Global, reading: &Reading<'_>) -> Result<Declarations, AllocError>
+    ensures count { IfOk result (λ d. vec_len d.messages ≤ 100) }
+    ensures sorted { IfOk result (λ d. IsSortedByKey (λ m. m.start) nat_cmp d.messages.items) }
+    ensures items { IfOk result (λ d. AreDeclarations reading.now d.items.items) }
+{
+    let mut evaluator = Evaluator::new(alloc, reading, ShaderStage::Const, false)?;
+    evaluator.declare_all()?;
+    evaluator.into_declarations()
+}
+
+impl Evaluator<'_> {
+    fn into_declarations(self) -> Result<Declarations, AllocError>
+        requires { AreAnswers self.meanings.items }
+        ensures count { IfOk result (λ d. vec_len d.messages ≤ 100) }
+        ensures sorted { IfOk result (λ d. IsSortedByKey (λ m. m.start) nat_cmp d.messages.items) }
+        ensures items { IfOk result (λ d. AreItems (setting_of self.entry) 0 self.entry.reading.now.declared d.items.items) }
+    {
+        let Evaluator {
+            alloc,
+            reading,
+            messages,
+            mut meanings,
+            ..
+        } = self;
+        let messages = messages.into_sorted()?;
+        let mut items = Vec::with_capacity(alloc, reading.len())?;
+        meanings.reverse();
+        for number in 0..reading.len() {
+            let meaning = popped(&mut meanings);
+            items.push(item_of(alloc, reading, number, meaning)?)?;
+        }
+        Ok(Declarations { items, messages })
+    }
+}
+
+fn item_of(
+    alloc: Global,
+    reading: &Reading<'_>,
+    number: usize,
+    meaning: Answer,
+) -> Result<Item, AllocError>
+    ensures { IfOk result (IsItem reading.now number meaning) }
+{
+    let token = reading.name(number);
+    let Extent { start, end } = reading.extent(token);
+    Ok(Item {
+        name: String::from_str(alloc, reading.word(token))?,
+        start,
+        end,
+        kind: kind_of(reading.declared(number), meaning),
+    })
+}
+
+fn kind_of(declared: Option<Declared>, meaning: Answer) -> ItemKind
+    ensures { result ≡ kind_in declared meaning }
+{
+    match meaning {
+        Answer::Type(of) => match declared {
+            Some(Declared::Struct { .. }) => ItemKind::Struct(of.ty),
+            _ => ItemKind::Alias(of.ty),
+        },
+        Answer::Value(value) => ItemKind::Value(value.instance),
+        Answer::Variable(variable) => ItemKind::Variable(variable),
+        Answer::Skipped(_) => ItemKind::Skipped,
+        Answer::Bitcast(_) | Answer::Wrong(_, _) | Answer::Faulty => ItemKind::Faulty,
+    }
+}

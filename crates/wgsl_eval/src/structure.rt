@@ -1,0 +1,129 @@
+//! The types of structures (WGSL: structure types).
+
+ghost use Rattle.std.specs.Prelude.{◌≡◌, IfOk, map};
+ghost use Rattle.wgsl_rules.specs.View.{member_view, type_view};
+ghost use Rattle.wgsl_source.specs.Readings.{word_at};
+ghost use Rattle.wgsl_eval.specs.Answers.{AreAnswers, IsAnswer};
+ghost use Rattle.wgsl_eval.specs.Evaluators.{setting_of};
+ghost use Rattle.wgsl_eval.specs.Structures.{IsFoundMember, IsStructure, IsStructureOf, IsTypeFound};
+
+use crate::answer::{Answer, SizedType};
+use crate::attribute::{Attribute, Use};
+use crate::evaluator::Evaluator;
+use crate::types::{Together, structure};
+use std::alloc::AllocError;
+use std::collections::BTreeMap;
+use wgsl_source::Field;
+use wgsl_types::{StructMemberType, StructType, Type};
+
+/// What a member is found to be.
+#[derive(Drop)]
+pub(crate) enum FoundMember {
+    Member(StructMemberType, Together),
+    /// Why it is none.
+    Other(Answer),
+}
+
+impl Evaluator<'_> {
+    /// The type of a structure of this name, with the members of these numbers, the end one not.
+    pub(crate) fn structure(
+        &mut self,
+        name: usize,
+        first: usize,
+        end: usize,
+    ) -> Result<Answer, AllocError>
+        requires { AreAnswers self.old.meanings.items }
+        ensures keeps { setting_of self.new ≡ setting_of self.old }
+        ensures structure { IfOk result (IsStructure (setting_of self.old) name first end) }
+        ensures answer { IfOk result IsAnswer }
+    {
+        let mut members = Vec::new(self.alloc);
+        let mut together = Together::NONE;
+        let mut names = BTreeMap::new(self.alloc);
+        for number in first..end {
+            let Some(field) = self.reading.field(number) else {
+                return Ok(Answer::Faulty);
+            };
+            let word = String::from_str(self.alloc, self.reading.word(field.name))?;
+            if names.insert(word, ())?.is_some() {
+                return self.wrong_text(field.name, "another member has this name");
+            }
+            match self.field(field)? {
+                FoundMember::Member(member, of) => {
+                    members.push(member)?;
+                    together = together.with(of);
+                }
+                FoundMember::Other(answer) => return Ok(answer),
+            }
+        }
+        self.structure_of(name, members, together)
+    }
+
+    fn structure_of(
+        &self,
+        name: usize,
+        members: Vec<StructMemberType>,
+        together: Together,
+    ) -> Result<Answer, AllocError>
+        ensures structure { IfOk result (IsStructureOf (word_at self.now.reading.now name) (map member_view members.items)) }
+        ensures answer { IfOk result IsAnswer }
+    {
+        let name_text = String::from_str(self.alloc, self.reading.word(name))?;
+        let ty = StructType {
+            name: name_text,
+            members,
+        };
+        let of = structure(self.alloc, ty, together)?;
+        self.limited(name, of)
+    }
+
+    fn field(&mut self, field: Field) -> Result<FoundMember, AllocError>
+        requires { AreAnswers self.old.meanings.items }
+        ensures keeps { setting_of self.new ≡ setting_of self.old }
+        ensures found { IfOk result (IsFoundMember (setting_of self.old) field) }
+    {
+        let answer = self.expression(field.ty)?;
+        match answer {
+            Answer::Type(of) => self.field_of(field, of),
+            other => Ok(FoundMember::Other(self.no_type(field.ty.token, other)?)),
+        }
+    }
+
+    // A member of the type that is found.
+    fn field_of(&mut self, field: Field, of: SizedType) -> Result<FoundMember, AllocError>
+        requires meanings { AreAnswers self.old.meanings.items }
+        requires found { IsTypeFound (setting_of self.old) field.ty (type_view of.ty) }
+        ensures keeps { setting_of self.new ≡ setting_of self.old }
+        ensures found { IfOk result (IsFoundMember (setting_of self.old) field) }
+    {
+        let size = match self.attribute(field.size, Use::Size(&of.ty))? {
+            Attribute::Number(number) => number,
+            Attribute::Other(answer) => return Ok(FoundMember::Other(answer)),
+        };
+        let align = match self.attribute(field.align, Use::Align)? {
+            Attribute::Number(number) => number,
+            Attribute::Other(answer) => return Ok(FoundMember::Other(answer)),
+        };
+        let together = Together {
+            nodes: of.nodes,
+            size: of.size,
+            has_float: of.has_float,
+            is_aligned: of.is_aligned && is_aligned(align, &of.ty),
+        };
+        let member = StructMemberType {
+            name: String::from_str(self.alloc, self.reading.word(field.name))?,
+            ty: of.ty,
+            size,
+            align,
+        };
+        Ok(FoundMember::Member(member, together))
+    }
+}
+
+// Whether the align attribute is a multiple of the alignment of the type.
+fn is_aligned(align: Option<u32>, ty: &Type) -> bool {
+    match (align, ty.align_of()) {
+        (Some(align), Some(least)) => align.is_multiple_of(least),
+        (_, _) => true,
+    }
+}

@@ -1,0 +1,85 @@
+//! The variables of a module (WGSL: variable declarations; resource interface).
+
+ghost use Rattle.std.specs.Prelude.{◌≡◌, IfOk, Some};
+ghost use Rattle.wgsl_rules.specs.View.{type_view};
+ghost use Rattle.wgsl_eval.specs.Answers.{AreAnswers, IsAnswer};
+ghost use Rattle.wgsl_eval.specs.Evaluators.{setting_of};
+ghost use Rattle.wgsl_eval.specs.Structures.{IsTypeFound, IsVariable};
+
+use crate::answer::{Answer, Need, SizedType};
+use crate::attribute::{Attribute, Use};
+use crate::evaluator::Evaluator;
+use std::alloc::AllocError;
+use wgsl_source::{DeclaredVariable, Span};
+use wgsl_types::{AccessMode, AddressSpace, Type};
+
+/// A variable of a module: its type, and what is given of its address space, its access mode and the
+/// numbers by which a host names it (WGSL: variable declarations; resource interface).
+#[derive(Debug, Drop)]
+pub struct Variable {
+    pub ty: Type,
+    /// `None` where no address space is given.
+    pub space: Option<AddressSpace>,
+    /// `None` where it is what the address space says.
+    pub access: Option<AccessMode>,
+    pub group: Option<u32>,
+    pub binding: Option<u32>,
+}
+
+impl Evaluator<'_> {
+    /// What a variable of this name is found to be. One without a type is not evaluated.
+    pub(crate) fn variable(
+        &mut self,
+        name: usize,
+        declared: DeclaredVariable,
+    ) -> Result<Answer, AllocError>
+        requires { AreAnswers self.old.meanings.items }
+        ensures keeps { setting_of self.new ≡ setting_of self.old }
+        ensures variable { IfOk result (IsVariable (setting_of self.old) declared) }
+        ensures answer { IfOk result IsAnswer }
+    {
+        let Some(span) = declared.ty else {
+            return Ok(self.skipped(name, Need::NotConstant));
+        };
+        let answer = self.expression(span)?;
+        match answer {
+            Answer::Type(of) => self.variable_of(declared, span, of),
+            other => self.no_type(span.token, other),
+        }
+    }
+
+    // A variable of the type that is found. In storage space each align attribute is a multiple of
+    // the alignment of its member's type; the rules of uniform space are told of the type.
+    fn variable_of(
+        &mut self,
+        declared: DeclaredVariable,
+        span: Span,
+        of: SizedType,
+    ) -> Result<Answer, AllocError>
+        requires meanings { AreAnswers self.old.meanings.items }
+        requires ty { declared.ty ≡ Some span }
+        requires found { IsTypeFound (setting_of self.old) span (type_view of.ty) }
+        ensures keeps { setting_of self.new ≡ setting_of self.old }
+        ensures variable { IfOk result (IsVariable (setting_of self.old) declared) }
+        ensures answer { IfOk result IsAnswer }
+    {
+        if declared.space == Some(AddressSpace::Storage) && !of.is_aligned {
+            return self.wrong_text(span.token, "a member needs another alignment");
+        }
+        let group = match self.attribute(declared.group, Use::Binding)? {
+            Attribute::Number(number) => number,
+            Attribute::Other(answer) => return Ok(answer),
+        };
+        let binding = match self.attribute(declared.binding, Use::Binding)? {
+            Attribute::Number(number) => number,
+            Attribute::Other(answer) => return Ok(answer),
+        };
+        Ok(Answer::Variable(Variable {
+            ty: of.ty,
+            space: declared.space,
+            access: declared.access,
+            group,
+            binding,
+        }))
+    }
+}
