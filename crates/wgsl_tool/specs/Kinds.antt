@@ -4,8 +4,8 @@ use Rattle.wgsl_rules.specs.Types.{Ty, struct}
 use Rattle.wgsl_rules.specs.View.{type_view}
 use Rattle.wgsl_rules.specs.declared.syntax.AddressSpace.{AddressSpace}
 use Rattle.wgsl_rules.specs.declared.syntax.AddressSpace.TheVariants as spaces
-use Rattle.wgsl_source.specs.declared.source.ItemKind.{ItemKind}
-use Rattle.wgsl_source.specs.declared.source.ItemKind.TheVariants as kinds
+use Rattle.wgsl_eval.specs.declared.declarations.ItemKind.{ItemKind}
+use Rattle.wgsl_eval.specs.declared.declarations.ItemKind.TheVariants as kinds
 
 -- variables of the storage and uniform address spaces are shared
 abbrev pub is_shared_space : Option AddressSpace → Bool

@@ -3,8 +3,8 @@
 use crate::rows::{MemberRow, Row, rows_of};
 use crate::structures::{Asked, Laid, innermost, structure};
 use std::alloc::{AllocError, Global};
+use wgsl_eval::Item;
 use wgsl_rules::StructType;
-use wgsl_source::Item;
 
 /// How many bytes a line has.
 const LINE: u64 = 16;

@@ -15,7 +15,7 @@ use wgsl_rules::{StructType, Type};
 pub(crate) fn add_c(
     alloc: Global,
     text: &mut String,
-    order: &Vec<usize>,
+    order: &[usize],
     asked: Asked<'_>,
 ) -> Result<(), AllocError> {
     text.push_str("#include <stddef.h>\n#include <stdint.h>\n")?;

@@ -6,8 +6,8 @@ ghost use Rattle.wgsl_tool.specs.Texts.{entry_text, runtime_entry};
 use crate::structures::{Asked, Laid, RuntimePart, runtime_member, runtime_part};
 use crate::uniform::{add_rule, broken_rules};
 use std::alloc::{AllocError, Global};
+use wgsl_eval::Variable;
 use wgsl_rules::{AccessMode, AddressSpace, MemberLayout, StructMemberType, StructType, Type};
-use wgsl_source::Variable;
 
 /// One object, with the structures and the variables in their order. A number that is not known is
 /// `null`.

@@ -9,6 +9,7 @@ mod eval;
 mod evaluating;
 mod fields;
 mod json;
+mod layouts;
 mod report;
 mod rows;
 mod rust;
@@ -18,9 +19,10 @@ mod uniform;
 
 use arguments::{Arguments, Asked, arguments_of};
 use end::End;
-use eval::{Values, values_of};
+use eval::values_of;
 use evaluating::{Evaluating, Subject};
-use report::report_of;
+use layouts::layouts_of;
+use report::Report;
 use std::process::ExitCode;
 use std::rt::{Env, Files};
 use std::{env, fs, io};
@@ -83,7 +85,7 @@ fn run<R: AllocGlobal + Input + Print + Eprint + Files + Env>(rt: &R) -> io::Res
             print!(rt; "{VERSION}")?;
             Ok(End::Well)
         }
-        Some(Asked::Layout(arguments)) => layout(rt, arguments),
+        Some(Asked::Layout(arguments)) => print_layouts(rt, arguments),
         Some(Asked::Eval(asked)) => print_values(rt, asked),
     }
 }
@@ -96,14 +98,14 @@ fn print_values<R: AllocGlobal + Input + Print + Eprint + Files>(
     let file = match asked.subject {
         Subject::Expression(text) => {
             let values = values_of(rt.alloc(), text, "expression", asked)?;
-            return end_of(rt, &values);
+            return print_report(rt, &values);
         }
         Subject::File(file) => file,
     };
     match read(rt, file) {
         Ok(source) => {
             let values = values_of(rt.alloc(), source.as_str(), file, asked)?;
-            end_of(rt, &values)
+            print_report(rt, &values)
         }
         Err(error) => {
             eprintln!(rt; "wgsl_tool: {file}: {error}")?;
@@ -112,14 +114,14 @@ fn print_values<R: AllocGlobal + Input + Print + Eprint + Files>(
     }
 }
 
-fn end_of<R: Print + Eprint>(rt: &R, values: &Values) -> io::Result<End> {
-    print!(rt; "{}", values.output)?;
-    eprint!(rt; "{}", values.errors)?;
-    Ok(values.end())
+fn print_report<R: Print + Eprint>(rt: &R, report: &Report) -> io::Result<End> {
+    print!(rt; "{}", report.output)?;
+    eprint!(rt; "{}", report.errors)?;
+    Ok(report.end())
 }
 
 // Reads the source and prints what it is asked for.
-fn layout<R: AllocGlobal + Input + Print + Eprint + Files>(
+fn print_layouts<R: AllocGlobal + Input + Print + Eprint + Files>(
     rt: &R,
     arguments: Arguments<'_>,
 ) -> io::Result<End> {
@@ -131,10 +133,8 @@ fn layout<R: AllocGlobal + Input + Print + Eprint + Files>(
             return Ok(End::Io);
         }
     };
-    let report = report_of(rt.alloc(), source.as_str(), arguments)?;
-    print!(rt; "{}", report.output)?;
-    eprint!(rt; "{}", report.errors)?;
-    Ok(report.end())
+    let layouts = layouts_of(rt.alloc(), source.as_str(), arguments)?;
+    print_report(rt, &layouts)
 }
 
 fn read<R: AllocGlobal + Input + Files>(rt: &R, file: &str) -> io::Result<String> {

@@ -1,18 +1,12 @@
-//! What is printed of a source.
+//! What is printed of a source, and what is told of it.
 
-ghost use Rattle.std.specs.Prelude.{◌≡◌, ◌==◌, is_some, string_len, if◌then◌else◌};
-ghost use Rattle.wgsl_tool.specs.Kinds.{is_left_out};
+ghost use Rattle.std.specs.Prelude.{◌≡◌, if◌then◌else◌};
+ghost use Rattle.wgsl_tool.specs.Endings.{has_faults, is_fault};
 
-use crate::arguments::{Arguments, Format};
-use crate::bytes::add_bytes;
-use crate::c::add_c;
 use crate::end::End;
-use crate::json::add_json;
-use crate::rust::add_rust;
-use crate::structures::{Asked, is_shared};
-use crate::table::add_tables;
 use std::alloc::{AllocError, Global};
-use wgsl_source::{Fault, ItemKind, Lines, Source};
+use wgsl_eval::{Message, Severity};
+use wgsl_source::{Fault, Lines, Reading};
 
 /// How many characters of what was found are printed.
 const FOUND: usize = 40;
@@ -20,11 +14,12 @@ const FOUND: usize = 40;
 /// How many characters of a line are printed.
 const SHOWN: usize = 120;
 
-/// What goes to standard output and to standard error.
+/// What goes to standard output and to standard error, and whether a fault is among that.
 #[derive(Drop)]
 pub(crate) struct Report {
     pub(crate) output: String,
     pub(crate) errors: String,
+    pub(crate) has_faults: bool,
 }
 
 impl Report {
@@ -32,81 +27,102 @@ impl Report {
 
     /// How the program ends that prints it.
     pub(crate) fn end(&self) -> End
-        ensures { result ≡ (if string_len self.now.errors == 0 then Well else Faults) }
+        ensures { result ≡ (if self.now.has_faults then Faults else Well) }
     {
-        if self.errors.is_empty() {
-            End::Well
-        } else {
+        if self.has_faults {
             End::Faults
+        } else {
+            End::Well
         }
     }
 }
 
-/// What a source has of what is asked for, and all that is wrong in it.
-pub(crate) fn report_of(
+/// A source, and by what its places are told.
+#[derive(Drop)]
+struct Source<'a> {
+    file: &'a str,
+    text: &'a str,
+    lines: &'a Lines,
+}
+
+/// Whether a fault is told: one of the form, or a message that is one.
+pub(crate) fn has_faults(reading: &Reading<'_>, messages: &[Message]) -> bool
+    ensures { result ≡ has_faults reading.now.faults messages.now }
+{
+    !reading.faults().is_empty() || messages.iter().any(is_fault)
+}
+
+fn is_fault(message: &Message) -> bool
+    ensures { result ≡ is_fault message.now.severity }
+{
+    message.severity == Severity::Fault
+}
+
+/// What is told of a source: what is wrong in its form, and the messages, in the order of the places.
+/// At one place what is wrong in the form is first.
+pub(crate) fn told(
     alloc: Global,
+    file: &str,
     text: &str,
-    arguments: Arguments<'_>,
-) -> Result<Report, AllocError> {
-    let source = Source::read(alloc, text)?;
-    let asked = Asked::new(source.items.as_slice(), arguments.names);
-    let mut output = String::new(alloc);
-    match arguments.format {
-        Format::Table => add_tables(alloc, &mut output, asked)?,
-        Format::Bytes => add_bytes(alloc, &mut output, asked)?,
-        Format::Json | Format::Rust | Format::C => {
-            let names = asked.names_with_inner(alloc)?;
-            let asked = Asked::new(source.items.as_slice(), names.as_slice());
-            add_for_programs(alloc, &mut output, arguments.format, &source.order, asked)?;
-        }
-    }
+    reading: &Reading<'_>,
+    messages: &[Message],
+) -> Result<String, AllocError> {
+    let lines = Lines::new(alloc, text)?;
+    let source = Source {
+        file,
+        text,
+        lines: &lines,
+    };
     let mut errors = String::new(alloc);
-    add_faults(alloc, &mut errors, &source, text, arguments.file)?;
-    add_missing(&mut errors, &source, arguments)?;
-    Ok(Report { output, errors })
-}
-
-fn add_for_programs(
-    alloc: Global,
-    output: &mut String,
-    format: Format,
-    order: &Vec<usize>,
-    asked: Asked<'_>,
-) -> Result<(), AllocError> {
-    match format {
-        Format::Rust => add_rust(alloc, output, asked),
-        Format::C => add_c(alloc, output, order, asked),
-        _ => add_json(alloc, output, asked),
+    let mut faults = reading.faults();
+    for message in messages {
+        let count = faults.partition_point(|fault| fault.start <= message.start);
+        let (before, behind) = faults.split_at(count);
+        add_faults(&mut errors, &source, before)?;
+        add_message(&mut errors, &source, message)?;
+        faults = behind;
     }
+    add_faults(&mut errors, &source, faults)?;
+    Ok(errors)
 }
 
 fn add_faults(
-    alloc: Global,
     errors: &mut String,
-    source: &Source,
-    text: &str,
-    file: &str,
+    source: &Source<'_>,
+    faults: &[Fault],
 ) -> Result<(), AllocError> {
-    let lines = Lines::new(alloc, text)?;
-    for fault in &source.faults {
-        add_fault(errors, &lines, *fault, text, file)?;
+    for fault in faults {
+        add_fault(errors, source, *fault)?;
     }
     Ok(())
 }
 
-/// Where it is, what is wrong, and the line with a mark below what was found.
-pub(crate) fn add_fault(
-    errors: &mut String,
-    lines: &Lines,
-    fault: Fault,
-    text: &str,
-    file: &str,
-) -> Result<(), AllocError> {
+// Where it is, what is wrong, and the line with a mark below what was found.
+fn add_fault(errors: &mut String, source: &Source<'_>, fault: Fault) -> Result<(), AllocError> {
+    let Source { file, text, lines } = source;
     let place = lines.place(text, fault.start);
     let (line, column) = (place.line, place.column);
     let reason = fault.reason;
     write!(errors, "{file}:{line}:{column}: error: {reason}")?;
     add_found(errors, text.get(fault.start..fault.end).unwrap_or(""))?;
+    add_line(errors, lines.line(text, line), column.saturating_sub(1))
+}
+
+// Where it is, what is said, and the line with a mark.
+fn add_message(
+    errors: &mut String,
+    source: &Source<'_>,
+    message: &Message,
+) -> Result<(), AllocError> {
+    let Source { file, text, lines } = source;
+    let place = lines.place(text, message.start);
+    let (line, column) = (place.line, place.column);
+    let said = &message.text;
+    let kind = match message.severity {
+        Severity::Fault => "error",
+        Severity::Warning => "warning",
+    };
+    writeln!(errors, "{file}:{line}:{column}: {kind}: {said}")?;
     add_line(errors, lines.line(text, line), column.saturating_sub(1))
 }
 
@@ -122,8 +138,8 @@ fn add_found(errors: &mut String, found: &str) -> Result<(), AllocError> {
     errors.push_str("`\n")
 }
 
-/// The line, or the part of it round this character, and a mark below the character.
-pub(crate) fn add_line(errors: &mut String, line: &str, before: usize) -> Result<(), AllocError> {
+// The line, or the part of it round this character, and a mark below the character.
+fn add_line(errors: &mut String, line: &str, before: usize) -> Result<(), AllocError> {
     let left_out = if before < SHOWN {
         0
     } else {
@@ -139,40 +155,4 @@ pub(crate) fn add_line(errors: &mut String, line: &str, before: usize) -> Result
         errors.push(if character == '\t' { '\t' } else { ' ' })?;
     }
     errors.push_str("^\n")
-}
-
-// Names that are asked for and not there, or that have no layout here.
-fn add_missing(
-    errors: &mut String,
-    source: &Source,
-    arguments: Arguments<'_>,
-) -> Result<(), AllocError> {
-    let file = arguments.file;
-    for name in arguments.names {
-        let name = name.as_str();
-        let mut items = source.items.iter();
-        match items.find(|item| item.name.as_str() == name) {
-            Some(item) => {
-                if let Some(reason) = why_left_out(&item.kind) {
-                    writeln!(errors, "{file}: error: `{name}` {reason}")?;
-                }
-            }
-            None => writeln!(errors, "{file}: error: nothing has the name `{name}`")?,
-        }
-    }
-    Ok(())
-}
-
-// Why nothing is printed of a declaration; what has a fault is told among the faults.
-fn why_left_out(kind: &ItemKind) -> Option<&'static str>
-    ensures { is_some result ≡ is_left_out kind.now }
-{
-    match kind {
-        ItemKind::Struct(_) | ItemKind::Faulty => None,
-        ItemKind::Variable(variable) if is_shared(variable) => None,
-        ItemKind::Variable(_) => Some("is skipped: it is no variable in storage or uniform space"),
-        ItemKind::Alias(_) => Some("is skipped: it is another name for a type"),
-        ItemKind::Value(_) => Some("is skipped: it is a value, which has no layout"),
-        ItemKind::Skipped => Some("is skipped: it has no layout here"),
-    }
 }

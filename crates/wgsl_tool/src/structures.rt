@@ -6,8 +6,8 @@ ghost use Rattle.wgsl_tool.specs.Kinds.{is_shared_space, is_structure, is_laid_o
 
 use crate::rows::{Row, rows_of};
 use std::alloc::{AllocError, Global};
+use wgsl_eval::{Item, ItemKind, Variable};
 use wgsl_rules::{AddressSpace, StructType, Type};
-use wgsl_source::{Item, ItemKind, Variable};
 
 /// The declarations of a source, and the names that are asked for; none are all.
 #[derive(Clone, Copy)]

@@ -18,8 +18,8 @@ use crate::rows::{MemberRow, PaddingRow, Row, rows_of};
 use crate::structures::{Asked, Laid, RuntimePart, runtime_member, runtime_part, structure};
 use crate::uniform::{add_rule, broken_rules};
 use std::alloc::{AllocError, Global};
+use wgsl_eval::Variable;
 use wgsl_rules::{AccessMode, AddressSpace, StructType, Type};
-use wgsl_source::Variable;
 
 /// A table of each structure and each variable, with an empty line between.
 pub(crate) fn add_tables(
