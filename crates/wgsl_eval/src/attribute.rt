@@ -83,7 +83,7 @@ impl Evaluator<'_> {
         match answer {
             Answer::Skipped(Skip {
                 need: Need::NotConstant, ..
-            }) => self.wrong_text(token, "an attribute is a constant"),
+            }) | Answer::Variable(_) => self.wrong_text(token, "an attribute is a constant"),
             Answer::Type(_) | Answer::Bitcast(_) => {
                 self.wrong_text(token, "a type stands where a value belongs")
             }
