@@ -6,7 +6,6 @@ pub mod Mixed
 pub mod NameLemmas
 pub mod NamedLemmas
 pub mod Numerals
-pub mod OperatorLemmas
 pub mod Positions
 pub mod ReadingLemmas
 pub mod Suffixes
