@@ -2,7 +2,6 @@ pub mod Boundaries
 pub mod LineEnds
 pub mod LineStarts
 pub mod LiteralLemmas
-pub mod Mixed
 pub mod NameLemmas
 pub mod NamedLemmas
 pub mod Numerals

@@ -33,7 +33,7 @@ const ORDERS: [(&str, &str); 5] = [
         "@group(G) @binding(0) var<uniform> v: A; alias A = vec2<f32>; override G = f(A);",
         "A; G; v",
     ),
-    ("fn f() { g(); } const N = f(M); const M = 1;", "f; M; N"),
+    ("const N = f(1); fn f() { g(); }", "f; N"),
 ];
 
 fn text_of_variable(alloc: Global, source: &str) -> Result<String, AllocError> {
