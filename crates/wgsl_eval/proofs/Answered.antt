@@ -60,6 +60,7 @@ pub unready-none : (a b : Answer) → value_in a ≡ None → IsUnready a b → 
 unready-none (answers.Value v) b h k = cc
 unready-none (answers.Type t) b h k = fault-none b k
 unready-none (answers.Bitcast t) b h k = fault-none b k
+unready-none (answers.Variable v) b h k = skipped-none b k
 unready-none a b h k = ap value_in k ∙ h
 
 pub made-by : (p : Option Val) (w : Val) (P : Type 0) (o : Option Instance) (a : Answer) → p ≡ Some w → MatchOption o P (λ v. value_of v ≡ w)

@@ -41,6 +41,7 @@ none-call_of : (callee : Answer) (given : List Answer) (a : Answer) → value_in
 none-call_of (answers.Type t) given a h = none-values (constructed (type_view t.ty)) given a h
 none-call_of (answers.Bitcast t) given a h = none-values (bitcast_alone (type_view t.ty)) given a h
 none-call_of (answers.Value v) given a h = h
+none-call_of (answers.Variable v) given a h = h
 none-call_of (answers.Skipped s) given a h = h
 none-call_of (answers.Wrong m g) given a h = h
 none-call_of answers.Faulty given a h = h
@@ -55,9 +56,11 @@ copied-call m (answers.Wrong message guard) given a h k = none-call_of m given a
 copied-call (answers.Type t) (answers.Type u) given a h k = let P : Ty → Type 0 = λ x. IsOfValuesOf (constructed x) given a in subst P h k
 copied-call (answers.Value v) (answers.Value w) given a h k = k
 copied-call (answers.Skipped s) (answers.Skipped t) given a h k = k
+copied-call (answers.Variable v) (answers.Skipped t) given a h k = k
 copied-call (answers.Value v) c given a h k = absurd h
 copied-call (answers.Type t) c given a h k = absurd h
 copied-call (answers.Skipped s) c given a h k = absurd h
+copied-call (answers.Variable v) c given a h k = absurd h
 copied-call (answers.Bitcast t) c given a h k = let P : Answer → Type 0 = λ x. IsCallOf x given a in none-call_of (answers.Bitcast t) given a (subst P h k)
 copied-call (answers.Wrong m g) c given a h k = let P : Answer → Type 0 = λ x. IsCallOf x given a in subst P h k
 copied-call answers.Faulty c given a h k = let P : Answer → Type 0 = λ x. IsCallOf x given a in subst P h k

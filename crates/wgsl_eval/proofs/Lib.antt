@@ -7,7 +7,6 @@ pub mod Each
 pub mod Kept
 pub mod MadeTypes
 pub mod MadeValues
-pub mod NameLists
 pub mod PartLemmas
 pub mod Puts
 pub mod Refusing
@@ -15,6 +14,8 @@ pub mod Scalars
 pub mod Seconds
 pub mod Stacks
 pub mod StructureMembers
+pub mod Structures
 pub mod Swizzles
 pub mod TakenValues
+pub mod Told
 pub mod Walks

@@ -6,6 +6,7 @@ use Rattle.std.proofs.Math.Seq.{lt-length-set}
 use Rattle.std.proofs.lemmas.List.{length-set, get_or-set_other, get_or-set_same}
 use Rattle.std.proofs.lemmas.Option.{slice_get-get_or, slice_get_cases, slice_get_past, unwrap_or-slice_get}
 use Rattle.wgsl_eval.specs.Answers.{meaning_at}
+use Rattle.wgsl_eval.specs.Evaluation.{name_at}
 use Rattle.wgsl_eval.specs.Evaluators.{Setting}
 use Rattle.wgsl_eval.specs.Meanings.{IsDeclared, IsFoundAt, IsPlaced, IsSecond, told, with_meaning}
 use Rattle.wgsl_eval.specs.declared.answer.Answer.{Answer}
@@ -53,7 +54,7 @@ found_second s n h = record { others = placed_same s s n refl; second = λ _. re
 
 pub found_first : {T E : Type 0} (result : Result T E) (s t u : Setting) (n len : ℕ) (m : Answer)
     → t ≡ s → length t.meanings ≡ len → IsPlaced t n u → OnOk result (n < len → meaning_at u.meanings n ≡ told m)
-    → IsDeclared s (slice_get s.source.declared n) m → (IsSecond s.source n → ⊥) → OnOk result (IsFoundAt s n u)
+    → IsDeclared s (name_at s.source n) (slice_get s.source.declared n) m → (IsSecond s.source n → ⊥) → OnOk result (IsFoundAt s n u)
 found_first (Ok x) s t u n len m e counted others there declared not =
     let P : Setting → Type 0 = λ v. IsPlaced v n u in
     let Q : Setting → Type 0 = λ v. n < length v.meanings in

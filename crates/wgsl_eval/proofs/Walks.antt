@@ -1,13 +1,19 @@
 -- Walks over steps and declarations, one after the other.
-use Rattle.std.proofs.Common.{◌≡◌, ℕ, suc, ◌+◌, ◌<◌, List, [], ◌∷◌, ◌++◌, length, get_or, drop, refl, sym, ap, ◌∙◌, subst, add-one, drop-cons}
+use Rattle.std.proofs.Common.{◌≡◌, ℕ, Bool, false, Result, Ok, Err, IfOk, suc, ◌+◌, ◌<◌, List, [], ◌∷◌, ◌++◌, length, get_or, drop, refl, sym, ap, ◌∙◌, subst, add-one, drop-cons}
 use Rattle.std.proofs.Math.Seq.{drop-length}
+use Rattle.wgsl_rules.specs.declared.syntax.ShaderStage.{ShaderStage}
+use Rattle.wgsl_rules.specs.declared.syntax.ShaderStage.TheVariants as stages
+use Rattle.wgsl_source.specs.Readings.{Outline}
 use Rattle.wgsl_source.specs.declared.expression.Step.{Step}
+use Rattle.wgsl_eval.specs.Evaluated.{AreDeclarations, AreEvaluated, AreItems, setting_before, values_of}
 use Rattle.wgsl_eval.specs.Evaluation.{value_names}
 use Rattle.wgsl_eval.specs.Evaluators.{Setting}
 use Rattle.wgsl_eval.specs.Given.{IsGiven, rest_of}
 use Rattle.wgsl_eval.specs.Meanings.{AreDeclared, IsFoundAt}
 use Rattle.wgsl_eval.specs.Runs.{IsRun}
 use Rattle.wgsl_eval.specs.declared.answer.Answer.{Answer}
+use Rattle.wgsl_eval.specs.declared.declarations.Item.{Item}
+use Rattle.wgsl_eval.specs.declared.evaluator.Evaluated.{Evaluated}
 
 dropped_at : {A : Type 0} (xs : List A) (i : ℕ) (d : A) → i < length xs → drop i xs ≡ get_or xs i d ∷ drop (i + 1) xs
 dropped_at xs i d h = rw add-one (drop-cons xs i d h)
@@ -81,3 +87,21 @@ same_names ns s t u d e =
     let source : u.source ≡ s.source = ap (λ (x : Setting). x.source) e ∙ same_source ns s t d in
     let stage : u.stage ≡ s.stage = ap (λ (x : Setting). x.stage) e ∙ same_stage ns s t d in
     sym (ap (λ o. value_names o u.stage 0 o.declared) source ∙ ap (λ g. value_names s.source g 0 s.source.declared) stage)
+
+-- from nothing that is known to all that is told
+pub evaluated : {T E : Type 0} (o : Outline) (stage : ShaderStage) (is_strict : Bool) (f : T → List Evaluated) (s t u : Setting) (r : Result T E)
+    → s ≡ setting_before o stage is_strict → AreDeclared s s.source.order t → u ≡ t
+    → IfOk r (λ x. f x ≡ values_of u 0 u.source.declared) → IfOk r (λ x. AreEvaluated o stage is_strict (f x))
+evaluated o stage is_strict f s t u (Err x) e d same h = tt
+evaluated o stage is_strict f s t u (Ok x) e d same h =
+    let P : Setting → Type 0 = λ v. AreDeclared v v.source.order t in
+    let source : t.source ≡ o = same_source s.source.order s t d ∙ ap (λ (v : Setting). v.source) e in
+    (t, subst P e d, h ∙ ap (λ (v : Setting). values_of v 0 v.source.declared) same ∙ ap (λ (p : Outline). values_of t 0 p.declared) source)
+
+pub declared : {T E : Type 0} (o : Outline) (f : T → List Item) (s t : Setting) (r : Result T E)
+    → s ≡ setting_before o stages.Const false → AreDeclared s s.source.order t
+    → IfOk r (λ x. AreItems t (f x)) → IfOk r (λ x. AreDeclarations o (f x))
+declared o f s t (Err x) e d h = tt
+declared o f s t (Ok x) e d h =
+    let P : Setting → Type 0 = λ v. AreDeclared v v.source.order t in
+    (t, subst P e d, h)

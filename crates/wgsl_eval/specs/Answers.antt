@@ -56,8 +56,10 @@ abbrev pub IsSkipped : Answer → Type 0
 IsSkipped (answers.Skipped s) = ⊤
 IsSkipped a = ⊥
 
--- what an answer that is no value leaves where a value belongs: a type is a fault there, and all else stays
+-- what an answer that is no value leaves where a value belongs: a type is a fault there, a variable is no constant, and
+-- all else stays
 abbrev pub IsUnready : Answer → Answer → Type 0
+IsUnready (answers.Variable v) answer = IsSkipped answer
 IsUnready (answers.Type t) answer = IsFault answer
 IsUnready (answers.Bitcast t) answer = IsFault answer
 IsUnready a answer = answer ≡ a

@@ -1,13 +1,14 @@
 -- What is told of a source: its declarations with what they are found to be.
-use Rattle.std.specs.Prelude.{◌≡◌, ℕ, ◌+◌, Bool, false, Option, Some, List, [], ◌∷◌, ⊤, length, replicate, slice_get, string_bytes}
+use Rattle.std.specs.Prelude.{◌≡◌, ℕ, Bool, false, Option, Some, List, length, replicate, slice_get, string_bytes}
 use Rattle.wgsl_rules.specs.declared.syntax.ShaderStage.{ShaderStage}
 use Rattle.wgsl_rules.specs.declared.syntax.ShaderStage.TheVariants as stages
 use Rattle.wgsl_source.specs.Readings.{Outline, extent_at, word_at}
 use Rattle.wgsl_source.specs.declared.module.Declared.{Declared}
 use Rattle.wgsl_source.specs.declared.module.Declared.TheVariants as declareds
 use Rattle.wgsl_eval.specs.Answers.{meaning_at, outcome_in}
-use Rattle.wgsl_eval.specs.Evaluation.{for_values, name_at}
+use Rattle.wgsl_eval.specs.Evaluation.{has_value, name_at}
 use Rattle.wgsl_eval.specs.Evaluators.{Setting}
+use Rattle.wgsl_eval.specs.Lists.{AllFrom, told_from}
 use Rattle.wgsl_eval.specs.Meanings.{AreDeclared}
 use Rattle.wgsl_eval.specs.declared.answer.Answer.{Answer}
 use Rattle.wgsl_eval.specs.declared.answer.Answer.TheVariants as answers
@@ -32,7 +33,7 @@ abbrev pub evaluated_at : Setting → ℕ → Evaluated
 evaluated_at s number = record { token = name_at s.source number; outcome = outcome_in (meaning_at s.meanings number) }
 
 abbrev pub values_of : Setting → ℕ → List Declared → List Evaluated
-values_of s = for_values s.stage (evaluated_at s)
+values_of s = told_from (has_value s.stage) (evaluated_at s)
 
 -- these are the values of the declarations, each of which has its meaning in the order of the source
 abbrev pub AreEvaluated : Outline → ShaderStage → Bool → List Evaluated → Type 0
@@ -51,19 +52,21 @@ kind_in d (answers.Skipped s) = items.Skipped
 kind_in d a = items.Faulty
 
 -- the declaration of a number that was found to be this: its name, the bytes of that, and what is declared
-pub record IsItem (o : Outline) (number : ℕ) (meaning : Answer) (item : Item) : Type 0 where
+pub record IsItem (o : Outline) (meaning : Answer) (number : ℕ) (item : Item) : Type 0 where
   pub name : string_bytes item.name ≡ word_at o (name_at o number)
   pub start : item.start ≡ (extent_at o (name_at o number)).start
   pub end : item.end ≡ (extent_at o (name_at o number)).end
   pub kind : item.kind ≡ kind_in (slice_get o.declared number) meaning
 
--- those from this number on, one for each that is declared
-abbrev pub AreItems : Setting → ℕ → List Declared → List Item → Type 0
-AreItems s number [] [] = ⊤
-AreItems s number (d ∷ ds) (i ∷ is) = IsItem s.source number (meaning_at s.meanings number) i × AreItems s (number + 1) ds is
-AreItems s number ds is = ⊥
+-- the declaration of a number, with its meaning
+abbrev pub IsItemAt : Setting → ℕ → Item → Type 0
+IsItemAt s number item = IsItem s.source (meaning_at s.meanings number) number item
+
+-- one for each that is declared
+abbrev pub AreItems : Setting → List Item → Type 0
+AreItems s items = (length items ≡ length s.source.declared) × AllFrom (IsItemAt s) 0 items
 
 -- these are the declarations, each of which has its meaning in the order of the source
 abbrev pub AreDeclarations : Outline → List Item → Type 0
 AreDeclarations o items =
-    (after : Setting) × AreDeclared (setting_before o stages.Const false) o.order after × AreItems after 0 o.declared items
+    (after : Setting) × AreDeclared (setting_before o stages.Const false) o.order after × AreItems after items

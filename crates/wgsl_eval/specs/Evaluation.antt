@@ -1,10 +1,11 @@
 -- What is told of a source: the values of its declarations.
-use Rattle.std.specs.Prelude.{ℕ, ◌+◌, Bool, true, false, List, [], ◌∷◌, ◌++◌, length, slice_get, unwrap_or, if◌then◌else◌}
+use Rattle.std.specs.Prelude.{ℕ, Bool, true, false, List, length, slice_get, unwrap_or}
 use Rattle.wgsl_rules.specs.declared.syntax.ShaderStage.{ShaderStage}
 use Rattle.wgsl_rules.specs.declared.syntax.ShaderStage.TheVariants as stages
 use Rattle.wgsl_source.specs.Readings.{Outline}
 use Rattle.wgsl_source.specs.declared.module.Declared.{Declared}
 use Rattle.wgsl_source.specs.declared.module.Declared.TheVariants as declareds
+use Rattle.wgsl_eval.specs.Lists.{told_from}
 
 -- whether a declaration has a value: an override has one where a host has given it
 abbrev pub has_value : ShaderStage → Declared → Bool
@@ -17,11 +18,6 @@ has_value stage d = false
 abbrev pub name_at : Outline → ℕ → ℕ
 name_at o number = unwrap_or (slice_get o.names number) (length o.tokens)
 
--- what is told of each of the declarations that have values, from this number on
-abbrev pub for_values : {A : Type 0} → ShaderStage → (ℕ → A) → ℕ → List Declared → List A
-for_values stage f number [] = []
-for_values stage f number (d ∷ ds) = (if has_value stage d then f number ∷ [] else []) ++ for_values stage f (number + 1) ds
-
--- the tokens that name them
+-- the tokens that name those of the declarations that have values, from this number on
 abbrev pub value_names : Outline → ShaderStage → ℕ → List Declared → List ℕ
-value_names o stage = for_values stage (name_at o)
+value_names o stage = told_from (has_value stage) (name_at o)

@@ -31,6 +31,7 @@ is_first stage = false
 abbrev pub IsNoType : Answer → Answer → Type 0
 IsNoType (answers.Value v) answer = IsFault answer
 IsNoType (answers.Bitcast t) answer = IsFault answer
+IsNoType (answers.Variable v) answer = IsFault answer
 IsNoType a answer = answer ≡ a
 
 -- the value in the type that is given

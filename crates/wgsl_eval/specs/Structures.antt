@@ -1,5 +1,5 @@
 -- What structures and variables are found to be (WGSL: structure types; variable declarations; attributes).
-use Rattle.std.specs.Prelude.{◌≡◌, ◌-◌, ◌+◌, ℕ, Bool, true, Option, Some, None, List, [], ◌∷◌, ⊤, length, slice_get, IsSomeAnd}
+use Rattle.std.specs.Prelude.{◌≡◌, ◌-◌, ℕ, Bool, true, Option, Some, None, List, ⊤, length, slice_get, IsSomeAnd}
 use Rattle.std.specs.Int.{is_power_of_two}
 use Rattle.std.specs.Option.{option_and_then}
 use Rattle.wgsl_apply.specs.Literals.{natural_of}
@@ -15,6 +15,7 @@ use Rattle.wgsl_source.specs.declared.module.Field.{Field}
 use Rattle.wgsl_eval.specs.Answers.{IsAnswer, value_in}
 use Rattle.wgsl_eval.specs.Calls.{type_in}
 use Rattle.wgsl_eval.specs.Evaluators.{Setting}
+use Rattle.wgsl_eval.specs.Lists.{AllFrom}
 use Rattle.wgsl_eval.specs.Runs.{IsFound}
 use Rattle.wgsl_eval.specs.declared.answer.Answer.{Answer}
 use Rattle.wgsl_eval.specs.declared.answer.Answer.TheVariants as answers
@@ -74,10 +75,9 @@ abbrev pub IsFoundMember : Setting → Field → FoundMember → Type 0
 IsFoundMember s f (founds.Member m of) = IsMember s f (member_view m)
 IsFoundMember s f (founds.Other a) = IsAnswer a × IsNone a
 
--- the members of these numbers, from the first on
-abbrev pub AreMembers : Setting → ℕ → List Member → Type 0
-AreMembers s first [] = ⊤
-AreMembers s first (m ∷ ms) = IsSomeAnd (slice_get s.source.fields first) (λ f. IsMember s f m) × AreMembers s (first + 1) ms
+-- the member of a number
+abbrev pub IsMemberAt : Setting → ℕ → Member → Type 0
+IsMemberAt s number m = IsSomeAnd (slice_get s.source.fields number) (λ f. IsMember s f m)
 
 -- an answer that is a type is the structure of these members
 abbrev pub IsStructureOf : List ℕ → List Member → Answer → Type 0
@@ -86,7 +86,7 @@ IsStructureOf name ms answer = IsNone answer
 
 abbrev pub IsStructure : Setting → ℕ → ℕ → ℕ → Answer → Type 0
 IsStructure s name first end (answers.Type t) =
-    (ms : List Member) × (type_view t.ty ≡ struct (word_at s.source name) (fields_of ms)) × (length ms ≡ end - first) × AreMembers s first ms
+    (ms : List Member) × (type_view t.ty ≡ struct (word_at s.source name) (fields_of ms)) × (length ms ≡ end - first) × AllFrom (IsMemberAt s) first ms
 IsStructure s name first end answer = IsNone answer
 
 -- ---- variables

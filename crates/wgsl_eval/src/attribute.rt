@@ -81,9 +81,13 @@ impl Evaluator<'_> {
         ensures none { IfOk result IsNone }
     {
         match answer {
-            Answer::Skipped(Skip {
-                need: Need::NotConstant, ..
-            }) => self.wrong_text(token, "an attribute is a constant"),
+            Answer::Skipped(
+                Skip {
+                    need: Need::NotConstant,
+                    ..
+                },
+            )
+            | Answer::Variable(_) => self.wrong_text(token, "an attribute is a constant"),
             Answer::Type(_) | Answer::Bitcast(_) => {
                 self.wrong_text(token, "a type stands where a value belongs")
             }

@@ -70,7 +70,7 @@ impl Evaluator<'_> {
         requires { AreAnswers self.meanings.items }
         ensures count { IfOk result (λ d. vec_len d.messages ≤ 100) }
         ensures sorted { IfOk result (λ d. IsSortedByKey (λ m. m.start) nat_cmp d.messages.items) }
-        ensures items { IfOk result (λ d. AreItems (setting_of self.entry) 0 self.entry.reading.now.declared d.items.items) }
+        ensures items { IfOk result (λ d. AreItems (setting_of self.entry) d.items.items) }
     {
         let Evaluator {
             alloc,
@@ -96,7 +96,7 @@ fn item_of(
     number: usize,
     meaning: Answer,
 ) -> Result<Item, AllocError>
-    ensures { IfOk result (IsItem reading.now number meaning) }
+    ensures { IfOk result (IsItem reading.now meaning number) }
 {
     let token = reading.name(number);
     let Extent { start, end } = reading.extent(token);

@@ -185,8 +185,9 @@ impl Evaluator<'_> {
         ensures answer { IfOk result IsAnswer }
     {
         match answer {
-            Answer::Value(_) => self.wrong_text(token, "this is no type"),
-            Answer::Bitcast(_) => self.wrong_text(token, "this is no type"),
+            Answer::Value(_) | Answer::Bitcast(_) | Answer::Variable(_) => {
+                self.wrong_text(token, "this is no type")
+            }
             other => Ok(other),
         }
     }

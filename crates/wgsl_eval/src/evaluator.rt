@@ -508,6 +508,7 @@ impl Evaluator<'_> {
             Answer::Type(_) | Answer::Bitcast(_) => {
                 self.wrong_text(token, "a type stands where a value belongs")
             }
+            Answer::Variable(_) => Ok(self.skipped(token, Need::NotConstant)),
             other => Ok(other),
         }
     }

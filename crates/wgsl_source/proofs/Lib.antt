@@ -2,11 +2,9 @@ pub mod Boundaries
 pub mod LineEnds
 pub mod LineStarts
 pub mod LiteralLemmas
-pub mod Mixed
 pub mod NameLemmas
 pub mod NamedLemmas
 pub mod Numerals
-pub mod OperatorLemmas
 pub mod Positions
 pub mod ReadingLemmas
 pub mod Suffixes

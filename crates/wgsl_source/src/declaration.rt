@@ -65,7 +65,7 @@ pub(crate) struct Module {
     pub(crate) steps: Vec<Step>,
     /// The conditions of the `const_assert`s.
     pub(crate) asserts: Vec<Span>,
-    /// What the grammar of expressions refuses, and layouts pass over.
+    /// What the grammar of expressions refuses, where it is read all the same.
     pub(crate) refused: Vec<Fault>,
 }
 

@@ -78,7 +78,7 @@ enum Next {
 pub(crate) struct Expressions<'a> {
     pub(crate) cursor: Cursor<'a>,
     pub(crate) steps: Vec<Step>,
-    /// What the grammar refuses and layouts pass over.
+    /// What the grammar refuses, where it is read all the same.
     refused: Vec<Fault>,
     open: Vec<Open>,
 }

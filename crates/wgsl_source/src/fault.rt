@@ -53,46 +53,10 @@ pub enum Reason {
     OpenComment,
     /// More brackets stand inside each other than are followed.
     TooDeep,
-    /// Nothing has the name.
-    UnknownName,
-    /// Another declaration, member or attribute has the name.
+    /// Another declaration or attribute has the name.
     DuplicateName,
     /// A declaration needs itself.
     ContainsItself,
-    /// A value stands where a type belongs.
-    NotType,
-    /// A type, or what has no number here, stands where a number belongs.
-    NotNumber,
-    /// The type takes other arguments.
-    Arguments,
-    /// The type is no component of such a vector, matrix or atomic.
-    Component,
-    /// A count of elements is no number from 1 to 4294967295.
-    Count,
-    /// An attribute is no number from 0 to 4294967295.
-    Attribute,
-    /// An align attribute is no power of 2.
-    Align,
-    /// A size attribute is less than the type takes, or the type has no fixed size.
-    Size,
-    /// An align attribute in a type that is stored is no multiple of the alignment of its member.
-    Misaligned,
-    /// The number is none of its kind.
-    Literal,
-    /// The value is none of the type.
-    Conversion,
-    /// The operator does not take these operands.
-    Operands,
-    /// The answer is no number of the kind.
-    Overflow,
-    /// A number is divided by zero.
-    Division,
-    /// More bits are shifted than the number has, or some are lost.
-    Shift,
-    /// The type has more parts than are followed.
-    TooLarge,
-    /// The types of the source have more parts in all than are followed.
-    TooManyTypes,
     /// Two operators stand beside each other that need brackets.
     Mixed,
     /// Two characters make one token, which is no operator there.
@@ -107,26 +71,8 @@ impl fmt::Display for Reason {
             Reason::Expected(expected) => write!(f, "expected {expected}"),
             Reason::OpenComment => f.write_str("this comment has no end"),
             Reason::TooDeep => f.write_str("too many brackets inside each other"),
-            Reason::UnknownName => f.write_str("nothing has this name"),
             Reason::DuplicateName => f.write_str("this name is there already"),
             Reason::ContainsItself => f.write_str("this needs itself"),
-            Reason::NotType => f.write_str("this is no type"),
-            Reason::NotNumber => f.write_str("this is no integer that is known here"),
-            Reason::Arguments => f.write_str("this type takes other arguments"),
-            Reason::Component => f.write_str("this is no type of a component here"),
-            Reason::Count => f.write_str("a count is from 1 to 4294967295"),
-            Reason::Attribute => f.write_str("an attribute is from 0 to 4294967295"),
-            Reason::Align => f.write_str("an alignment is a power of 2"),
-            Reason::Size => f.write_str("the type takes another size"),
-            Reason::Misaligned => f.write_str("a member needs another alignment"),
-            Reason::Literal => f.write_str("this is no number of its kind"),
-            Reason::Conversion => f.write_str("this value is none of the type"),
-            Reason::Operands => f.write_str("the operator does not take these operands"),
-            Reason::Overflow => f.write_str("the answer is too large for its kind"),
-            Reason::Division => f.write_str("division by zero"),
-            Reason::Shift => f.write_str("bits are shifted out"),
-            Reason::TooLarge => f.write_str("this type has too many parts"),
-            Reason::TooManyTypes => f.write_str("the types up to here have too many parts in all"),
             Reason::Mixed => f.write_str("this operator and the one before it need brackets"),
             Reason::Double => f.write_str("two of these beside each other are no operators here"),
         }

@@ -1,23 +1,20 @@
-//! Reads the declarations of a WGSL source: its structures, aliases, constants and variables, with
-//! the types that they name.
+//! Reads the form of a WGSL source: its declarations, the steps of their types and values, and what
+//! is wrong in it. What these stand for is not said here, but for literals and for the language's names.
 #![tactic(auto)]
 
 mod cursor;
 mod declaration;
 mod expression;
 mod fault;
+mod generator;
 mod lexer;
 mod literal;
-mod meaning;
 mod mixes;
 mod module;
 mod names;
-mod operator;
 mod order;
 mod place;
 mod recovery;
-mod resolve;
-mod source;
 mod templates;
 mod token;
 
@@ -27,4 +24,3 @@ pub use literal::Literal;
 pub use module::{Declared, DeclaredVariable, Extent, Field, Reading};
 pub use names::{Generator, Predeclared, Scalar, language_name};
 pub use place::{Lines, Place};
-pub use source::{Item, ItemKind, Source, Variable};

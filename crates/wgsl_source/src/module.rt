@@ -88,8 +88,8 @@ pub enum Declared {
     Function,
 }
 
-/// A variable of a module: its type, where one is given, its address space and access mode where they are
-/// given, and the numbers by which a host names it (WGSL: variable declarations; resource interface).
+/// A variable of a module: its type, its address space and its access mode, where they are given, and
+/// the numbers by which a host names it (WGSL: variable declarations; resource interface).
 #[derive(Clone, Copy, Debug, PartialEq, Eq)]
 pub struct DeclaredVariable {
     pub ty: Option<Span>,

@@ -1,5 +1,5 @@
-//! The order in which declarations are given their meanings: each behind those that it names
-//! (WGSL: declaration and scope).
+//! An order of the declarations, in which each stands behind those that it names (WGSL: declaration
+//! and scope).
 
 ghost use Rattle.std.specs.Prelude.{◌≡◌, ℕ, List, IfOk};
 ghost use Rattle.std.specs.BTreeMap.{get_by_text};

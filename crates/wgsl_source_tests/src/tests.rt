@@ -1,11 +1,11 @@
 //! What sources declare.
 
-mod attributes;
 mod declarations;
-mod expressions;
 mod faults;
 mod growth;
+mod modules;
 mod readings;
 mod reasons;
 mod recovery;
 mod texts;
+mod tokens;

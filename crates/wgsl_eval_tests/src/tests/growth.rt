@@ -1,5 +1,6 @@
 //! Each call that takes memory.
 
+mod declarations;
 mod evaluations;
 mod functions;
 mod operators;

@@ -12,12 +12,13 @@ struct S { @size(8) a: u32, @align(16) rows: array<Row, 2> }
 fn f() {}
 struct T { a: u32, a: u32 }
 const M = N / 0;
+alias Row = u32;
+const K = ;
 ";
 
 const WANTED: &str = "\
-N = 5; Row = array<vec4<f32>, 5>; S @size(8) a:u32 @align(16) rows:array<array<vec4<f32>, 5>, 2>; \
-s: array<S> @group(1) @binding(2); f skipped; T faulty; M faulty; \
-6:20 this name is there already; 7:13 division by zero";
+const N; alias Row; struct S(a, rows); var s; fn f; struct T(a, a); const M; alias Row; \
+8:7 this name is there already; 9:11 expected a type or a value";
 
 #[test]
 fn a_source_is_read_or_memory_is_wanting(rt: HostRuntime) {

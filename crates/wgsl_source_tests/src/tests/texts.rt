@@ -2,8 +2,7 @@
 
 use std::alloc::{AllocError, Global};
 use std::process::Abort;
-use wgsl_rules::{StructMemberType, Type};
-use wgsl_source::{Item, ItemKind, Lines, Source};
+use wgsl_source::{Declared, Lines, Reading};
 
 /// Asserts that the source declares what the text says.
 pub(super) fn assert_declares(rt: &impl Abort, alloc: Global, source: &str, wanted: &str) {
@@ -12,14 +11,14 @@ pub(super) fn assert_declares(rt: &impl Abort, alloc: Global, source: &str, want
 }
 
 pub(super) fn text_of(alloc: Global, source: &str) -> Result<String, AllocError> {
-    let read = Source::read(alloc, source)?;
+    let reading = Reading::of_module(alloc, source)?;
     let lines = Lines::new(alloc, source)?;
     let mut text = String::new(alloc);
-    for item in &read.items {
+    for number in 0..reading.len() {
         separate(&mut text)?;
-        add_item(&mut text, item)?;
+        add_declaration(&mut text, &reading, number)?;
     }
-    for fault in &read.faults {
+    for fault in reading.faults() {
         separate(&mut text)?;
         let place = lines.place(source, fault.start);
         let (line, column) = (place.line, place.column);
@@ -36,47 +35,40 @@ pub(super) fn separate(text: &mut String) -> Result<(), AllocError> {
     text.push_str("; ")
 }
 
-fn add_item(text: &mut String, item: &Item) -> Result<(), AllocError> {
-    text.push_str(item.name.as_str())?;
-    match &item.kind {
-        ItemKind::Struct(Type::Struct(ty)) => add_members(text, ty.members.as_slice()),
-        ItemKind::Struct(ty) | ItemKind::Alias(ty) => write!(text, " = {ty}"),
-        ItemKind::Value(number) => write!(text, " = {number}"),
-        ItemKind::Variable(variable) => {
-            let ty = &variable.ty;
-            write!(text, ": {ty}")?;
-            add_binding(text, variable.group, variable.binding)
-        }
-        ItemKind::Skipped => text.push_str(" skipped"),
-        ItemKind::Faulty => text.push_str(" faulty"),
-    }
-}
-
-fn add_binding(
+fn add_declaration(
     text: &mut String,
-    group: Option<u32>,
-    binding: Option<u32>,
+    reading: &Reading<'_>,
+    number: usize,
 ) -> Result<(), AllocError> {
-    if let Some(group) = group {
-        write!(text, " @group({group})")?;
-    }
-    match binding {
-        Some(binding) => write!(text, " @binding({binding})"),
+    let name = reading.word(reading.name(number));
+    match reading.declared(number) {
+        Some(Declared::Struct { first, end }) => {
+            write!(text, "struct {name}")?;
+            add_members(text, reading, first, end)
+        }
+        Some(Declared::Alias(_)) => write!(text, "alias {name}"),
+        Some(Declared::Const { .. }) => write!(text, "const {name}"),
+        Some(Declared::Override { .. }) => write!(text, "override {name}"),
+        Some(Declared::Variable(_)) => write!(text, "var {name}"),
+        Some(Declared::Function) => write!(text, "fn {name}"),
         None => Ok(()),
     }
 }
 
-fn add_members(text: &mut String, members: &[StructMemberType]) -> Result<(), AllocError> {
-    for member in members {
-        if let Some(align) = member.align {
-            write!(text, " @align({align})")?;
+fn add_members(
+    text: &mut String,
+    reading: &Reading<'_>,
+    first: usize,
+    end: usize,
+) -> Result<(), AllocError> {
+    text.push('(')?;
+    for number in first..end {
+        if number > first {
+            text.push_str(", ")?;
         }
-        if let Some(size) = member.size {
-            write!(text, " @size({size})")?;
+        if let Some(field) = reading.field(number) {
+            text.push_str(reading.word(field.name))?;
         }
-        let name = &member.name;
-        let ty = &member.ty;
-        write!(text, " {name}:{ty}")?;
     }
-    Ok(())
+    text.push(')')
 }

@@ -1,6 +1,7 @@
-use Rattle.std.proofs.Common.{◌≡◌, vec_len}
+use Rattle.std.proofs.Common.{◌≡◌, replicate}
 use Rattle.wgsl_eval.specs.Answers.{AreAnswers}
+use Rattle.wgsl_eval.specs.declared.answer.Answer.TheVariants as answers
 use Rattle.wgsl_eval.proofs.evaluator.unknown.Given as goal
 
 abbrev pub invariant-loop-number : goal.invariant-loop-number
-invariant-loop-number l = (vec_len l.meanings ≡ l.number) × AreAnswers l.meanings.items
+invariant-loop-number l = (l.meanings.items ≡ replicate l.number answers.Faulty) × AreAnswers l.meanings.items

@@ -1,6 +1,13 @@
-use Rattle.std.proofs.Common.{◌≡◌}
+use Rattle.std.proofs.Common.{◌≡◌, ◌+◌, map, vec_len}
+use Rattle.wgsl_rules.specs.View.{member_view}
 use Rattle.wgsl_eval.specs.Evaluators.{setting_of}
+use Rattle.wgsl_eval.specs.Lists.{AllFrom}
+use Rattle.wgsl_eval.specs.Structures.{IsMemberAt}
 use Rattle.wgsl_eval.proofs.evaluator.Evaluator.structure.Given as goal
 
 abbrev pub invariant-loop-number : goal.invariant-loop-number
-invariant-loop-number l = setting_of l.self ≡ setting_of l.fn.self
+invariant-loop-number l = record {
+  keeps : setting_of l.self ≡ setting_of l.fn.self;
+  count : l.first + vec_len l.members ≡ l.number;
+  members : AllFrom (IsMemberAt (setting_of l.fn.self)) l.first (map member_view l.members.items);
+}

@@ -1,5 +1,0 @@
-use Rattle.wgsl_source.proofs.OperatorLemmas.{tells_comparison}
-use Rattle.wgsl_source.proofs.operator.compared.Goals as goal
-
-pub returns-in-Err : goal.returns-in-Err
-returns-in-Err c = λ outcome answers. tells_comparison _ _ outcome c.reason_of.ensures (rw c.in-Err.is at answers)
