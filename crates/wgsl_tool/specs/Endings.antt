@@ -1,10 +1,5 @@
 -- How the program ends, and what its flags ask for.
-use Rattle.std.specs.Prelude.{ℕ, Bool, true, false, List, [], ◌∷◌, Option, Some, None, codes}
-use Rattle.std.specs.List.{list_any}
-use Rattle.wgsl_source.specs.declared.fault.Fault.{Fault}
-use Rattle.wgsl_eval.specs.declared.message.Message.{Message}
-use Rattle.wgsl_eval.specs.declared.message.Severity.{Severity}
-use Rattle.wgsl_eval.specs.declared.message.Severity.TheVariants as severities
+use Rattle.std.specs.Prelude.{ℕ, List, Option, Some, None, codes}
 use Rattle.wgsl_tool.specs.declared.end.End.{End}
 use Rattle.wgsl_tool.specs.declared.end.End.TheVariants as ends
 use Rattle.wgsl_tool.specs.declared.arguments.Format.{Format}
@@ -23,12 +18,3 @@ flag_of formats.Bytes = Some (codes "--bytes")
 flag_of formats.Json = Some (codes "--json")
 flag_of formats.Rust = Some (codes "--rust")
 flag_of formats.C = Some (codes "--c")
-
-abbrev pub is_fault : Severity → Bool
-is_fault severities.Fault = true
-is_fault severities.Warning = false
-
--- what is wrong in the form of a source is a fault, and so are the messages that are no warnings
-abbrev pub has_faults : List Fault → List Message → Bool
-has_faults [] messages = list_any (λ m. is_fault m.severity) messages
-has_faults (fault ∷ faults) messages = true

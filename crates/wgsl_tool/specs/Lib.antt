@@ -1,4 +1,5 @@
 pub mod Endings
+pub mod Faults
 pub mod Fields
 pub mod Kinds
 pub mod Rows

@@ -1,7 +1,7 @@
 //! What is printed of the constants of a source.
 
 use crate::evaluating::{Evaluating, Subject};
-use crate::report::{Report, has_faults, told};
+use crate::report::{Report, errors_of, has_faults};
 use std::alloc::{AllocError, Global};
 use wgsl_eval::{Evaluated, Evaluation, Outcome, evaluate};
 use wgsl_rules::Ty;
@@ -26,11 +26,11 @@ pub(crate) fn values_of(
             Subject::Expression(_) => add_outcome(alloc, &mut output, text, value)?,
         }
     }
-    let messages = messages.as_slice();
+    let (faults, messages) = (reading.faults(), messages.as_slice());
     Ok(Report {
         output,
-        errors: told(alloc, file, text, &reading, messages)?,
-        has_faults: has_faults(&reading, messages),
+        errors: errors_of(alloc, file, text, faults, messages)?,
+        has_faults: has_faults(faults, messages),
     })
 }
 

@@ -7,7 +7,7 @@ use crate::arguments::{Arguments, Format};
 use crate::bytes::add_bytes;
 use crate::c::add_c;
 use crate::json::add_json;
-use crate::report::{Report, has_faults, told};
+use crate::report::{Report, errors_of, has_faults};
 use crate::rust::add_rust;
 use crate::structures::{Asked, is_shared};
 use crate::table::add_tables;
@@ -23,15 +23,14 @@ pub(crate) fn layouts_of(
 ) -> Result<Report, AllocError> {
     let reading = Reading::of_module(alloc, text)?;
     let Declarations { items, messages } = declarations(alloc, &reading)?;
-    let items = items.as_slice();
-    let messages = messages.as_slice();
+    let (items, faults, messages) = (items.as_slice(), reading.faults(), messages.as_slice());
     let output = output_of(alloc, items, reading.order(), arguments)?;
-    let mut errors = told(alloc, arguments.file, text, &reading, messages)?;
+    let mut errors = errors_of(alloc, arguments.file, text, faults, messages)?;
     let is_missing = add_missing(&mut errors, items, arguments)?;
     Ok(Report {
         output,
         errors,
-        has_faults: has_faults(&reading, messages) || is_missing,
+        has_faults: has_faults(faults, messages) || is_missing,
     })
 }
 

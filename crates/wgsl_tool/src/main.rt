@@ -44,7 +44,7 @@ also the structures inside them. The source is standard input where FILE is `-`.
   --c         structures of the host in C, whose offsets its compiler checks
 
 `eval` prints the type and the value of each constant, or of the expression, and checks the
-assertions of the module. It warns of what the standard refuses and the library answers.
+assertions of the module.
 
   --stage     when the values are needed: for the module, for a pipeline, or while it runs
   --strict    what is warned of is a fault
@@ -52,8 +52,9 @@ assertions of the module. It warns of what the standard refuses and the library 
   --help      prints this
   --version   prints the version
 
-The status is 0, or 1 for faults in the source and for names that it does not have or that have no
-layout, 2 for wrong arguments, 3 for what cannot be read or written and where memory is wanting.
+Both warn of what the standard refuses and the library answers. The status is 0, or 1 for faults in
+the source and for names that it does not have or that have no layout, 2 for wrong arguments, 3 for
+what cannot be read or written and where memory is wanting.
 ";
 
 fn main(rt: HostRuntime) -> ExitCode {

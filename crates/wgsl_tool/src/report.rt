@@ -1,12 +1,15 @@
 //! What is printed of a source, and what is told of it.
 
-ghost use Rattle.std.specs.Prelude.{◌≡◌, if◌then◌else◌};
-ghost use Rattle.wgsl_tool.specs.Endings.{has_faults, is_fault};
+ghost use Rattle.std.specs.Prelude.{◌≡◌, ◌+◌, IfOk, if◌then◌else◌, length, vec_len};
+ghost use Rattle.std.specs.List.{list_any};
+ghost use Rattle.std.specs.List.Sorted.{IsSortedByKey};
+ghost use Rattle.std.specs.Ordering.{nat_cmp};
+ghost use Rattle.wgsl_tool.specs.Faults.{has_faults, is_fault, start_in};
 
 use crate::end::End;
 use std::alloc::{AllocError, Global};
 use wgsl_eval::{Message, Severity};
-use wgsl_source::{Fault, Lines, Reading};
+use wgsl_source::{Fault, Lines};
 
 /// How many characters of what was found are printed.
 const FOUND: usize = 40;
@@ -37,6 +40,64 @@ impl Report {
     }
 }
 
+/// Whether a fault is told: one of the form, or a message that is one.
+pub(crate) fn has_faults(faults: &[Fault], messages: &[Message]) -> bool
+    ensures { result ≡ has_faults faults.now messages.now }
+{
+    !faults.is_empty() || has_fault(messages)
+}
+
+fn has_fault(messages: &[Message]) -> bool
+    ensures { result ≡ list_any is_fault messages.now }
+{
+    messages.iter().any(|message| is_fault(message))
+}
+
+fn is_fault(message: &Message) -> bool
+    ensures { result ≡ is_fault message.now }
+{
+    message.severity == Severity::Fault
+}
+
+/// What is told: what is wrong in the form of a source, or a message.
+#[derive(Clone, Copy)]
+enum Told<'a> {
+    Form(Fault),
+    Message(&'a Message),
+}
+
+impl Told<'_> {
+    // Where it begins in the source.
+    fn start(&self) -> usize
+        ensures { result ≡ start_in self.now }
+    {
+        match self {
+            Told::Form(fault) => fault.start,
+            Told::Message(message) => message.start,
+        }
+    }
+}
+
+// All that is told, in the order of the places. At one place what is wrong in the form is first.
+fn in_order<'a>(
+    alloc: Global,
+    faults: &[Fault],
+    messages: &'a [Message],
+) -> Result<Vec<Told<'a>>, AllocError>
+    ensures sorted { IfOk result (λ told. IsSortedByKey start_in nat_cmp told.items) }
+    ensures count { IfOk result (λ told. vec_len told ≡ length faults.now + length messages.entry.now) }
+{
+    let mut told = Vec::new(alloc);
+    for fault in faults {
+        told.push(Told::Form(*fault))?;
+    }
+    for message in messages {
+        told.push(Told::Message(message))?;
+    }
+    told.sort_by_key(|one| one.start())?;
+    Ok(told)
+}
+
 /// A source, and by what its places are told.
 #[derive(Drop)]
 struct Source<'a> {
@@ -45,26 +106,12 @@ struct Source<'a> {
     lines: &'a Lines,
 }
 
-/// Whether a fault is told: one of the form, or a message that is one.
-pub(crate) fn has_faults(reading: &Reading<'_>, messages: &[Message]) -> bool
-    ensures { result ≡ has_faults reading.now.faults messages.now }
-{
-    !reading.faults().is_empty() || messages.iter().any(is_fault)
-}
-
-fn is_fault(message: &Message) -> bool
-    ensures { result ≡ is_fault message.now.severity }
-{
-    message.severity == Severity::Fault
-}
-
-/// What is told of a source: what is wrong in its form, and the messages, in the order of the places.
-/// At one place what is wrong in the form is first.
-pub(crate) fn told(
+/// All that is told of a source of this name: what is wrong in its form, and the messages.
+pub(crate) fn errors_of(
     alloc: Global,
     file: &str,
     text: &str,
-    reading: &Reading<'_>,
+    faults: &[Fault],
     messages: &[Message],
 ) -> Result<String, AllocError> {
     let lines = Lines::new(alloc, text)?;
@@ -74,27 +121,14 @@ pub(crate) fn told(
         lines: &lines,
     };
     let mut errors = String::new(alloc);
-    let mut faults = reading.faults();
-    for message in messages {
-        let count = faults.partition_point(|fault| fault.start <= message.start);
-        let (before, behind) = faults.split_at(count);
-        add_faults(&mut errors, &source, before)?;
-        add_message(&mut errors, &source, message)?;
-        faults = behind;
+    let told = in_order(alloc, faults, messages)?;
+    for one in &told {
+        match one {
+            Told::Form(fault) => add_fault(&mut errors, &source, *fault)?,
+            Told::Message(message) => add_message(&mut errors, &source, message)?,
+        }
     }
-    add_faults(&mut errors, &source, faults)?;
     Ok(errors)
-}
-
-fn add_faults(
-    errors: &mut String,
-    source: &Source<'_>,
-    faults: &[Fault],
-) -> Result<(), AllocError> {
-    for fault in faults {
-        add_fault(errors, source, *fault)?;
-    }
-    Ok(())
 }
 
 // Where it is, what is wrong, and the line with a mark below what was found.

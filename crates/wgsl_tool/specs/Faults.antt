@@ -1,0 +1,25 @@
+-- What is told of a source, and which of it are faults.
+use Rattle.std.specs.Prelude.{ℕ, Bool, true, false, List, length, nat_lt, ◌||◌}
+use Rattle.std.specs.List.{list_any}
+use Rattle.wgsl_source.specs.declared.fault.Fault.{Fault}
+use Rattle.wgsl_eval.specs.declared.message.Message.{Message}
+use Rattle.wgsl_eval.specs.declared.message.Severity.{Severity}
+use Rattle.wgsl_eval.specs.declared.message.Severity.TheVariants as severities
+use Rattle.wgsl_tool.specs.declared.report.Told.{Told}
+use Rattle.wgsl_tool.specs.declared.report.Told.TheVariants as told
+
+-- where it begins in the source
+abbrev pub start_in : Told → ℕ
+start_in (told.Form fault) = fault.start
+start_in (told.Message message) = message.now.start
+
+abbrev pub is_severe : Severity → Bool
+is_severe severities.Fault = true
+is_severe severities.Warning = false
+
+abbrev pub is_fault : Message → Bool
+is_fault message = is_severe message.severity
+
+-- what is wrong in the form is a fault, and so is each message that is no warning
+abbrev pub has_faults : List Fault → List Message → Bool
+has_faults faults messages = nat_lt 0 (length faults) || list_any is_fault messages
