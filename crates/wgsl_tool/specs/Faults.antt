@@ -1,5 +1,5 @@
 -- What is told of a source, and which of it are faults.
-use Rattle.std.specs.Prelude.{ℕ, Bool, true, false, List, length, nat_lt, ◌||◌}
+use Rattle.std.specs.Prelude.{ℕ, Bool, true, false, List, length, map, nat_lt, ◌++◌, ◌||◌}
 use Rattle.std.specs.List.{list_any}
 use Rattle.wgsl_source.specs.declared.fault.Fault.{Fault}
 use Rattle.wgsl_eval.specs.declared.message.Message.{Message}
@@ -12,6 +12,10 @@ use Rattle.wgsl_tool.specs.declared.report.Told.TheVariants as told
 abbrev pub start_in : Told → ℕ
 start_in (told.Form fault) = fault.start
 start_in (told.Message message) = message.now.start
+
+-- where what is wrong in the form and the messages begin
+abbrev pub starts_in : List Fault → List Message → List ℕ
+starts_in faults messages = map (λ f. f.start) faults ++ map (λ m. m.start) messages
 
 abbrev pub is_severe : Severity → Bool
 is_severe severities.Fault = true

@@ -1,10 +1,10 @@
 //! What is printed of a source, and what is told of it.
 
-ghost use Rattle.std.specs.Prelude.{◌≡◌, ◌+◌, IfOk, if◌then◌else◌, length, vec_len};
+ghost use Rattle.std.specs.Prelude.{◌≡◌, IfOk, IsPermutation, if◌then◌else◌, map};
 ghost use Rattle.std.specs.List.{list_any};
 ghost use Rattle.std.specs.List.Sorted.{IsSortedByKey};
 ghost use Rattle.std.specs.Ordering.{nat_cmp};
-ghost use Rattle.wgsl_tool.specs.Faults.{has_faults, is_fault, start_in};
+ghost use Rattle.wgsl_tool.specs.Faults.{has_faults, is_fault, start_in, starts_in};
 
 use crate::end::End;
 use std::alloc::{AllocError, Global};
@@ -85,7 +85,20 @@ fn in_order<'a>(
     messages: &'a [Message],
 ) -> Result<Vec<Told<'a>>, AllocError>
     ensures sorted { IfOk result (λ told. IsSortedByKey start_in nat_cmp told.items) }
-    ensures count { IfOk result (λ told. vec_len told ≡ length faults.now + length messages.entry.now) }
+    ensures all { IfOk result (λ told. IsPermutation (starts_in faults.now messages.entry.now) (map start_in told.items)) }
+{
+    let mut told = all_of(alloc, faults, messages)?;
+    told.sort_by_key(|one| one.start())?;
+    Ok(told)
+}
+
+// The faults, and behind them the messages.
+fn all_of<'a>(
+    alloc: Global,
+    faults: &[Fault],
+    messages: &'a [Message],
+) -> Result<Vec<Told<'a>>, AllocError>
+    ensures { IfOk result (λ told. map start_in told.items ≡ starts_in faults.now messages.entry.now) }
 {
     let mut told = Vec::new(alloc);
     for fault in faults {
@@ -94,7 +107,6 @@ fn in_order<'a>(
     for message in messages {
         told.push(Told::Message(message))?;
     }
-    told.sort_by_key(|one| one.start())?;
     Ok(told)
 }
 
