@@ -55,7 +55,7 @@ pub enum ItemKind {
 /// assertions are not checked.
 ///
 /// The only error is that memory is wanting.
-pub fn declarations(alloc: Global, reading: &Reading<'_>) -> Result<Declarations, AllocError>
+pub fn resolve(alloc: Global, reading: &Reading<'_>) -> Result<Declarations, AllocError>
     ensures count { IfOk result (λ d. vec_len d.messages ≤ 100) }
     ensures sorted { IfOk result (λ d. IsSortedByKey (λ m. m.start) nat_cmp d.messages.items) }
     ensures items { IfOk result (λ d. AreDeclarations reading.now d.items.items) }

@@ -18,7 +18,7 @@ mod types;
 mod variable;
 
 pub use answer::{Need, Skip};
-pub use declarations::{Declarations, Item, ItemKind, declarations};
+pub use declarations::{Declarations, Item, ItemKind, resolve};
 pub use evaluator::{Evaluated, Evaluation, Outcome, evaluate};
 pub use message::{Message, Severity};
 pub use variable::Variable;

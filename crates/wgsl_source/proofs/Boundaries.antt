@@ -1,5 +1,5 @@
 -- Where characters begin.
-use Rattle.std.proofs.Common.{◌≡◌, ℕ, ◌<◌, ◌≤◌, ◌↔◌, nat_le, nat_lt, ◌&&◌, ◌||◌, Bool, true, false, IsTrue, List, length, slice_index, refl, sym, arith}
+use Rattle.std.proofs.Common.{◌≡◌, ℕ, ◌<◌, ◌≤◌, ◌↔◌, nat_le, nat_lt, ◌&&◌, ◌||◌, Bool, true, false, IsTrue, List, length, slice_index, refl, arith}
 use Rattle.std.proofs.lemmas.Grind.{common_steps}
 use Rattle.std.specs.Str.{IsCharBoundary}
 use Rattle.wgsl_source.specs.Cuts.{is_boundary}

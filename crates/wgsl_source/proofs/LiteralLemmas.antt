@@ -1,7 +1,5 @@
 -- What the text of a literal means.
-use Rattle.std.proofs.Common.{◌≡◌, ◌≢◌, ℕ, Bool, true, false, cond, ◌||◌, ◌⊎◌, inl, inr, Option, Some, None, MatchOption, MatchBool, SomeIff, option_and_then, List, [], ◌∷◌, ◌++◌, refl, ◌∙◌, ap, sym, subst, arith}
-use Rattle.std.proofs.lemmas.Grind.{common_steps}
-use Rattle.wgsl_rules.specs.Values.{Val}
+use Rattle.std.proofs.Common.{◌≡◌, ℕ, Bool, true, false, cond, ◌||◌, inl, inr, Option, Some, None, MatchBool, SomeIff, option_and_then, List, [], ◌∷◌, ◌++◌, refl, ◌∙◌, ap, sym, subst, arith}
 use Rattle.wgsl_scalar.specs.Literals.{literal_of}
 use Rattle.wgsl_scalar.specs.declared.literal.LiteralInstance.{LiteralInstance}
 use Rattle.wgsl_source.specs.Numbers.{suffix_text, number_in, has_byte, EndsInDigit, IsHexadecimal, begins_hexadecimal, is_decimal_float_text, is_float_text, has_leading_zero, Reads, ReadsDecimal, ReadsNumeral, Writes, MeansInteger}

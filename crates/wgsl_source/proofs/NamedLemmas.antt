@@ -3,7 +3,7 @@ use lib.Pointwise.{bytes_decides}
 use Rattle.std.proofs.Common.{◌≡◌, ℕ, ◌+◌, ◌<◌, nat_lt, Bool, true, false, cond, Option, Some, None, is_some, IsSome, List, [], ◌∷◌, ◌++◌, length, take, get_or, refl, ◌∙◌, ap, sym, subst, arith}
 use Rattle.std.proofs.lemmas.Grind.{common_steps}
 use Rattle.std.proofs.lemmas.List.{take_more}
-use Rattle.std.specs.List.{position, position_or_len}
+use Rattle.std.specs.List.{position_or_len}
 use Rattle.std.specs.Str.{bytes_eq}
 use Rattle.wgsl_source.specs.Cursors.{text_of}
 use Rattle.wgsl_source.specs.Declarations.{number_named}

@@ -1,13 +1,9 @@
 -- Where a numeral ends, and whether it is hexadecimal.
-use Rattle.std.proofs.Common.{◌≡◌, ◌≢◌, ℕ, ◌+◌, ◌-◌, ◌<◌, ◌≤◌, ◌==◌, ◌&&◌, ◌||◌, Bool, true, false, cond, Option, Some, None, IsSome, List, [], ◌∷◌, ◌++◌, codes, get_or, length, drop, take, inl, inr, ◌⊎◌, SomeIff, refl, ◌∙◌, ap, sym, subst, append_assoc, arith}
+use Rattle.std.proofs.Common.{◌≡◌, ℕ, ◌≤◌, ◌==◌, ◌&&◌, ◌||◌, true, false, cond, Some, List, [], ◌∷◌, ◌++◌, get_or, drop, take, inl, inr, ◌⊎◌, refl, ◌∙◌, ap, sym, subst, append_assoc, arith}
 use Rattle.std.proofs.lemmas.Grind.{common_steps}
-use Rattle.std.proofs.lemmas.List.{reverse-append, reverse-reverse, take-append-drop}
-use Rattle.std.specs.Char.{digit_value}
-use Rattle.std.specs.Prelude.{reverse}
-use Rattle.std.specs.Str.Parse.{AllDigits, IsNumeral, digits_value, without_leading_plus}
-use Rattle.wgsl_source.specs.Numbers.{suffix_text, EndsInDigit, IsHexadecimal, begins_hexadecimal, has_leading_zero, Reads, ReadsDecimal, ReadsNumeral}
-use Rattle.wgsl_source.specs.declared.literal.Suffix.{Suffix}
-use Rattle.wgsl_source.specs.declared.literal.Suffix.TheVariants as suffixes
+use Rattle.std.proofs.lemmas.List.{take-append-drop}
+use Rattle.std.specs.Str.Parse.{AllDigits, IsNumeral}
+use Rattle.wgsl_source.specs.Numbers.{EndsInDigit, IsHexadecimal, begins_hexadecimal, Reads}
 
 -- ---- a numeral ends in a digit
 

@@ -1,5 +1,5 @@
 -- Which operators stand beside each other without brackets (WGSL: expression grammar).
-use Rattle.std.specs.Prelude.{◌≡◌, ℕ, Bool, true, false, ◌||◌}
+use Rattle.std.specs.Prelude.{Bool, true, false, ◌||◌}
 use Rattle.wgsl_rules.specs.declared.syntax.BinaryOperator.{BinaryOperator}
 use Rattle.wgsl_rules.specs.declared.syntax.BinaryOperator.TheVariants as between
 

@@ -1,5 +1,5 @@
 -- What a reading shows of a source.
-use Rattle.std.specs.Prelude.{ℕ, Bool, nat_le, ◌==◌, ◌&&◌, Option, List, [], length, map, position, slice_get, slice_range, unwrap_or, if◌then◌else◌}
+use Rattle.std.specs.Prelude.{ℕ, nat_le, ◌==◌, ◌&&◌, Option, List, [], length, position, slice_get, slice_range, unwrap_or, if◌then◌else◌}
 use Rattle.std.specs.Str.{bytes_eq}
 use Rattle.wgsl_source.specs.Cuts.{cut_of}
 use Rattle.wgsl_source.specs.declared.declaration.Kind.{Kind}

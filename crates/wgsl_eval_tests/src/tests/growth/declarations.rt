@@ -1,7 +1,7 @@
 //! The declarations of a module.
 
 use std::alloc::{AllocError, Global};
-use wgsl_eval::{Declarations, Item, ItemKind, Variable, declarations};
+use wgsl_eval::{Declarations, Item, ItemKind, Variable, resolve};
 use wgsl_rules::{StructMemberType, Type};
 use wgsl_source::Reading;
 
@@ -83,7 +83,7 @@ fn text_of(alloc: Global, found: &Declarations) -> Result<String, AllocError> {
 fn declarations_are_found_or_memory_is_wanting(rt: HostRuntime) {
     let alloc = rt.alloc();
     let reading = again!(&rt; Reading::of_module(alloc, MODULE));
-    let found = again!(&rt; declarations(alloc, &reading));
+    let found = again!(&rt; resolve(alloc, &reading));
     let text = again!(&rt; text_of(alloc, &found));
     drop(found);
     drop(reading);

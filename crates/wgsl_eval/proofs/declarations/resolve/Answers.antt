@@ -1,6 +1,6 @@
 use Rattle.wgsl_eval.proofs.Walks.{declared}
 use Rattle.wgsl_eval.specs.declared.declarations.Declarations.{Declarations}
-use Rattle.wgsl_eval.proofs.declarations.declarations.Goals as goal
+use Rattle.wgsl_eval.proofs.declarations.resolve.Goals as goal
 
 pub returns-clause-items : goal.returns-clause-items
 returns-clause-items c =
