@@ -12,7 +12,7 @@ use crate::rust::add_rust;
 use crate::structures::{Asked, is_shared};
 use crate::table::add_tables;
 use std::alloc::{AllocError, Global};
-use wgsl_eval::{Declarations, Item, ItemKind, declarations};
+use wgsl_eval::{Declarations, Item, ItemKind, resolve};
 use wgsl_source::Reading;
 
 /// What a source has of what is asked for, and what is told of it.
@@ -22,7 +22,7 @@ pub(crate) fn layouts_of(
     arguments: Arguments<'_>,
 ) -> Result<Report, AllocError> {
     let reading = Reading::of_module(alloc, text)?;
-    let Declarations { items, messages } = declarations(alloc, &reading)?;
+    let Declarations { items, messages } = resolve(alloc, &reading)?;
     let (items, faults, messages) = (items.as_slice(), reading.faults(), messages.as_slice());
     let output = output_of(alloc, items, reading.order(), arguments)?;
     let mut errors = errors_of(alloc, arguments.file, text, faults, messages)?;
