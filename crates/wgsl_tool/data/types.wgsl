@@ -116,6 +116,9 @@ struct D { a: C, b: C, c: C, d: C, e: C, f: C, g: C, h: C } // error: this type 
 const shifted = 1u >> 32u; // error: 1u has no 32 bits: 1u >> 32u
 const lost = 0x1FFu << 24u; // error: bits are shifted out: 511u << 24u
 const rest = 7 % 0; // error: division by zero: 7 % 0
+const divided = 1 / 0; // error: division by zero: 1 / 0
+const by_zero = fourteen / 0; // error: division by zero: 14u / 0
+const mixed = 1i + 1u; // error: no operator + for i32 and u32
 const digits = 0x; // error: this is no number of its kind
 const letters = 12ab; // error: this is no number of its kind
 const octal = 012; // error: this is no number of its kind
