@@ -1,5 +1,6 @@
 -- What is told of a source, and which of it are faults.
-use Rattle.std.specs.Prelude.{ℕ, Bool, true, false, List, length, map, nat_lt, ◌++◌, ◌||◌}
+use Rattle.std.specs.Prelude.{ℕ, Bool, true, false, ◌≡◌, ◌<◌, List, length, map, nat_lt, ◌++◌, ◌||◌, MatchBool, String, string_bytes, string_len}
+use Rattle.std.specs.declared.alloc.Global.{Global}
 use Rattle.std.specs.List.{list_any}
 use Rattle.wgsl_source.specs.declared.fault.Fault.{Fault}
 use Rattle.wgsl_eval.specs.declared.message.Message.{Message}
@@ -27,3 +28,7 @@ is_fault message = is_severe message.severity
 -- what is wrong in the form is a fault, and so is each message that is no warning
 abbrev pub has_faults : List Fault → List Message → Bool
 has_faults faults messages = nat_lt 0 (length faults) || list_any is_fault messages
+
+-- whether something is told: the text is longer then, and else it stays
+abbrev pub TellsIf : Bool → String Global → String Global → Type 0
+TellsIf is_told old new = MatchBool is_told (string_len old < string_len new) (string_bytes new ≡ string_bytes old)

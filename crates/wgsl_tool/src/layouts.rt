@@ -1,6 +1,7 @@
 //! What is printed of the layouts of a source.
 
-ghost use Rattle.std.specs.Prelude.{◌≡◌, is_some};
+ghost use Rattle.std.specs.Prelude.{◌≡◌, IfOk, is_some};
+ghost use Rattle.wgsl_tool.specs.Faults.{TellsIf};
 ghost use Rattle.wgsl_tool.specs.Kinds.{is_left_out};
 
 use crate::arguments::{Arguments, Format};
@@ -74,21 +75,35 @@ fn add_missing(
     errors: &mut String,
     items: &[Item],
     arguments: Arguments<'_>,
-) -> Result<bool, AllocError> {
-    let file = arguments.file;
+) -> Result<bool, AllocError>
+    ensures { IfOk result (λ is_missing. TellsIf is_missing errors.old errors.new) }
+{
     let mut is_missing = false;
     for name in arguments.names {
-        let name = name.as_str();
-        match items.iter().find(|item| item.name.as_str() == name) {
-            Some(item) => match why_left_out(&item.kind) {
-                Some(reason) => writeln!(errors, "{file}: error: `{name}` {reason}")?,
-                None => continue,
-            },
-            None => writeln!(errors, "{file}: error: nothing has the name `{name}`")?,
+        if add_reason(errors, items, arguments.file, name.as_str())? {
+            is_missing = true;
         }
-        is_missing = true;
     }
     Ok(is_missing)
+}
+
+// Tells why nothing is printed of a name, and answers whether there is a reason.
+fn add_reason(
+    errors: &mut String,
+    items: &[Item],
+    file: &str,
+    name: &str,
+) -> Result<bool, AllocError>
+    ensures { IfOk result (λ is_told. TellsIf is_told errors.old errors.new) }
+{
+    match items.iter().find(|item| item.name.as_str() == name) {
+        Some(item) => match why_left_out(&item.kind) {
+            Some(reason) => writeln!(errors, "{file}: error: `{name}` {reason}")?,
+            None => return Ok(false),
+        },
+        None => writeln!(errors, "{file}: error: nothing has the name `{name}`")?,
+    }
+    Ok(true)
 }
 
 // Why nothing is printed of a declaration; what has a fault is told among the faults.
