@@ -1,6 +1,6 @@
 //! What is printed of a source, and what is told of it.
 
-ghost use Rattle.std.specs.Prelude.{◌≡◌, IfOk, IsPermutation, if◌then◌else◌, map};
+ghost use Rattle.std.specs.Prelude.{◌≡◌, ◌<◌, IfOk, IsPermutation, IsTrue, OnOk, if◌then◌else◌, map, string_len};
 ghost use Rattle.std.specs.List.{list_any};
 ghost use Rattle.std.specs.List.Sorted.{IsSortedByKey};
 ghost use Rattle.std.specs.Ordering.{nat_cmp};
@@ -23,6 +23,7 @@ pub(crate) struct Report {
     pub(crate) output: String,
     pub(crate) errors: String,
     pub(crate) has_faults: bool,
+    ghost told: { IsTrue has_faults → 0 < string_len errors },
 }
 
 impl Report {
@@ -125,7 +126,9 @@ pub(crate) fn errors_of(
     text: &str,
     faults: &[Fault],
     messages: &[Message],
-) -> Result<String, AllocError> {
+) -> Result<String, AllocError>
+    ensures { IfOk result (λ errors. IsTrue (has_faults faults.now messages.now) → 0 < string_len errors) }
+{
     let lines = Lines::new(alloc, text)?;
     let source = Source {
         file,
@@ -144,7 +147,9 @@ pub(crate) fn errors_of(
 }
 
 // Where it is, what is wrong, and the line with a mark below what was found.
-fn add_fault(errors: &mut String, source: &Source<'_>, fault: Fault) -> Result<(), AllocError> {
+fn add_fault(errors: &mut String, source: &Source<'_>, fault: Fault) -> Result<(), AllocError>
+    ensures { OnOk result (string_len errors.old < string_len errors.new) }
+{
     let Source { file, text, lines } = source;
     let place = lines.place(text, fault.start);
     let (line, column) = (place.line, place.column);
@@ -159,7 +164,9 @@ fn add_message(
     errors: &mut String,
     source: &Source<'_>,
     message: &Message,
-) -> Result<(), AllocError> {
+) -> Result<(), AllocError>
+    ensures { OnOk result (string_len errors.old < string_len errors.new) }
+{
     let Source { file, text, lines } = source;
     let place = lines.place(text, message.start);
     let (line, column) = (place.line, place.column);
@@ -173,7 +180,9 @@ fn add_message(
 }
 
 // What stands there, the front of it.
-fn add_found(errors: &mut String, found: &str) -> Result<(), AllocError> {
+fn add_found(errors: &mut String, found: &str) -> Result<(), AllocError>
+    ensures { OnOk result (string_len errors.old < string_len errors.new) }
+{
     if found.is_empty() {
         return errors.push_str(", found the end of the source\n");
     }
@@ -185,7 +194,9 @@ fn add_found(errors: &mut String, found: &str) -> Result<(), AllocError> {
 }
 
 // The line, or the part of it round this character, and a mark below the character.
-fn add_line(errors: &mut String, line: &str, before: usize) -> Result<(), AllocError> {
+fn add_line(errors: &mut String, line: &str, before: usize) -> Result<(), AllocError>
+    ensures { OnOk result (string_len errors.old < string_len errors.new) }
+{
     let left_out = if before < SHOWN {
         0
     } else {
