@@ -23,7 +23,7 @@ const M = 3;
 struct Atomics { a: atomic<u32>, b: array<atomic<i32>> }
 struct Open { a: array<vec2<u32>>}
 
-// No host sees the alignment that is less than the type's.
+// No host sees an alignment that is less than that of the type.
 struct Narrow { @align(2) a: u32 }
 struct Holder { s: Narrow }
 var<private> held: Holder;
