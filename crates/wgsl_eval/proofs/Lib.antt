@@ -4,6 +4,7 @@ pub mod Calls
 pub mod Columns
 pub mod ConvertedLists
 pub mod Each
+pub mod Items
 pub mod Kept
 pub mod MadeTypes
 pub mod MadeValues

@@ -1,17 +1,24 @@
 -- What is no type, and what is a structure.
 use Rattle.std.specs.declared.alloc.AllocError.{AllocError}
-use Rattle.std.proofs.Common.{◌≡◌, ◌∙◌, ◌-◌, ℕ, List, Result, Ok, Err, IfOk, length, refl, sym, ap, subst}
+use Rattle.std.proofs.Common.{◌≡◌, ◌∙◌, ◌+◌, ◌-◌, ◌⊎◌, inl, inr, ℕ, List, [], ◌∷◌, ◌++◌, Option, Some, Result, Ok, Err, IfOk, length, map, refl, sym, ap, subst}
+use Rattle.std.specs.Prelude.{IsSomeAnd, slice_get}
+use Rattle.std.proofs.lemmas.List.{length-map, map-append}
 use Rattle.wgsl_rules.specs.Types.{struct}
-use Rattle.wgsl_rules.specs.View.{«Field» as Member, fields_of}
+use Rattle.wgsl_rules.specs.View.{«Field» as Member, fields_of, member_view}
+use Rattle.wgsl_rules.specs.declared.ty.StructMemberType.{StructMemberType}
 use Rattle.wgsl_source.specs.Readings.{word_at}
-use Rattle.wgsl_eval.specs.Answers.{IsFault, value_in}
+use Rattle.wgsl_source.specs.declared.module.Field.{Field}
+use Rattle.wgsl_eval.proofs.Told.{all_pushed}
+use Rattle.wgsl_eval.specs.Answers.{IsFault}
 use Rattle.wgsl_eval.specs.Evaluators.{Setting}
 use Rattle.wgsl_eval.specs.Lists.{AllFrom}
 use Rattle.wgsl_eval.specs.Meanings.{IsNoType}
-use Rattle.wgsl_eval.specs.Structures.{IsMemberAt, IsNone, IsStructure, IsStructureOf}
+use Rattle.wgsl_eval.specs.Structures.{IsMember, IsMemberAt, IsNone, IsStructure, IsStructureOf}
 use Rattle.wgsl_eval.specs.declared.answer.Answer.{Answer}
 use Rattle.wgsl_eval.specs.declared.answer.Answer.TheVariants as answers
 use Rattle.wgsl_eval.specs.declared.answer.SizedType.{SizedType}
+use Rattle.wgsl_eval.specs.declared.answer.Value.{Value}
+use Rattle.wgsl_eval.specs.declared.variable.Variable.{Variable}
 
 pub fault-nothing : (a : Answer) → IsFault a → IsNone a
 fault-nothing (answers.Wrong m g) h = tt
@@ -20,6 +27,15 @@ fault-nothing a h = absurd h
 pub faults-nothing : (r : Result Answer AllocError) → IfOk r IsFault → IfOk r IsNone
 faults-nothing (Ok a) h = fault-nothing a h
 faults-nothing (Err e) h = tt
+
+-- a value, `bitcast` and a variable are faults where a type belongs
+pub fault-no_type : (a : Answer) (r : Result Answer AllocError)
+    → ((v : Value) × (a ≡ answers.Value v)) ⊎ (((t : SizedType) × (a ≡ answers.Bitcast t)) ⊎ ((v : Variable) × (a ≡ answers.Variable v)))
+    → IfOk r IsFault → IfOk r (IsNoType a)
+fault-no_type a (Err x) is h = tt
+fault-no_type a (Ok b) (inl w) h = let P : Answer → Type 0 = λ x. IsNoType x b in subst P (sym w.1) h
+fault-no_type a (Ok b) (inr (inl w)) h = let P : Answer → Type 0 = λ x. IsNoType x b in subst P (sym w.1) h
+fault-no_type a (Ok b) (inr (inr w)) h = let P : Answer → Type 0 = λ x. IsNoType x b in subst P (sym w.1) h
 
 -- what is no type is none
 no_type-nothing : (a b : Answer) → ((t : SizedType) → a ≡ answers.Type t → ⊥) → IsNoType a b → IsNone b
@@ -53,3 +69,22 @@ pub structures : (s : Setting) (name first end : ℕ) (word : List ℕ) (ms : Li
     → length ms ≡ end - first → AllFrom (IsMemberAt s) first ms → IfOk r (IsStructureOf word ms) → IfOk r (IsStructure s name first end)
 structures s name first end word ms (Ok a) e c m h = structured s name first end word ms a e c m h
 structures s name first end word ms (Err x) e c m h = tt
+
+-- ---- members
+
+member_at : (s t : Setting) (n k : ℕ) (o : Option Field) (f : Field) (m : Member) → t ≡ s → o ≡ slice_get t.source.fields n → o ≡ Some f → n ≡ k
+    → IsMember t f m → IsMemberAt s k m
+member_at s t n k o f m same got is e h =
+    let P : Setting → Type 0 = λ u. IsMember u f m in
+    let Q : Option Field → Type 0 = λ q. IsSomeAnd q (λ g. IsMember s g m) in
+    let found : Some f ≡ slice_get s.source.fields k = sym is ∙ got ∙ ap (λ (u : Setting). slice_get u.source.fields n) same ∙ ap (slice_get s.source.fields) e in
+    subst Q found (subst P same h)
+
+pub members_pushed : (s t : Setting) (first n : ℕ) (ms all : List StructMemberType) (m : StructMemberType) (o : Option Field) (f : Field) → t ≡ s
+    → o ≡ slice_get t.source.fields n → o ≡ Some f → IsMember t f (member_view m) → n ≡ first + length ms → all ≡ ms ++ m ∷ []
+    → AllFrom (IsMemberAt s) first (map member_view ms) → AllFrom (IsMemberAt s) first (map member_view all)
+members_pushed s t first n ms all m o f same got is h e put before =
+    let P : List Member → Type 0 = λ xs. AllFrom (IsMemberAt s) first xs in
+    let count : n ≡ first + length (map member_view ms) = e ∙ ap (λ k. first + k) (sym (length-map ms member_view)) in
+    let mapped : map member_view ms ++ member_view m ∷ [] ≡ map member_view all = sym (map-append member_view ms (m ∷ [])) ∙ ap (map member_view) (sym put) in
+    subst P mapped (all_pushed (IsMemberAt s) first (map member_view ms) (member_view m) before (member_at s t n _ o f (member_view m) same got is count h))

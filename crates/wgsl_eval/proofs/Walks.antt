@@ -81,7 +81,7 @@ same_stage [] s after e = ap (λ (x : Setting). x.stage) e
 same_stage (n ∷ ns) s after d = same_stage ns d.0 after d.2 ∙ d.1.others.stage
 
 -- the same declarations have values
-pub same_names : (ns : List ℕ) (s t u : Setting) → AreDeclared s ns t → u ≡ t
+same_names : (ns : List ℕ) (s t u : Setting) → AreDeclared s ns t → u ≡ t
     → value_names s.source s.stage 0 s.source.declared ≡ value_names u.source u.stage 0 u.source.declared
 same_names ns s t u d e =
     let source : u.source ≡ s.source = ap (λ (x : Setting). x.source) e ∙ same_source ns s t d in
@@ -89,6 +89,13 @@ same_names ns s t u d e =
     sym (ap (λ o. value_names o u.stage 0 o.declared) source ∙ ap (λ g. value_names s.source g 0 s.source.declared) stage)
 
 -- from nothing that is known to all that is told
+pub named : {T E : Type 0} (o : Outline) (stage : ShaderStage) (is_strict : Bool) (f : T → List ℕ) (s t u : Setting) (r : Result T E)
+    → s ≡ setting_before o stage is_strict → AreDeclared s s.source.order t → u ≡ t
+    → IfOk r (λ x. f x ≡ value_names u.source u.stage 0 u.source.declared) → IfOk r (λ x. f x ≡ value_names o stage 0 o.declared)
+named o stage is_strict f s t u (Err x) e d same h = tt
+named o stage is_strict f s t u (Ok x) e d same h =
+    h ∙ sym (same_names s.source.order s t u d same) ∙ ap (λ (v : Setting). value_names v.source v.stage 0 v.source.declared) e
+
 pub evaluated : {T E : Type 0} (o : Outline) (stage : ShaderStage) (is_strict : Bool) (f : T → List Evaluated) (s t u : Setting) (r : Result T E)
     → s ≡ setting_before o stage is_strict → AreDeclared s s.source.order t → u ≡ t
     → IfOk r (λ x. f x ≡ values_of u 0 u.source.declared) → IfOk r (λ x. AreEvaluated o stage is_strict (f x))

@@ -42,7 +42,7 @@ impl Evaluator<'_> {
     ) -> Result<Attribute, AllocError>
         requires { AreAnswers self.old.meanings.items }
         ensures keeps { setting_of self.new ≡ setting_of self.old }
-        ensures attribute { IfOk result (IsAttribute (setting_of self.old) span (is_valid_for of)) }
+        ensures attribute { IfOk result (IsAttribute (setting_of self.old) span (is_valid_for of.entry)) }
     {
         let Some(span) = span else {
             return Ok(Attribute::Number(None));
@@ -63,7 +63,7 @@ impl Evaluator<'_> {
         value: &Instance,
         of: Use<'_>,
     ) -> Result<Attribute, AllocError>
-        ensures { IfOk result (IsNumberOf (value_of value.now) (is_valid_for of)) }
+        ensures { IfOk result (IsNumberOf (value_of value.now) (is_valid_for of.entry)) }
     {
         let Some(number) = natural_in(value) else {
             let text = "an attribute is from 0 to 4294967295";
@@ -99,7 +99,7 @@ impl Evaluator<'_> {
 impl Use<'_> {
     // Why the number may not be used so.
     fn refusal(self, number: u32) -> Option<&'static str>
-        ensures { is_none result ≡ is_valid_for self number }
+        ensures { is_none result ≡ is_valid_for self.entry number }
     {
         match self {
             Use::Size(ty) if !is_at_least(number, ty.size_of()) => {

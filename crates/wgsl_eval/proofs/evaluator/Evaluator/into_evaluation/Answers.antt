@@ -1,8 +1,7 @@
-use Rattle.std.proofs.Common.{◌<◌, ◌≡◌, ◌++◌, ◌∷◌, [], ◌∙◌, ap, false, length, map, arith}
-use Rattle.std.specs.Prelude.{unwrap_or, if◌then◌else◌}
+use Rattle.std.proofs.Common.{◌<◌, ◌∙◌, ap, false, length, map, arith}
+use Rattle.std.specs.Prelude.{unwrap_or}
 use Rattle.std.specs.Option.{option_map}
 use Rattle.wgsl_source.specs.declared.module.Declared.TheVariants as declareds
-use Rattle.wgsl_eval.specs.Answers.{meaning_at}
 use Rattle.wgsl_eval.specs.Evaluated.{evaluated_at}
 use Rattle.wgsl_eval.specs.Evaluation.{has_value, name_at}
 use Rattle.wgsl_eval.specs.Evaluators.{setting_of}
