@@ -2,6 +2,7 @@
 use Rattle.std.proofs.Common.{◌≡◌, ℕ, List, [], ◌∷◌, ◌++◌, length, Option, Some, None, Ok, Err, option_map, Bool, true, false, ◌&&◌, if◌then◌else◌, refl, sym, ap, ◌∙◌, subst}
 use Rattle.std.specs.Prelude.{IsOkAnd, IsTrue}
 use Rattle.std.specs.Result.{result_ok}
+use Rattle.wgsl_rules.proofs.lemmas.Paths.{member_named-item, stepped-item}
 use Rattle.wgsl_rules.specs.Access.{can_write}
 use Rattle.wgsl_rules.specs.Equal.{same_is}
 use Rattle.wgsl_rules.specs.Same.{same}
@@ -12,7 +13,7 @@ use Rattle.wgsl_rules.specs.Paths.{parts, viewed, member_named, part_at, same_pa
 use Rattle.wgsl_store.specs.Memory.{held, IsKept, put_cells}
 use Rattle.wgsl_store.specs.ReferenceCalls.{going_on, read, deeper, old_value, read_written}
 use Rattle.wgsl_store.proofs.lemmas.Sound.{deeper-kept, whole-kept-new}
-use Rattle.wgsl_values.proofs.lemmas.Steps.{viewed-member, member_named-item, stepped-item, item-storable, parts-storable}
+use Rattle.wgsl_values.proofs.lemmas.Steps.{viewed-member, item-storable, parts-storable}
 
 -- ---- parts of values that may be stored
 

@@ -1,5 +1,5 @@
 -- Lists of the parts of values, and walks along two of them.
-use Rattle.std.proofs.Common.{◌≡◌, ℕ, zero, suc, ◌+◌, ◌<◌, ◌≤◌, List, [], ◌∷◌, length, get_or, Some, None, Bool, true, false, ◌&&◌, refl, sym, ap, ◌∙◌, arith, add-one}
+use Rattle.std.proofs.Common.{◌≡◌, ℕ, zero, suc, ◌+◌, ◌<◌, ◌≤◌, List, [], ◌∷◌, length, get_or, Some, Bool, true, false, ◌&&◌, refl, sym, ap, ◌∙◌, arith, add-one}
 use Rattle.wgsl_rules.specs.Values.{Val, record_of, array_of, vector, matrix, Vals, no_vals, val, count, item}
 use Rattle.wgsl_rules.specs.Paths.{parts, same_paths, all_same_paths}
 use Rattle.wgsl_values.specs.View.{value_of, vals_view}
@@ -15,11 +15,6 @@ pub item_there : (vs : List Instance) (i : ℕ) (d : Instance) → i < length vs
 item_there [] i d h = absurd (omega arith)
 item_there (v ∷ vs) zero d h = refl
 item_there (v ∷ vs) (suc i) d h = item_there vs i d (omega arith)
-
-pub item_below : (i : ℕ) (vs : Vals) → item i vs ≡ None → i < count vs → ⊥
-item_below i no_vals e h = omega arith
-item_below zero (val v vs) e h = cc
-item_below (suc i) (val v vs) e h = item_below i vs e (omega arith)
 
 -- ---- the values behind the first
 

@@ -8,70 +8,29 @@ ghost use Rattle.wgsl_rules.specs.View.{type_view};
 ghost use Rattle.wgsl_scalar.specs.Answers.{refusal_of};
 ghost use Rattle.wgsl_scalar.specs.Literals.{literal_of};
 ghost use Rattle.wgsl_store.specs.Atomics.{IsAtomicOf, number_in};
-ghost use Rattle.wgsl_values.specs.View.{value_of, mat_view, vals_view, steps_of};
+ghost use Rattle.wgsl_values.specs.View.{value_of, steps_of};
 
 use std::alloc::{AllocError, Global};
 use std::mem;
 use wgsl_rules::{Ty, Type};
 use wgsl_scalar::{Error, LiteralInstance};
-use wgsl_values::{Instance, MatInstance, MemView};
-
-/// How many values there are.
-#[tactic(auto, using(crate::proofs::SamePaths::vals_counted))]
-fn value_count(values: &[Instance]) -> usize
-    ensures { result ≡ count (vals_view values.now) }
-{
-    values.len()
-}
-
-/// The value at the position.
-#[tactic(auto, using(crate::proofs::SamePaths::vals_counted, crate::proofs::SamePaths::item_there))]
-fn nth(values: &[Instance], i: usize) -> &Instance
-    requires { i < count (vals_view values.now) }
-    ensures { item i (vals_view values.now) ≡ Some (value_of result.now) }
-{
-    &values[i]
-}
+use wgsl_values::{Instance, MemView};
 
 /// How many members, elements, components or columns there are.
+#[tactic(auto, using(crate::proofs::SamePaths::vals_counted))]
 pub(crate) fn part_count(value: &Instance) -> usize
     ensures { result ≡ count (parts (value_of value.now)) }
 {
-    match value {
-        Instance::Struct(s) => value_count(s.members()),
-        Instance::Array(a) => a.n(),
-        Instance::Vec(v) => v.n(),
-        Instance::Mat(m) => m.c(),
-        Instance::Literal(_) | Instance::Ptr(_) | Instance::Ref(_) => 0,
-        Instance::Atomic(_) | Instance::Deferred(_) => 0,
-    }
-}
-
-/// The column at the position.
-#[tactic(auto, using(crate::proofs::SamePaths::item_below))]
-fn column(value: &MatInstance, i: usize) -> &Instance
-    requires { i < count (parts (mat_view value.now)) }
-    ensures { item i (parts (mat_view value.now)) ≡ Some (value_of result.now) }
-{
-    match value.col(i) {
-        Some(column) => column,
-        None => unreachable!(),
-    }
+    value.parts().len()
 }
 
 /// The member, element, component or column at the position.
+#[tactic(auto, using(crate::proofs::SamePaths::vals_counted, crate::proofs::SamePaths::item_there))]
 pub(crate) fn part(value: &Instance, i: usize) -> &Instance
     requires { i < count (parts (value_of value.now)) }
     ensures { item i (parts (value_of value.now)) ≡ Some (value_of result.now) }
 {
-    match value {
-        Instance::Struct(s) => nth(s.members(), i),
-        Instance::Array(a) => nth(a.as_slice(), i),
-        Instance::Vec(v) => nth(v.as_slice(), i),
-        Instance::Mat(m) => column(m, i),
-        Instance::Literal(_) | Instance::Ptr(_) | Instance::Ref(_) => unreachable!(),
-        Instance::Atomic(_) | Instance::Deferred(_) => unreachable!(),
-    }
+    &value.parts()[i]
 }
 
 /// The first member of the name: structures alone have members.

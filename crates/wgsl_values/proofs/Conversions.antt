@@ -14,6 +14,7 @@ use Rattle.wgsl_rules.specs.declared.syntax.AddressSpace.{AddressSpace}
 use Rattle.wgsl_rules.specs.declared.syntax.AccessMode.{AccessMode}
 use Rattle.wgsl_scalar.specs.Literals.{literal_of}
 use Rattle.wgsl_scalar.specs.declared.literal.LiteralInstance.{LiteralInstance}
+use Rattle.wgsl_values.proofs.Typed.{array_part-is}
 use Rattle.wgsl_values.proofs.lemmas.Views.{struct_view-is, value_of-Literal, value_of-Vec}
 use Rattle.wgsl_values.specs.View.{value_of, struct_view, vals_view, vec_view}
 use Rattle.wgsl_values.specs.declared.inst.Instance.{Instance, Literal, Vec}
@@ -36,10 +37,6 @@ pub item-literal : (vs : List Instance) (i : ℕ) (d : Instance) → i < length 
 item-literal [] i d h w = absurd (omega arith)
 item-literal (v ∷ vs) zero d h w = w.0
 item-literal (v ∷ vs) (suc i) d h w = item-literal vs i d (omega arith) w.1
-
-pub storable-well_formed : (w : Val) → IsStorable w → IsWellFormed w
-storable-well_formed (deferred t) h = absurd h
-storable-well_formed w h = h
 
 joined-step : (o : Option Val) (p q : Option Vals) (ws : List Instance) (y : Instance) → joined o p ≡ Some (vals_view ws)
     → ((rest : List Instance) → p ≡ Some (vals_view rest) → q ≡ Some (vals_view (rest ++ (y ∷ [])))) → joined o q ≡ Some (vals_view (ws ++ (y ∷ [])))
@@ -104,14 +101,6 @@ pub converted-struct : (s : StructInstance) (t : Ty) → converted (struct_view 
 converted-struct s t = rw (struct_view-is s) refl
 
 -- ---- ranks, part by part
-
-abbrev array_from : Option (Ty × Option ℕ) → Ty
-array_from (Some p) = array p.0 p.1
-array_from None = bool
-
-array_part-is : (u t : Ty) (n : Option ℕ) → Some (t, n) ≡ array_part u → array t n ≡ u
-array_part-is (array v m) t n e = ap array_from e
-array_part-is u t n e = cc
 
 abbrev vec_from : Option (ℕ × Ty) → Ty
 vec_from (Some p) = vec p.0 p.1

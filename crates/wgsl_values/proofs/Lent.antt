@@ -1,7 +1,8 @@
 -- What is lent of a composite to be written, and the composite after that.
 use Rattle.std.proofs.Common.{◌≡◌, ℕ, zero, suc, Bool, true, false, List, [], ◌∷◌, Option, Some, None, option_map, option_and_then, Ok, Err, IsSomeAnd, MatchResult, MutBor, refl, sym, ap, ◌∙◌, subst}
 use Rattle.std.specs.Option.{IfSome}
-use Rattle.wgsl_rules.proofs.lemmas.Paths.{view-leads}
+use Rattle.wgsl_rules.proofs.lemmas.Converted.{storable-well_formed}
+use Rattle.wgsl_rules.proofs.lemmas.Paths.{member_named-item, view-leads}
 use Rattle.wgsl_rules.specs.Paths.{member_named, parts, value_at, path_of, viewed, put_tree, put_viewed}
 use Rattle.wgsl_rules.specs.Refusals.{Outcome}
 use Rattle.wgsl_rules.specs.Types as types
@@ -16,8 +17,8 @@ use Rattle.wgsl_values.specs.declared.inst.ArrayInstance.{ArrayInstance}
 use Rattle.wgsl_values.specs.declared.inst.AtomicInstance.{AtomicInstance}
 use Rattle.wgsl_values.specs.declared.inst.MatInstance.{MatInstance}
 use Rattle.wgsl_values.specs.declared.inst.VecInstance.{VecInstance}
-use Rattle.wgsl_values.proofs.lemmas.Replaced.{content-kept, part-kept, part-sound, storable-well_formed}
-use Rattle.wgsl_values.proofs.lemmas.Steps.{item-storable, member_named-item}
+use Rattle.wgsl_values.proofs.lemmas.Replaced.{content-kept, part-kept, part-sound}
+use Rattle.wgsl_values.proofs.lemmas.Steps.{item-storable}
 use Rattle.wgsl_values.proofs.lemmas.Views.{array_view-is, mat_view-is, vec_view-is}
 use Rattle.wgsl_values.proofs.Written.{on_some}
 

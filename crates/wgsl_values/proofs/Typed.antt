@@ -1,5 +1,6 @@
 -- The types of values, compared with other types part by part.
 use Rattle.std.proofs.Common.{◌≡◌, ◌↔◌, ℕ, ◌<◌, ◌≤◌, List, [], ◌∷◌, length, get_or, Bool, true, false, ◌&&◌, eqb-true, Option, Some, None, IsTrue, refl, sym, ap, ap₂, ◌∙◌, arith}
+use Rattle.wgsl_rules.proofs.lemmas.CommonTypes.{struct_part-is}
 use Rattle.wgsl_rules.specs.Equal.{same_is}
 use Rattle.wgsl_rules.specs.Same.{same, same_space, same_access, same_number}
 use Rattle.wgsl_rules.specs.Types.{Ty, bool, struct, array, vec, atomic, ref}
@@ -36,10 +37,6 @@ atomic-same s t b e = rw e (same_is (atomic s) (atomic t))
 pub ref-same : (s z : AddressSpace) (t u : Ty) (a b : AccessMode) (x : Bool) → x ≡ (same_space s z && (same t u && same_access a b)) → IsTrue x ↔ (ref s t a ≡ ref z u b)
 ref-same s z t u a b x e = rw e (same_is (ref s t a) (ref z u b))
 
-struct_part-is : (u t : Ty) → Some t ≡ struct_part u → t ≡ u
-struct_part-is (struct n fs) t e = cc
-struct_part-is u t e = cc
-
 pub struct-has : (s t u : Ty) (b : Bool) → Some t ≡ struct_part u → b ≡ same s t → IsTrue b ↔ (s ≡ u)
 struct-has s t u b part e = rw (← struct_part-is u t part) (type-same s t b e)
 
@@ -61,7 +58,7 @@ abbrev array_from : Option (Ty × Option ℕ) → Ty
 array_from (Some p) = array p.0 p.1
 array_from None = bool
 
-array_part-is : (u t : Ty) (n : Option ℕ) → Some (t, n) ≡ array_part u → array t n ≡ u
+pub array_part-is : (u t : Ty) (n : Option ℕ) → Some (t, n) ≡ array_part u → array t n ≡ u
 array_part-is (array v m) t n e = ap array_from e
 array_part-is u t n e = cc
 

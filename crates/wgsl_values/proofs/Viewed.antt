@@ -1,6 +1,7 @@
 -- Where a view goes on from a value, or why it does not.
 use Rattle.std.proofs.Common.{◌≡◌, ℕ, zero, suc, List, ◌∷◌, Option, Some, None, Err, option_map, option_and_then, refl, sym, ap, ◌∙◌, subst}
 use Rattle.std.specs.Result.{result_ok}
+use Rattle.wgsl_rules.proofs.lemmas.Converted.{storable-well_formed}
 use Rattle.wgsl_rules.specs.Paths.{placed, index_in, member_named, within, part_at, viewed}
 use Rattle.wgsl_rules.specs.Refusals.{not_indexable, out_of_bounds}
 use Rattle.wgsl_rules.specs.Types.{Ty}
@@ -10,13 +11,9 @@ use Rattle.wgsl_values.proofs.lemmas.Steps.{viewed-member}
 
 -- ---- parts of a well-formed value
 
-well_formed : (v : Val) → IsStorable v → IsWellFormed v
-well_formed (deferred t) h = tt
-well_formed v h = h
-
 item-well_formed : (i : ℕ) (vs : Vals) (x : Val) → AreStorable vs → Some x ≡ item i vs → IsWellFormed x
 item-well_formed i no_vals x h e = absurd (cc)
-item-well_formed zero (val w ws) x h e = let same : w ≡ x = cc in subst IsWellFormed same (well_formed w h.0)
+item-well_formed zero (val w ws) x h e = let same : w ≡ x = cc in subst IsWellFormed same (storable-well_formed w h.0)
 item-well_formed (suc i) (val w ws) x h e = item-well_formed i ws x h.1 e
 
 pub member-well_formed : (n : List ℕ) (v x : Val) → IsWellFormed v → Some x ≡ option_map (λ p. p.1) (member_named n v) → IsWellFormed x

@@ -8,14 +8,11 @@ ghost use Rattle.wgsl_rules.specs.Values.{
   AreLiterals,
   AreStorable,
   AreVectors,
-  IsLiteral,
   IsStorable,
-  IsVector,
   IsWellFormed,
   type_of,
 };
 ghost use Rattle.wgsl_rules.specs.View.{type_view};
-ghost use Rattle.wgsl_scalar.specs.Literals.{literal_of};
 ghost use Rattle.wgsl_values.specs.View.{
   value_of,
   array_view,
@@ -31,7 +28,6 @@ use crate::inst::{
 };
 use std::alloc::{AllocError, Global};
 use wgsl_rules::{Convert, Ty, Type};
-use wgsl_scalar::LiteralInstance;
 
 // Each of the values in the type, where each converts to it.
 #[cycle(convert)]
@@ -66,7 +62,7 @@ fn convert_literals(
 {
     let mut all = Vec::with_capacity(alloc, literals.len())?;
     for literal in literals {
-        let Some(converted) = literal.scalar().to_kind(ty) else {
+        let Some(converted) = literal.unwrap_literal_ref().to_kind(ty) else {
             return Ok(None);
         };
         all.push(Instance::Literal(converted))?;
@@ -84,32 +80,6 @@ impl Instance {
             Ok(Some(self.clone(alloc)?))
         } else {
             Ok(None)
-        }
-    }
-
-    // The literal that this is.
-    fn scalar(&self) -> LiteralInstance
-        requires { IsLiteral (value_of self.now) }
-        ensures { literal_of result ≡ value_of self.now }
-    {
-        match self {
-            Instance::Literal(literal) => *literal,
-            Instance::Struct(_) | Instance::Array(_) | Instance::Vec(_) => unreachable!(),
-            Instance::Mat(_) | Instance::Ptr(_) | Instance::Ref(_) => unreachable!(),
-            Instance::Atomic(_) | Instance::Deferred(_) => unreachable!(),
-        }
-    }
-
-    // The vector that this is.
-    fn column(&self) -> &VecInstance
-        requires { IsVector (value_of self.now) }
-        ensures { vec_view result.now ≡ value_of self.now }
-    {
-        match self {
-            Instance::Vec(column) => column,
-            Instance::Literal(_) | Instance::Struct(_) | Instance::Array(_) => unreachable!(),
-            Instance::Mat(_) | Instance::Ptr(_) | Instance::Ref(_) => unreachable!(),
-            Instance::Atomic(_) | Instance::Deferred(_) => unreachable!(),
         }
     }
 
@@ -411,7 +381,7 @@ fn convert_columns(
 {
     let mut all = Vec::with_capacity(alloc, columns.len())?;
     for column in columns {
-        let Some(converted) = column.column().convert_components(alloc, rows, ty)? else {
+        let Some(converted) = column.unwrap_vec_ref().convert_components(alloc, rows, ty)? else {
             return Ok(None);
         };
         all.push(Instance::Vec(converted))?;

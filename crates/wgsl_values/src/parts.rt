@@ -88,6 +88,20 @@ impl Instance {
         }
     }
 
+    /// The members, elements, components or columns, in their order: other values have no parts.
+    pub fn parts(&self) -> &[Instance]
+        ensures { vals_view result.now ≡ parts (value_of self.now) }
+    {
+        match self {
+            Instance::Struct(s) => &s.members,
+            Instance::Array(a) => &a.components,
+            Instance::Vec(v) => &v.components,
+            Instance::Mat(m) => &m.columns,
+            Instance::Literal(_) | Instance::Ptr(_) | Instance::Ref(_) => &[],
+            Instance::Atomic(_) | Instance::Deferred(_) => &[],
+        }
+    }
+
     /// The literal. The condition: it is one.
     pub fn unwrap_literal(self) -> LiteralInstance
         requires { IsLiteral (value_of self) }

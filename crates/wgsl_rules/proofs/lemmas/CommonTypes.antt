@@ -167,7 +167,7 @@ in_common-swapped f a b x y h =
 
 -- ---- structures
 
-struct_part-is : (u t : Ty) → Some t ≡ struct_part u → t ≡ u
+pub struct_part-is : (u t : Ty) → Some t ≡ struct_part u → t ≡ u
 struct_part-is (struct n fs) t e = cc
 struct_part-is u t e = cc
 

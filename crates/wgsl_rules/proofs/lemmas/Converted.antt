@@ -200,13 +200,13 @@ mutual
       let j = joins (converted v t) (all_converted vs t) ws h in
       rw j.is (storable v j.first t well.0 j.first_is, all_storable vs j.rest t well.1 j.rest_is)
 
-well_formed : (w : Val) → IsStorable w → IsWellFormed w
-well_formed (deferred t) h = absurd h
-well_formed w h = h
+pub storable-well_formed : (w : Val) → IsStorable w → IsWellFormed w
+storable-well_formed (deferred t) h = absurd h
+storable-well_formed w h = h
 
 pub converted-well_formed : (v w : Val) (t : Ty) → IsWellFormed v → converted v t ≡ Some w → IsWellFormed w
 converted-well_formed (deferred s) w t well h = kept-has IsWellFormed (deferred s) w t tt h
-converted-well_formed v w t well h = well_formed w (storable v w t well h)
+converted-well_formed v w t well h = storable-well_formed w (storable v w t well h)
 
 pub inner_converted-well_formed : (v w : Val) (t : Ty) → IsWellFormed v → inner_converted v t ≡ Some w → IsWellFormed w
 inner_converted-well_formed (truth b) w t well h = converted-well_formed (truth b) w (with_inner (type_of (truth b)) t) well h

@@ -23,7 +23,7 @@ placed-both i vs p e = there (item i vs) refl e
     there None is f = absurd (cc)
     there (Some x) is f = let same : (i, x) ≡ p = cc in (ap (λ (q : ℕ × Val). q.0) same, is ∙ ap (λ (q : ℕ × Val). Some q.1) same)
 
-placed-item : (i : ℕ) (vs : Vals) (p : ℕ × Val) → placed i vs ≡ Some p → item p.0 vs ≡ Some p.1
+pub placed-item : (i : ℕ) (vs : Vals) (p : ℕ × Val) → placed i vs ≡ Some p → item p.0 vs ≡ Some p.1
 placed-item i vs p e = let k = placed-both i vs p e in rw k.0 at k.1
 
 -- the position of a name, and the part that stands there
@@ -38,7 +38,7 @@ pub member_named-item : (n : List ℕ) (v : Val) (p : ℕ × Val) → member_nam
 member_named-item n (record_of t vs) p e = (named-both (index_in n t) vs p e).1
 member_named-item n v p e = absurd (cc)
 
-part_at-item : (i : ℕ) (v : Val) (p : ℕ × Val) → part_at i v ≡ Ok p → item p.0 (parts v) ≡ Some p.1
+pub part_at-item : (i : ℕ) (v : Val) (p : ℕ × Val) → part_at i v ≡ Ok p → item p.0 (parts v) ≡ Some p.1
 part_at-item i (array_of runtime vs) p e = placed-item i vs p (or_refused-ok (placed i vs) (out_of_bounds i (type_of (array_of runtime vs)) (count vs)) p e)
 part_at-item i (vector vs) p e = placed-item i vs p (or_refused-ok (placed i vs) (out_of_bounds i (type_of (vector vs)) (count vs)) p e)
 part_at-item i (matrix vs) p e = placed-item i vs p (or_refused-ok (placed i vs) (out_of_bounds i (type_of (matrix vs)) (count vs)) p e)

@@ -1,8 +1,9 @@
 use Rattle.std.proofs.Common.{rules, subst, sym}
+use Rattle.wgsl_rules.proofs.lemmas.Converted.{storable-well_formed}
 use Rattle.wgsl_rules.specs.Values.{IsWellFormed}
 use Rattle.wgsl_values.specs.View.{value_of}
 use Rattle.wgsl_values.specs.declared.inst.Instance.{Instance, the_lemmas}
-use Rattle.wgsl_values.proofs.Conversions.{item-storable, storable-well_formed}
+use Rattle.wgsl_values.proofs.Conversions.{item-storable}
 use Rattle.wgsl_values.proofs.+convert.Goals as goal
 
 pub convert::convert_values-convert_to-requires : goal.convert::convert_values-convert_to-requires

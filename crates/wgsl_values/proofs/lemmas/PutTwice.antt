@@ -1,11 +1,12 @@
 -- What is put in a place twice.
 use Rattle.std.proofs.Common.{◌≡◌, ℕ, zero, suc, List, [], ◌∷◌, Option, Some, None, option_map, option_and_then, Ok, Err, refl, sym, ap, ◌∙◌}
 use Rattle.std.specs.Result.{result_ok}
+use Rattle.wgsl_rules.proofs.lemmas.Paths.{or_refused-ok, stepped-item}
 use Rattle.wgsl_rules.specs.Values.{Step, member, index, Val, record_of, vector, array_of, matrix, Vals, no_vals, val, item}
 use Rattle.wgsl_rules.specs.Refusals.{Refusal, Outcome, and_then}
 use Rattle.wgsl_rules.specs.Paths.{placed, index_in, or_refused, stepped, path_of, replace_item, put_tree, put_viewed}
 use Rattle.wgsl_values.specs.Written.{with_part}
-use Rattle.wgsl_values.proofs.lemmas.Steps.{or_refused-ok, put-step, stepped-item}
+use Rattle.wgsl_values.proofs.lemmas.Steps.{put-step}
 
 pub result_ok-is : (o : Outcome Val) (x : Val) → Some x ≡ result_ok o → o ≡ Ok x
 result_ok-is (Ok y) x e = cc

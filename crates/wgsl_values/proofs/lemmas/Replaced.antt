@@ -1,5 +1,6 @@
 -- A value with another of its type in the place of a part is storable again, and of the type it had.
 use Rattle.std.proofs.Common.{◌≡◌, ℕ, zero, suc, ◌<◌, ◌≤◌, Bool, true, false, List, [], ◌∷◌, Option, Some, None, option_and_then, refl, sym, ap, ◌∙◌, subst}
+use Rattle.wgsl_rules.proofs.lemmas.Converted.{storable-well_formed}
 use Rattle.wgsl_rules.specs.Kinds as kinds
 use Rattle.wgsl_rules.specs.Kinds.{Kind}
 use Rattle.wgsl_rules.specs.Types as types
@@ -191,10 +192,6 @@ a_part_replaced [] v w x h e s t = let same : v ≡ x = cc in record { storable 
 a_part_replaced (i ∷ p) v w x h e s t = replaced-behind i p v w x (λ y k f. a_part_replaced p y w x k f s t) h (item i (parts v)) e refl
 
 -- ---- what is lent to be written, and the whole after that
-
-pub storable-well_formed : (v : Val) → IsStorable v → IsWellFormed v
-storable-well_formed (deferred t) s = tt
-storable-well_formed v s = s
 
 -- what has a part is well-formed as it is storable
 whole-storable : (p : List ℕ) (i : ℕ) (v x : Val) → value_at (i ∷ p) v ≡ Some x → IsWellFormed v → IsStorable v

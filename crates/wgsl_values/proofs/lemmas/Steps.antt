@@ -2,41 +2,11 @@
 use Rattle.std.proofs.Common.{◌≡◌, ℕ, zero, suc, Bool, List, [], ◌∷◌, Option, Some, None, option_map, option_and_then, Ok, Err, refl, sym, ap, ◌∙◌, subst}
 use Rattle.wgsl_rules.specs.Values.{Step, member, index, Val, record_of, vector, array_of, matrix, Vals, no_vals, val, item, count, type_of, IsStorable, AreStorable}
 use Rattle.wgsl_rules.specs.Refusals.{Refusal, component, out_of_bounds, Outcome, and_then}
+use Rattle.wgsl_rules.proofs.lemmas.Paths.{member_named-item, part_at-item, stepped-item}
 use Rattle.wgsl_rules.specs.Paths.{parts, placed, index_in, member_named, or_refused, part_at, stepped, viewed, path_of, replace_item, with_parts, put_tree, put_viewed}
 use Rattle.wgsl_values.specs.Written.{with_part, with_inner_part, with_placed, with_member}
 
 -- ---- parts that are there
-
-placed-item : (i : ℕ) (vs : Vals) (p : ℕ × Val) → placed i vs ≡ Some p → item p.0 vs ≡ Some p.1
-placed-item i vs p e = there (item i vs) e refl
-  where
-    there : (o : Option Val) → option_map (λ x. (i, x)) o ≡ Some p → item i vs ≡ o → item p.0 vs ≡ Some p.1
-    there None e is = absurd (cc)
-    there (Some x) e is = let same : (i, x) ≡ p = cc in rw (← same) is
-
-named-item : (o : Option ℕ) (vs : Vals) (p : ℕ × Val) → option_and_then (λ i. placed i vs) o ≡ Some p → item p.0 vs ≡ Some p.1
-named-item None vs p e = absurd (cc)
-named-item (Some i) vs p e = placed-item i vs p e
-
--- the member of a name is the part at its position
-pub member_named-item : (n : List ℕ) (v : Val) (p : ℕ × Val) → member_named n v ≡ Some p → item p.0 (parts v) ≡ Some p.1
-member_named-item n (record_of t vs) p e = named-item (index_in n t) vs p e
-member_named-item n v p e = absurd (cc)
-
-pub or_refused-ok : {A : Type 0} (o : Option A) (f : Refusal) (x : A) → or_refused o f ≡ Ok x → o ≡ Some x
-or_refused-ok None f x e = absurd (cc)
-or_refused-ok (Some y) f x e = cc
-
-part_at-item : (i : ℕ) (v : Val) (p : ℕ × Val) → part_at i v ≡ Ok p → item p.0 (parts v) ≡ Some p.1
-part_at-item i (array_of runtime vs) p e = placed-item i vs p (or_refused-ok (placed i vs) (out_of_bounds i (type_of (array_of runtime vs)) (count vs)) p e)
-part_at-item i (vector vs) p e = placed-item i vs p (or_refused-ok (placed i vs) (out_of_bounds i (type_of (vector vs)) (count vs)) p e)
-part_at-item i (matrix vs) p e = placed-item i vs p (or_refused-ok (placed i vs) (out_of_bounds i (type_of (matrix vs)) (count vs)) p e)
-part_at-item i v p e = absurd (cc)
-
--- a step leads to the part at its position
-pub stepped-item : (s : Step) (v : Val) (p : ℕ × Val) → stepped s v ≡ Ok p → item p.0 (parts v) ≡ Some p.1
-stepped-item (member n) v p e = member_named-item n v p (or_refused-ok (member_named n v) (component (type_of v) n) p e)
-stepped-item (index i) v p e = part_at-item i v p e
 
 -- the part of an index, of what has indexed parts
 pub part_at-array : (i : ℕ) (runtime : Bool) (vs : Vals) (x : Val) → Some x ≡ item i vs → part_at i (array_of runtime vs) ≡ Ok (i, x)

@@ -5,13 +5,13 @@ use Rattle.wgsl_values.specs.declared.inst.Instance.{Instance}
 use Rattle.wgsl_values.proofs.Conversions.{item-storable, item-vector}
 use Rattle.wgsl_values.proofs.convert.convert_columns.Goals as goal
 
-pub column-requires : goal.column-requires
-column-requires c =
+pub unwrap_vec_ref-requires : goal.unwrap_vec_ref-requires
+unwrap_vec_ref-requires c =
     subst (λ (x : Instance). IsVector (value_of x)) (sym c.column-item.is)
     (item-vector _ _ c.column-item.result c.loop-column-test.true (rw (c.deref-column-items.ensures.value) c.requires.vectors))
 
 pub convert_components-requires : goal.convert_components-requires
 convert_components-requires c =
-    rw c.column.ensures
+    rw c.unwrap_vec_ref.ensures
     (subst (λ (x : Instance). IsStorable (value_of x)) (sym c.column-item.is)
     (item-storable _ _ c.column-item.result c.loop-column-test.true (rw (c.deref-column-items.ensures.value) c.requires.storable)))

@@ -5,7 +5,7 @@ use Rattle.wgsl_values.specs.declared.inst.Instance.{Instance}
 use Rattle.wgsl_values.proofs.Conversions.{item-literal}
 use Rattle.wgsl_values.proofs.convert.convert_literals.Goals as goal
 
-pub scalar-requires : goal.scalar-requires
-scalar-requires c =
+pub unwrap_literal_ref-requires : goal.unwrap_literal_ref-requires
+unwrap_literal_ref-requires c =
     subst (λ (x : Instance). IsLiteral (value_of x)) (sym c.literal-item.is)
     (item-literal _ _ c.literal-item.result c.loop-literal-test.true (rw (c.deref-literal-items.ensures.value) c.requires))
