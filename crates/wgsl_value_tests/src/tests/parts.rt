@@ -30,6 +30,25 @@ fn members_of_a_structure(rt: HostRuntime) {
 }
 
 #[test]
+fn parts_of_a_value(rt: HostRuntime) {
+    let alloc = rt.alloc();
+    let pair = Instance::from(pair_value(&rt, alloc));
+    assert_eq!(rt; pair.parts().len(), 2);
+    assert_has(&rt, pair.parts().first(), Instance::from(1u32));
+    let array = Instance::from(array_of(&rt, alloc, &[1, 2, 3], false));
+    assert_eq!(rt; array.parts(), numbers(&rt, alloc, &[1, 2, 3]).as_slice());
+    let vector = Instance::from(vector_of(&rt, alloc, &[1, 2]));
+    assert_eq!(rt; vector.parts(), numbers(&rt, alloc, &[1, 2]).as_slice());
+    let matrix = Instance::from(mat2x3(&rt, alloc));
+    let second = Instance::from(vector_of(&rt, alloc, &[4, 5, 6]));
+    assert_eq!(rt; matrix.parts().len(), 2);
+    assert_same(&rt, matrix.parts().get(1), Some(&second));
+    assert!(rt; Instance::from(1u32).parts().is_empty());
+    drop((pair, array));
+    drop((vector, matrix, second));
+}
+
+#[test]
 fn of_two_members_of_a_name_the_first_is_found(rt: HostRuntime) {
     let mut twins = twins(&rt, rt.alloc());
     assert_has(&rt, twins.member("a"), Instance::from(1u32));
