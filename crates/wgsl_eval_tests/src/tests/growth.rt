@@ -5,3 +5,13 @@ mod evaluations;
 mod functions;
 mod operators;
 mod values;
+
+use std::alloc::AllocError;
+
+// Sets what comes next apart from what stands there.
+fn separate(text: &mut String) -> Result<(), AllocError> {
+    if text.is_empty() {
+        return Ok(());
+    }
+    text.push_str("; ")
+}

@@ -1,5 +1,6 @@
 //! The declarations of a module.
 
+use crate::tests::growth::separate;
 use std::alloc::{AllocError, Global};
 use wgsl_eval::{Declarations, Item, ItemKind, Variable, resolve};
 use wgsl_rules::{StructMemberType, Type};
@@ -19,13 +20,6 @@ const WANTED: &str = "\
 N = 5; Row = array<vec4<f32>, 5>; S @size(8) a:u32 @align(16) rows:array<array<vec4<f32>, 5>, 2>; \
 s: array<S> @group(1) @binding(2); f skipped; T faulty; M faulty; \
 another member has this name; division by zero: 5 / 0";
-
-fn separate(text: &mut String) -> Result<(), AllocError> {
-    if text.is_empty() {
-        return Ok(());
-    }
-    text.push_str("; ")
-}
 
 fn add_members(text: &mut String, members: &[StructMemberType]) -> Result<(), AllocError> {
     for member in members {

@@ -1,5 +1,6 @@
 //! The constants of a module.
 
+use crate::tests::growth::separate;
 use std::alloc::{AllocError, Global};
 use wgsl_eval::{Evaluation, Outcome, evaluate};
 use wgsl_rules::ShaderStage;
@@ -22,13 +23,6 @@ const WANTED: &str = "\
 vec2(6u, 4u); 3; vec2(4u, 6u); 4; mat2x2(vec2(0u, 0u), vec2(0u, 0u)); faulty; 3u; skipped; \
 division by zero: 1 / 0; the standard shifts by less than the width (WGSL: bit expressions); \
 this is asserted and false";
-
-fn separate(text: &mut String) -> Result<(), AllocError> {
-    if text.is_empty() {
-        return Ok(());
-    }
-    text.push_str("; ")
-}
 
 fn text_of(alloc: Global, evaluation: &Evaluation) -> Result<String, AllocError> {
     let mut text = String::new(alloc);
