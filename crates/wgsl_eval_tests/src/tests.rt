@@ -1,5 +1,5 @@
 //! Calls with each growth of memory refused in turn: what wants memory is asked again, and every other answer is
-//! compared.
+//! compared. The snippets of `docs/USING.md` on sources.
 
 /// What the call answers, where memory is not wanted a second time.
 macro_rules! again {
@@ -25,3 +25,4 @@ mod answers;
 mod growth;
 mod standard;
 mod texts;
+mod using;
