@@ -1,5 +1,5 @@
 -- The cells of a store after a copy between two of them, and what the copy answers.
-use Rattle.std.proofs.Common.{◌≡◌, ◌<◌, ◌-◌, ℕ, List, length, arith, [], ◌∷◌, ◌++◌, map, get_or, set, slice_get, Option, Some, None, Ok, Err, Bool, true, false, ◌&&◌, if◌then◌else◌, refl, sym, ap, ◌∙◌, subst}
+use Rattle.std.proofs.Common.{◌≡◌, ◌<◌, ◌-◌, ℕ, List, length, arith, ◌++◌, map, get_or, set, slice_get, Option, Some, None, Ok, Err, Bool, true, false, ◌&&◌, if◌then◌else◌, refl, sym, ap, ◌∙◌, subst}
 use Rattle.std.proofs.lemmas.List.{get_or_append_left, get_or-append_right, set-append_left, set-append_right}
 use Rattle.std.specs.Prelude.{IsOk, IsOkAnd}
 use Rattle.wgsl_rules.specs.Access.{can_read, can_write}
@@ -10,7 +10,7 @@ use Rattle.wgsl_store.specs.Copies.{AreCopied, IsCopied, are_in_bytes, copied, i
 use Rattle.wgsl_store.specs.Fitting.{FitsAt}
 use Rattle.wgsl_store.specs.Memory.{held, IsKept, IsSound, put_cells}
 use Rattle.wgsl_store.specs.MemoryLaws.{StaysKept}
-use Rattle.wgsl_store.specs.ReferenceCalls.{old_value, read, written}
+use Rattle.wgsl_store.specs.ReferenceCalls.{old_value, written}
 use Rattle.wgsl_store.specs.declared.in_place.InPlace.{InPlace}
 use Rattle.wgsl_store.specs.declared.in_place.InPlace.TheVariants as in_place
 use Rattle.wgsl_store.proofs.StoreCells.{cell-is, map-set, same-set, replaced-good}

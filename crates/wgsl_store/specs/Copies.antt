@@ -1,5 +1,5 @@
 -- Copies of parts over parts, in cells of bytes and in any (WGSL: assignment statement; internal layout of values).
-use Rattle.std.specs.Prelude.{◌≡◌, Bool, true, false, ◌&&◌, List, Option, Some, None, slice_get}
+use Rattle.std.specs.Prelude.{◌≡◌, Bool, true, false, ◌&&◌, List, Some, None, slice_get}
 use Rattle.wgsl_rules.specs.Layout.{has_layout}
 use Rattle.wgsl_rules.specs.Paths.{put_viewed, viewed}
 use Rattle.wgsl_rules.specs.Refusals.{Outcome, and_then}
