@@ -17,10 +17,6 @@ use Rattle.wgsl_values.proofs.lemmas.Steps.{viewed-member, item-storable, parts-
 
 -- ---- parts of values that may be stored
 
-pub well-formed : (v : Val) → IsStorable v → IsWellFormed v
-well-formed (deferred t) h = tt
-well-formed v h = h
-
 pub member-storable : (n : List ℕ) (v x : Val) → IsStorable v → Some x ≡ option_map (λ p. p.1) (member_named n v) → IsStorable x
 member-storable n v x h e = by (member_named n v) refl e
   where
@@ -36,9 +32,6 @@ indexed-storable i v x h e = by (part_at i v) refl e
     by (Err f) is e = absurd (cc)
 
 -- ---- a reference one step deeper
-
-pub member-viewed : (n : List ℕ) (v x : Val) → Some x ≡ option_map (λ p. p.1) (member_named n v) → viewed (member n ∷ []) v ≡ Ok x
-member-viewed n v x e = viewed-member n [] v x e
 
 pub indexed-viewed : (i : ℕ) (v x : Val) → Some x ≡ option_map (λ p. p.1) (result_ok (part_at i v)) → viewed (index i ∷ []) v ≡ Ok x
 indexed-viewed i v x e = by (part_at i v) refl e
