@@ -6,14 +6,14 @@ use Rattle.wgsl_rules.specs.Access.{can_write}
 use Rattle.wgsl_rules.specs.Equal.{same_is}
 use Rattle.wgsl_rules.specs.Same.{same}
 use Rattle.wgsl_rules.specs.Types.{Ty}
-use Rattle.wgsl_rules.specs.Values.{Step, member, index, Reference, Val, deferred, type_of, IsStorable, IsWellFormed}
+use Rattle.wgsl_rules.specs.Values.{Step, index, Reference, Val, type_of, IsStorable}
 use Rattle.wgsl_rules.specs.Refusals.{not_read_write, write_ref_type, Outcome, and_then}
 use Rattle.wgsl_rules.specs.Paths.{parts, viewed, member_named, part_at, same_paths, fits}
 use Rattle.wgsl_store.specs.Fitting.{FitsAt}
 use Rattle.wgsl_store.specs.Memory.{held, IsKept, put_cells}
 use Rattle.wgsl_store.specs.ReferenceCalls.{going_on, read, deeper, old_value, read_written}
 use Rattle.wgsl_store.proofs.lemmas.Sound.{deeper-kept, whole-kept-new}
-use Rattle.wgsl_values.proofs.lemmas.Steps.{viewed-member, item-storable, parts-storable}
+use Rattle.wgsl_values.proofs.lemmas.Steps.{item-storable, parts-storable}
 
 -- ---- parts of values that may be stored
 

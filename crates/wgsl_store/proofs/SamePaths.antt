@@ -1,8 +1,8 @@
 -- Lists of the parts of values, and walks along two of them.
-use Rattle.std.proofs.Common.{◌≡◌, ℕ, zero, suc, ◌+◌, ◌<◌, ◌≤◌, List, [], ◌∷◌, length, get_or, Some, Bool, true, false, ◌&&◌, refl, sym, ap, ◌∙◌, arith, add-one}
+use Rattle.std.proofs.Common.{◌≡◌, ℕ, zero, suc, ◌+◌, ◌≤◌, List, length, Some, Bool, true, false, ◌&&◌, refl, sym, ap, ◌∙◌, arith, add-one}
 use Rattle.wgsl_rules.specs.Values.{Val, record_of, array_of, vector, matrix, Vals, no_vals, val, count, item}
 use Rattle.wgsl_rules.specs.Paths.{parts, same_paths, all_same_paths}
-use Rattle.wgsl_values.specs.View.{value_of, vals_view}
+use Rattle.wgsl_values.specs.View.{vals_view}
 use Rattle.wgsl_values.specs.declared.inst.Instance.{Instance}
 use Rattle.wgsl_values.proofs.lemmas.Views.{count-vals_view}
 

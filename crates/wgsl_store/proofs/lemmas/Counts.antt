@@ -4,9 +4,7 @@ use Rattle.std.specs.Prelude.{nat_le, ◌||◌, MatchOption, ⊤, if◌then◌el
 use Rattle.std.proofs.lemmas.Bool.{false≢true}
 use Rattle.std.proofs.lemmas.Bool.Decides.{nat_tests}
 use lib.Arith.{digits_div}
-use Rattle.wgsl_rules.specs.Kinds as kinds
-use Rattle.wgsl_rules.specs.Kinds.{Kind, bytes_of}
-use Rattle.wgsl_rules.specs.Types.{Ty, struct, array, vec, Fields, no_fields, field}
+use Rattle.wgsl_rules.specs.Types.{Ty, struct, array, Fields, no_fields, field}
 use Rattle.wgsl_rules.specs.Values.{Val, truth, number, record_of, array_of, vector, matrix, atomic_of, pointer, reference, deferred, Vals, no_vals, val, count, type_of, type_of_kind, first_type, matrix_type, HaveTypes, IsStorable, AreStorable}
 use Rattle.wgsl_rules.specs.Size.{size_of, offset_after, end_after, extent_in}
 use Rattle.wgsl_rules.specs.Layout.{size, stride, amount, has_fixed_layout, have_fixed_layouts, is_runtime_array, end_in_runtime_array, has_runtime_layout, has_layout, Tail, tail_at, tail_of, last_tail, layout_len, at_least_one, count_in, elements, last_elements, runtime_count, count_with, length_with}

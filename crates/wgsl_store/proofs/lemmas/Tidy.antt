@@ -8,7 +8,7 @@ use Rattle.std.proofs.lemmas.Option.{none-some}
 use Rattle.wgsl_rules.specs.Kinds as kinds
 use Rattle.wgsl_rules.specs.Kinds.{Kind, bytes_of}
 use Rattle.wgsl_rules.specs.Types.{Ty, i32, u32, i64, u64, struct, array, vec, mat, atomic, Fields, no_fields, field}
-use Rattle.wgsl_rules.specs.Size.{size_of, align_of, with_both, sum_of, times, vec3_align, round_up, extents, Extent, offset_after, end_after, end_of_members, struct_align, extent_in}
+use Rattle.wgsl_rules.specs.Size.{size_of, align_of, times, vec3_align, round_up, extents, offset_after, end_after, end_of_members, struct_align, extent_in}
 use Rattle.wgsl_rules.specs.Layout.{amount, size, align, known_stride, stride, Tail, scalar_kind, atomic_kind, is_from_2_to_4, is_size_valid, has_fixed_layout, have_fixed_layouts, is_runtime_array, end_in_runtime_array, has_runtime_layout, has_layout, tail_at, last_tail, tail_of, layout_len, Layout, scalar, Parts, no_parts, part, length_in, repeated, leaf, layout, member_parts, length_with}
 use Rattle.wgsl_store.proofs.lemmas.Fixed.{first-fixed, fixed-array, fixed-mat, last-runtime}
 use Rattle.wgsl_store.proofs.lemmas.Known.{and-both, some-of, fits, both-known, times-known, rounded-known, stride-known, offset-known, end-known, ends-known, end_after-none, offset_after-none}

@@ -3,8 +3,8 @@ use Rattle.std.proofs.Common.{◌≡◌, ℕ, List, [], ◌∷◌, Option, Some,
 use Rattle.wgsl_rules.specs.Types.{Ty, struct, array, vec, mat}
 use Rattle.wgsl_rules.specs.Kinds.{Kind}
 use Rattle.wgsl_rules.specs.Values.{Step, member, index, Val, record_of, array_of, vector, matrix, Vals, item, count, type_of, first_type, matrix_type, array_type}
-use Rattle.wgsl_rules.specs.Refusals.{Refusal, component, out_of_bounds, Outcome, and_then}
-use Rattle.wgsl_rules.specs.Paths.{parts, index_in, placed, member_named, or_refused, part_at as part_of, stepped, path_of}
+use Rattle.wgsl_rules.specs.Refusals.{component, out_of_bounds, Outcome, and_then}
+use Rattle.wgsl_rules.specs.Paths.{parts, index_in, placed, member_named, part_at as part_of, stepped, path_of}
 use Rattle.wgsl_rules.specs.Layout.{Layout, type_in, leaf, leaf_kind, layout, layout_of, runtime_count}
 use Rattle.wgsl_rules.proofs.lemmas.Paths.{named-both, or_refused-ok, placed-both}
 use Rattle.wgsl_store.specs.Ranges.{Range, part_at, parts_in, step_in, path_in, range_in, view_range}
