@@ -2,6 +2,7 @@
 use Rattle.std.proofs.Common.{◌≡◌, ℕ, List, slice_get, Option, Some, None, option_and_then, Ok, Err, Bool, true, false, if◌then◌else◌, sym, ap, ◌∙◌, refl, subst}
 use Rattle.std.specs.Prelude.{MatchResult}
 use Rattle.std.proofs.lemmas.Bool.{false≢true}
+use Rattle.std.proofs.lemmas.Option.{none-some, same_Some}
 use Rattle.wgsl_rules.specs.Same.{same}
 use Rattle.wgsl_rules.specs.Equal.{same-Decides}
 use Rattle.wgsl_rules.specs.Types.{Ty}
@@ -13,7 +14,6 @@ use Rattle.wgsl_store.specs.Buffers.{decode, IsReadOf, Lays}
 use Rattle.wgsl_store.specs.Ranges.{Range, view_range, bytes_in}
 use Rattle.wgsl_store.proofs.lemmas.Compose.{laid-once}
 use Rattle.wgsl_store.proofs.lemmas.Decoded.{decoding-is-reading}
-use Rattle.wgsl_store.proofs.lemmas.Held.{some-is, no-none}
 use Rattle.wgsl_session.specs.Flat.{Cell, bytes, tree, layout_in, NamesIn, Names, IsNamed, decoded_at, of_type, found_in}
 use Rattle.wgsl_session.specs.Laws.{AReferenceNamesOneValue, DecodingFindsWhatIsHeld}
 
@@ -47,14 +47,14 @@ bytes-found t b r = by (view_range r.view (layout_in t b)) refl
 
     read : (q : Range) → view_range r.view (layout_in t b) ≡ Some q → same (type_in q.layout) r.ty ≡ true → (o : Option Val) → IsReadOf (bytes_in b q) r.ty o → Is (or_refused o not_read)
     read q is t' (Some v) h = record { range = q; leads = is; typed = type-same (type_in q.layout) r.ty t'; laid = h.0 }
-    read q is t' None h = λ v n. let e = some-is q n.range (sym is ∙ n.leads) in h v (subst (λ (s : Range). Lays (bytes_in b s) r.ty v) (sym e) n.laid)
+    read q is t' None h = λ v n. let e = same_Some q n.range (sym is ∙ n.leads) in h v (subst (λ (s : Range). Lays (bytes_in b s) r.ty v) (sym e) n.laid)
 
     typed : (q : Range) → view_range r.view (layout_in t b) ≡ Some q → (c : Bool) → same (type_in q.layout) r.ty ≡ c → Is (or_refused (if c then decode (bytes_in b q) r.ty else None) not_read)
     typed q is true t' = read q is t' (decode (bytes_in b q) r.ty) (decoding-is-reading (bytes_in b q) r.ty)
-    typed q is false t' = λ v n. let e = some-is q n.range (sym is ∙ n.leads) in false≢true (sym t' ∙ ap (λ (s : Range). same (type_in s.layout) r.ty) e ∙ (same-Decides (type_in n.range.layout) r.ty).1 n.typed)
+    typed q is false t' = λ v n. let e = same_Some q n.range (sym is ∙ n.leads) in false≢true (sym t' ∙ ap (λ (s : Range). same (type_in s.layout) r.ty) e ∙ (same-Decides (type_in n.range.layout) r.ty).1 n.typed)
 
     by : (o : Option Range) → view_range r.view (layout_in t b) ≡ o → Is (or_refused (option_and_then (decoded_at r.ty b) o) not_read)
-    by None is = λ v n. no-none n.range (sym is ∙ n.leads)
+    by None is = λ v n. none-some n.range (sym is ∙ n.leads)
     by (Some q) is = typed q is (same (type_in q.layout) r.ty) refl
 
 pub decoding-finds : DecodingFindsWhatIsHeld
@@ -70,7 +70,7 @@ decoding-finds cells r = by (slice_get cells r.cell)
 named-once : (c : Cell) (r : Reference) (v w : Val) → Names c r v → Names c r w → w ≡ v
 named-once (tree x) r v w a b = let e : ◌≡◌ {A = Outcome Val} (Ok w) (Ok v) = sym b.0 ∙ a.0 in cc
 named-once (bytes t b) r v w a c =
-    let e = some-is c.range a.range (sym c.leads ∙ a.leads) in
+    let e = same_Some c.range a.range (sym c.leads ∙ a.leads) in
     laid-once (bytes_in b a.range) r.ty v w a.laid (subst (λ (q : Range). Lays (bytes_in b q) r.ty w) e c.laid)
 
 pub one-value : AReferenceNamesOneValue

@@ -1,12 +1,13 @@
 -- Values that hold no reference or pointer, part by part.
-use Rattle.std.proofs.Common.{◌≡◌, ℕ, zero, suc, ◌+◌, ◌<◌, ◌≤◌, List, [], ◌∷◌, ◌++◌, length, get_or, Some, refl, sym, ap, ◌∙◌, subst, arith, rules, below_more}
+use Rattle.std.proofs.Common.{◌≡◌, ℕ, zero, suc, ◌+◌, ◌<◌, ◌≤◌, List, [], ◌∷◌, ◌++◌, length, get_or, Some, refl, sym, ap, ◌∙◌, subst, arith, below_more}
 use Rattle.wgsl_rules.specs.Values.{Reference, Val, truth, number, vector, matrix, Vals, no_vals, val, count, item, IsStorable, AreStorable, AreLiterals, AreVectors}
 use Rattle.wgsl_store.specs.Memory.{references, references_in}
 use Rattle.wgsl_values.specs.View.{value_of, vals_view}
-use Rattle.wgsl_values.specs.declared.inst.Instance.{Instance, the_lemmas}
+use Rattle.wgsl_values.specs.declared.inst.Instance.{Instance}
 use Rattle.wgsl_values.specs.declared.inst.Instance.TheVariants as instances
 use Rattle.wgsl_values.specs.declared.inst.MatInstance.{MatInstance}
 use Rattle.wgsl_values.proofs.lemmas.Nodes.{nodes, all_nodes}
+use Rattle.wgsl_values.proofs.lemmas.Views.{item_within, mat_view-is, value_of-Mat}
 
 -- ---- vectors and matrices
 
@@ -21,34 +22,17 @@ vectors-free no_vals h s = refl
 vectors-free (val (vector ws) vs) h s = rw (literals-free ws s.0.2) (vectors-free vs h.1 s.1)
 vectors-free (val v vs) h s = absurd h.0
 
-matrix-is : (m : MatInstance) → value_of (instances.Mat m) ≡ matrix (vals_view m.columns.items)
-matrix-is m = search (rules, the_lemmas)
-
 pub matrix-free : (v : Instance) (m : MatInstance) → v ≡ instances.Mat m → IsStorable (value_of v) → references (value_of v) ≡ []
 matrix-free v m e h =
-    let is : value_of v ≡ matrix (vals_view m.columns.items) = ap value_of e ∙ matrix-is m in
+    let is : value_of v ≡ matrix (vals_view m.columns.items) = ap value_of e ∙ value_of-Mat m ∙ mat_view-is m in
     let storable = subst IsStorable is h in
     ap references is ∙ vectors-free (vals_view m.columns.items) storable.2 storable.4
 
 -- ---- lists of values
 
-item-at : (vs : List Instance) (i : ℕ) (d : Instance) → i < length vs → item i (vals_view vs) ≡ Some (value_of (get_or vs i d))
-item-at [] i d h = absurd (omega arith)
-item-at (v ∷ vs) zero d h = refl
-item-at (v ∷ vs) (suc i) d h = item-at vs i d (omega arith)
-
 -- the value that a walk is at stands at its position
 pub item-there : (vs : List Instance) (i : ℕ) (v : Instance) → i < length vs → v ≡ get_or vs i v → item i (vals_view vs) ≡ Some (value_of v)
-item-there vs i v h e = item-at vs i v h ∙ ap (λ (w : Instance). Some (value_of w)) (sym e)
-
-pub counted : (vs : List Instance) → count (vals_view vs) ≡ length vs
-counted [] = refl
-counted (v ∷ vs) = ap suc (counted vs)
-
-pub item-storable : (i : ℕ) (vs : Vals) (x : Val) → AreStorable vs → item i vs ≡ Some x → IsStorable x
-item-storable i no_vals x s e = absurd (cc)
-item-storable zero (val v vs) x s e = let same : v ≡ x = cc in subst IsStorable same s.0
-item-storable (suc i) (val v vs) x s e = item-storable i vs x s.1 e
+item-there vs i v h e = sym (item_within vs i v h) ∙ ap (λ (w : Instance). Some (value_of w)) (sym e)
 
 pub item-smaller : (i : ℕ) (vs : Vals) (x : Val) → item i vs ≡ Some x → nodes x ≤ all_nodes vs
 item-smaller i no_vals x e = absurd (cc)

@@ -1,6 +1,7 @@
 -- The memory of values and the memory of bytes are in step: the table of calls sees the same in both.
 use Rattle.std.proofs.Common.{◌≡◌, ℕ, zero, suc, List, [], ◌∷◌, ◌++◌, map, length, slice_get, Option, Some, None, option_map, Ok, Err, Bool, true, false, if◌then◌else◌, refl, sym, ap, ◌∙◌, subst}
 use Rattle.std.specs.Prelude.{IsOkAnd}
+use Rattle.std.proofs.lemmas.Option.{same_Some}
 use Rattle.wgsl_rules.specs.Access.{can_read, can_write}
 use Rattle.wgsl_rules.specs.Types as types
 use Rattle.wgsl_rules.specs.Types.{Ty}
@@ -12,7 +13,7 @@ use Rattle.wgsl_rules.specs.declared.syntax.AddressSpace.{AddressSpace}
 use Rattle.wgsl_rules.specs.declared.syntax.AccessMode.{AccessMode}
 use Rattle.wgsl_store.specs.Memory.{held, IsKept, IsContent, IsSound, at_position, put_cells}
 use Rattle.wgsl_store.specs.ReferenceCalls.{whole_of_new, going_on, read, deeper, old_value, read_on, load}
-use Rattle.wgsl_store.proofs.lemmas.Held.{some-is, has-cell, sound-at, kept-in, held-value}
+use Rattle.wgsl_store.proofs.lemmas.Held.{has-cell, sound-at, kept-in, held-value}
 use Rattle.wgsl_store.proofs.lemmas.Sound.{accepted, read-content}
 use Rattle.wgsl_session.specs.Calls.{State, Call, new, new_of, member, index, read_of, write, replace, copy, load_of, Answer, value, done, no_handle, After, Memory, IsGood, IsSoundCall, unchanged, changed, with_handle, with_cell, at_handle, or_unchanged, with_put, step, of_values}
 use Rattle.wgsl_session.specs.Flat.{Cell, cell_of, found_in, found, put_in, put_flat, of_bytes, flat_of}
@@ -44,7 +45,7 @@ put-at : (cells : List Val) (i : ℕ) (steps : List Step) (w x : Val) → slice_
     → at_position i (put_in steps w) (map cell_of cells) ≡ map cell_of (at_position i (put_viewed steps w) cells)
 put-at [] i steps w x e h = refl
 put-at (y ∷ ys) zero steps w x e h =
-    let same = some-is y x e in
+    let same = same_Some y x e in
     ap (λ (c : Cell). c ∷ map cell_of ys) (subst (λ (z : Val). put_in steps w (cell_of z) ≡ cell_of (put_viewed steps w z)) (sym same) h)
 put-at (y ∷ ys) (suc i) steps w x e h = ap (λ (cs : List Cell). cell_of y ∷ cs) (put-at ys i steps w x e h)
 

@@ -1,25 +1,21 @@
 -- What the calls on a reference answer, from what the calls that they make answered.
 use Rattle.std.proofs.Common.{◌≡◌, ℕ, List, [], ◌∷◌, ◌++◌, length, Option, Some, None, Ok, Err, option_map, Bool, true, false, ◌&&◌, if◌then◌else◌, refl, sym, ap, ◌∙◌, subst}
-use Rattle.std.specs.Prelude.{IsOkAnd, IsTrue}
 use Rattle.std.specs.Result.{result_ok}
 use Rattle.wgsl_rules.proofs.lemmas.Paths.{member_named-item, stepped-item}
 use Rattle.wgsl_rules.specs.Access.{can_write}
 use Rattle.wgsl_rules.specs.Equal.{same_is}
 use Rattle.wgsl_rules.specs.Same.{same}
 use Rattle.wgsl_rules.specs.Types.{Ty}
-use Rattle.wgsl_rules.specs.Values.{Step, member, index, Reference, Val, deferred, type_of, IsStorable, IsWellFormed}
+use Rattle.wgsl_rules.specs.Values.{Step, index, Reference, Val, type_of, IsStorable}
 use Rattle.wgsl_rules.specs.Refusals.{not_read_write, write_ref_type, Outcome, and_then}
 use Rattle.wgsl_rules.specs.Paths.{parts, viewed, member_named, part_at, same_paths, fits}
+use Rattle.wgsl_store.specs.Fitting.{FitsAt}
 use Rattle.wgsl_store.specs.Memory.{held, IsKept, put_cells}
 use Rattle.wgsl_store.specs.ReferenceCalls.{going_on, read, deeper, old_value, read_written}
 use Rattle.wgsl_store.proofs.lemmas.Sound.{deeper-kept, whole-kept-new}
-use Rattle.wgsl_values.proofs.lemmas.Steps.{viewed-member, item-storable, parts-storable}
+use Rattle.wgsl_values.proofs.lemmas.Steps.{item-storable, parts-storable}
 
 -- ---- parts of values that may be stored
-
-pub well-formed : (v : Val) → IsStorable v → IsWellFormed v
-well-formed (deferred t) h = tt
-well-formed v h = h
 
 pub member-storable : (n : List ℕ) (v x : Val) → IsStorable v → Some x ≡ option_map (λ p. p.1) (member_named n v) → IsStorable x
 member-storable n v x h e = by (member_named n v) refl e
@@ -36,9 +32,6 @@ indexed-storable i v x h e = by (part_at i v) refl e
     by (Err f) is e = absurd (cc)
 
 -- ---- a reference one step deeper
-
-pub member-viewed : (n : List ℕ) (v x : Val) → Some x ≡ option_map (λ p. p.1) (member_named n v) → viewed (member n ∷ []) v ≡ Ok x
-member-viewed n v x e = viewed-member n [] v x e
 
 pub indexed-viewed : (i : ℕ) (v x : Val) → Some x ≡ option_map (λ p. p.1) (result_ok (part_at i v)) → viewed (index i ∷ []) v ≡ Ok x
 indexed-viewed i v x e = by (part_at i v) refl e
@@ -74,10 +67,10 @@ fits-other w v t b e n f = by (same (type_of w) (type_of v)) refl
 
 -- ---- an accepted write that answers the old value
 
-pub read_written-is : (cells new : List Val) (r : Reference) (w old : Val) → can_write r.access ≡ true → IsOkAnd (held cells r) (λ v. IsTrue (fits w v)) → held cells r ≡ Ok old → new ≡ put_cells cells r w
+pub read_written-is : (cells new : List Val) (r : Reference) (w old : Val) → can_write r.access ≡ true → FitsAt w (held cells r) → held cells r ≡ Ok old → new ≡ put_cells cells r w
     → read_written cells r w ≡ Ok (record { old = old; cells = new })
 read_written-is cells new r w old can fit is put =
-    let fitted : fits w old ≡ true = subst (λ (o : Outcome Val). IsOkAnd o (λ v. IsTrue (fits w v))) is fit in
+    let fitted : fits w old ≡ true = subst (FitsAt w) is fit in
     let accepted : old_value not_read_write (held cells) r w ≡ Ok old =
     ap (λ (b : Bool). if b then and_then (held cells r) (λ v. if fits w v then Ok v else Err (write_ref_type (type_of w) r.ty)) else Err not_read_write) can
     ∙ ap (λ (o : Outcome Val). and_then o (λ v. if fits w v then Ok v else Err (write_ref_type (type_of w) r.ty))) is

@@ -14,6 +14,7 @@ use Rattle.wgsl_rules.specs.Values.{Reference, Val, truth, number, record_of, ar
 use Rattle.wgsl_rules.specs.Equal.{same-Decides}
 use Rattle.wgsl_store.specs.Atomics.{IsAtomicOf, number_in}
 use Rattle.wgsl_store.specs.Buffers.{decoded}
+use Rattle.wgsl_store.specs.Fitting.{FitsAt}
 use Rattle.wgsl_store.specs.Memory.{IsKept, IsSound, held}
 use Rattle.wgsl_store.specs.Plan.{Plan, scalar}
 use Rattle.wgsl_store.specs.Walk.{put, Stands}
@@ -72,7 +73,7 @@ fits-atomic w (pointer r) e = absurd e
 fits-atomic w (reference r) e = absurd e
 fits-atomic w (deferred t) e = absurd e
 
-pub fits-led : (w : Val) (o : Outcome Val) → IsOkAnd o (IsAtomicOf (type_of w)) → IsOkAnd o (λ v. IsTrue (fits (atomic_of w) v))
+pub fits-led : (w : Val) (o : Outcome Val) → IsOkAnd o (IsAtomicOf (type_of w)) → FitsAt (atomic_of w) o
 fits-led w (Ok v) h = fits-atomic w v h
 fits-led w (Err e) h = absurd h
 

@@ -9,8 +9,7 @@ use Rattle.wgsl_rules.specs.Same.{same_number}
 use Rattle.wgsl_rules.specs.Types as types
 use Rattle.wgsl_rules.specs.Types.{Ty}
 use Rattle.wgsl_rules.specs.Values.{Reference, Val, number, array_of, vector, matrix, deferred, Vals, no_vals, val, count, IsStorable, IsWellFormed}
-use Rattle.wgsl_rules.proofs.lemmas.Converted.{mapped, joins, keeps, converted-well_formed}
-use Rattle.wgsl_store.proofs.Answered.{well-formed}
+use Rattle.wgsl_rules.proofs.lemmas.Converted.{mapped, joins, keeps, converted-well_formed, storable-well_formed}
 use Rattle.wgsl_store.specs.Memory.{AllKept, HoldsValue, references, references_in}
 
 -- ---- numbers
@@ -85,7 +84,7 @@ some-well_formed view (Some x) v t e h = converted-well_formed v (view x) t h (s
 
 pub some-storable : {X : Type 0} (view : X → Val) (o : Option X) (v : Val) (t : Ty) → option_map view o ≡ converted v t → IsStorable v → IfSome o (λ x. IsStorable (view x))
 some-storable view None v t e h = tt
-some-storable view (Some x) v t e h = storable (view x) (same-deferred v (view x) t (sym e) ∙ not-deferred v h) (converted-well_formed v (view x) t (well-formed v h) (sym e))
+some-storable view (Some x) v t e h = storable (view x) (same-deferred v (view x) t (sym e) ∙ not-deferred v h) (converted-well_formed v (view x) t (storable-well_formed v h) (sym e))
 
 pub some-held : {X : Type 0} (view : X → Val) (cells : List Val) (o : Option X) (v : Val) (t : Ty) → option_map view o ≡ converted v t → HoldsValue cells v → IfSome o (λ x. HoldsValue cells (view x))
 some-held view cells None v t e h = tt

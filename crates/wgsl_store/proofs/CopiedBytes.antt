@@ -1,14 +1,13 @@
 -- The bytes of cells after a copy: those in one range, written over those in another.
-use Rattle.std.proofs.Common.{◌≡◌, ℕ, List, slice_get, Option, Some, None, Ok, Err, refl, sym, ap, ◌∙◌, subst}
+use Rattle.std.proofs.Common.{◌≡◌, List, slice_get, Option, Some, None, Ok, Err, refl, sym, ap, ◌∙◌, subst}
 use Rattle.std.specs.Prelude.{IsSomeAnd}
 use Rattle.wgsl_rules.specs.Paths.{put_viewed, viewed}
 use Rattle.wgsl_rules.specs.Refusals.{Outcome, and_then}
-use Rattle.wgsl_rules.specs.Values.{Reference, Val}
+use Rattle.wgsl_rules.specs.Values.{Val}
 use Rattle.wgsl_store.specs.Buffers.{buffer}
-use Rattle.wgsl_store.specs.Copies.{copied}
-use Rattle.wgsl_store.specs.Memory.{held, IsSound, at_position}
-use Rattle.wgsl_store.specs.MemoryLaws.{ACopyOverwritesItsRange, HasNewBytes, NamesBytes}
-use Rattle.wgsl_store.specs.Ranges.{Range, bytes_in, overwritten}
+use Rattle.wgsl_store.specs.Memory.{held, at_position}
+use Rattle.wgsl_store.specs.MemoryLaws.{ACopyOverwritesItsRange, HasNewBytes}
+use Rattle.wgsl_store.specs.Ranges.{bytes_in, overwritten}
 use Rattle.wgsl_store.specs.ReferenceCalls.{read, written}
 use Rattle.wgsl_store.proofs.CopiedCells.{held-is}
 use Rattle.wgsl_store.proofs.Copies.{copied-in-place}

@@ -1,15 +1,16 @@
 -- The cells of a store after a copy between two of them, and what the copy answers.
-use Rattle.std.proofs.Common.{◌≡◌, ◌<◌, ◌-◌, ℕ, List, length, arith, [], ◌∷◌, ◌++◌, map, get_or, set, slice_get, Option, Some, None, Ok, Err, Bool, true, false, ◌&&◌, if◌then◌else◌, refl, sym, ap, ◌∙◌, subst}
+use Rattle.std.proofs.Common.{◌≡◌, ◌<◌, ◌-◌, ℕ, List, length, arith, ◌++◌, map, get_or, set, slice_get, Option, Some, None, Ok, Err, Bool, true, false, ◌&&◌, if◌then◌else◌, refl, sym, ap, ◌∙◌, subst}
 use Rattle.std.proofs.lemmas.List.{get_or_append_left, get_or-append_right, set-append_left, set-append_right}
-use Rattle.std.specs.Prelude.{IsOk, IsOkAnd, IsTrue}
+use Rattle.std.specs.Prelude.{IsOk, IsOkAnd}
 use Rattle.wgsl_rules.specs.Access.{can_read, can_write}
 use Rattle.wgsl_rules.specs.Paths.{fits, or_refused, put_viewed, viewed}
 use Rattle.wgsl_rules.specs.Refusals.{not_read, not_write, write_ref_type, Outcome, and_then}
 use Rattle.wgsl_rules.specs.Values.{Step, Reference, Val, type_of}
 use Rattle.wgsl_store.specs.Copies.{AreCopied, IsCopied, are_in_bytes, copied, in_bytes, is_bytes}
+use Rattle.wgsl_store.specs.Fitting.{FitsAt}
 use Rattle.wgsl_store.specs.Memory.{held, IsKept, IsSound, put_cells}
 use Rattle.wgsl_store.specs.MemoryLaws.{StaysKept}
-use Rattle.wgsl_store.specs.ReferenceCalls.{old_value, read, written}
+use Rattle.wgsl_store.specs.ReferenceCalls.{old_value, written}
 use Rattle.wgsl_store.specs.declared.in_place.InPlace.{InPlace}
 use Rattle.wgsl_store.specs.declared.in_place.InPlace.TheVariants as in_place
 use Rattle.wgsl_store.proofs.StoreCells.{cell-is, map-set, same-set, replaced-good}
@@ -99,10 +100,10 @@ copied-set view way cs q r x y new from to h =
     each : (k : InPlace) (w : Val) → IsCopied k (is_bytes (view x) && is_bytes (view y)) (view y) (view new) r.view w → AreCopied k (are_in_bytes cells q r) cells after r w
     each in_place.Done w (b, fit, put) = (
       both ∙ b,
-      subst (λ (o : Outcome Val). IsOkAnd o (λ v. IsTrue (fits w v))) (sym (held-is cells r (view y) to)) fit,
+      subst (FitsAt w) (sym (held-is cells r (view y) to)) fit,
       map-set view cs r.cell new y (put_viewed r.view w) (put ∙ ap (put_viewed r.view w) (sym was)),
     )
-    each in_place.Misfit w (b, differ, e) = (both ∙ b, λ f. differ (subst (λ (o : Outcome Val). IsOkAnd o (λ v. IsTrue (fits w v))) (held-is cells r (view y) to) f), same e)
+    each in_place.Misfit w (b, differ, e) = (both ∙ b, λ f. differ (subst (FitsAt w) (held-is cells r (view y) to) f), same e)
     each in_place.NotBytes w (b, e) = (both ∙ b, same e)
 
 pub copied-cells : {X : Type 0} (view : X → Val) (way : InPlace) (cs after : List X) (q r : Reference) (x y new : X) → slice_get (map view cs) q.cell ≡ Some (view x) → slice_get (map view cs) r.cell ≡ Some (view y) → after ≡ set cs r.cell new
@@ -135,16 +136,16 @@ copied-good way both cells after q r s h = by (held cells q) refl h
 -- ---- what a copy answers
 
 -- a value is written where it fits
-pub written-done : (cells after : List Val) (r : Reference) (w : Val) → can_write r.access ≡ true → IsOkAnd (held cells r) (λ v. IsTrue (fits w v)) → after ≡ put_cells cells r w → written cells r w ≡ Ok after
+pub written-done : (cells after : List Val) (r : Reference) (w : Val) → can_write r.access ≡ true → FitsAt w (held cells r) → after ≡ put_cells cells r w → written cells r w ≡ Ok after
 written-done cells after r w can fit put = by (held cells r) refl fit
   where
-    by : (o : Outcome Val) → held cells r ≡ o → IsOkAnd o (λ v. IsTrue (fits w v)) → written cells r w ≡ Ok after
+    by : (o : Outcome Val) → held cells r ≡ o → FitsAt w o → written cells r w ≡ Ok after
     by (Ok old) is f =
         accepts cells r w old can is f ∙ ap Ok (sym put)
     by (Err e) is f = absurd f
 
 -- and else refused
-pub written-misfit : (cells : List Val) (r : Reference) (w : Val) → can_write r.access ≡ true → IsKept cells r → (¬ IsOkAnd (held cells r) (λ v. IsTrue (fits w v))) → written cells r w ≡ Err (write_ref_type (type_of w) r.ty)
+pub written-misfit : (cells : List Val) (r : Reference) (w : Val) → can_write r.access ≡ true → IsKept cells r → (¬ FitsAt w (held cells r)) → written cells r w ≡ Err (write_ref_type (type_of w) r.ty)
 written-misfit cells r w can kept differ = by (held cells r) refl kept
   where
     turned : (o : Outcome Val) → held cells r ≡ o → old_value not_write (held cells) r w ≡ and_then o (λ v. if fits w v then Ok v else Err (write_ref_type (type_of w) r.ty))
@@ -153,7 +154,7 @@ written-misfit cells r w can kept differ = by (held cells r) refl kept
         ∙ ap (λ (o : Outcome Val). and_then o (λ v. if fits w v then Ok v else Err (write_ref_type (type_of w) r.ty))) is
 
     at : (v : Val) (b : Bool) → held cells r ≡ Ok v → fits w v ≡ b → written cells r w ≡ Err (write_ref_type (type_of w) r.ty)
-    at v true is f = absurd (differ (subst (λ (o : Outcome Val). IsOkAnd o (λ v. IsTrue (fits w v))) (sym is) f))
+    at v true is f = absurd (differ (subst (FitsAt w) (sym is) f))
     at v false is f =
         ap (λ (o : Outcome Val). and_then o (λ x. Ok (put_cells cells r w))) (turned (Ok v) is ∙ ap (λ (b : Bool). if b then Ok v else Err (write_ref_type (type_of w) r.ty)) f)
 

@@ -1,7 +1,7 @@
 -- Parts of cells of bytes that are copied: the bytes of one part, in the place of another that is laid out alike.
-use Rattle.std.proofs.Common.{Global, Vec, ◌≡◌, ℕ, ◌+◌, ◌-◌, ◌≤◌, List, [], ◌++◌, length, take, drop, Option, Some, option_map, vec_len, option_and_then, Ok, Err, Bool, true, false, refl, sym, ap, ◌∙◌, subst, arith, length-drop}
+use Rattle.std.proofs.Common.{Global, Vec, ◌≡◌, ℕ, ◌+◌, ◌≤◌, List, [], ◌++◌, length, take, drop, Option, Some, option_map, vec_len, option_and_then, Ok, Err, true, refl, sym, ap, ◌∙◌, subst, arith, length-drop}
 use Rattle.std.proofs.lemmas.List.{length-take-le, drop-drop}
-use Rattle.std.specs.Prelude.{◌↔◌, IsOk, IsOkAnd, IsTrue}
+use Rattle.std.specs.Prelude.{◌↔◌, IsOkAnd}
 use Rattle.wgsl_rules.specs.Layout.{has_layout, layout, layout_of, length_in, type_in}
 use Rattle.wgsl_rules.specs.Paths.{fits, put_tree, put_viewed, viewed, FitsPlace}
 use Rattle.wgsl_rules.specs.Refusals.{Outcome}

@@ -9,7 +9,7 @@ use Rattle.wgsl_rules.specs.Same.{same}
 use Rattle.wgsl_rules.specs.Types.{Ty}
 use Rattle.wgsl_rules.specs.Values.{Step, Val, type_of, IsStorable}
 use Rattle.wgsl_rules.specs.Paths.{viewed}
-use Rattle.wgsl_rules.specs.Layout.{has_layout, Layout, length_in, type_in, layout, layout_of, runtime_count, count_in}
+use Rattle.wgsl_rules.specs.Layout.{has_layout, length_in, type_in, layout, layout_of, runtime_count, count_in}
 use Rattle.wgsl_store.specs.Buffers.{buffer, decoded, decode}
 use Rattle.wgsl_store.specs.Layouts.{Answer, answer_then, or_refused, part_in, written_in, written}
 use Rattle.wgsl_store.specs.Located.{IsLocated, part_range, shape_plan, shape_ty}

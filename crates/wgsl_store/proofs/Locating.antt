@@ -4,6 +4,7 @@ use Rattle.std.specs.Prelude.{◌||◌, ◌↔◌, bytes_eq}
 use Rattle.std.specs.Option.{unwrap_or}
 use Rattle.std.specs.Result.{result_ok}
 use Rattle.std.proofs.lemmas.Bool.{false≢true}
+use Rattle.std.proofs.lemmas.Option.{none-some, same_Some}
 use Rattle.wgsl_rules.specs.Equal.{same-Decides}
 use Rattle.wgsl_rules.specs.Same.{same}
 use Rattle.wgsl_rules.specs.Types as types
@@ -203,24 +204,18 @@ same-tells t u b is = (λ h. (same-Decides t u).0 (sym is ∙ h), λ h. is ∙ (
 
 -- with the type of a vector
 
-some-same : {A : Type 0} (x y : A) → Some x ≡ Some y → x ≡ y
-some-same x y e = cc
-
 vec-same : (k n : ℕ) (v u : Ty) → vec k v ≡ vec n u → v ≡ u
 vec-same k n v u e = cc
 
 pub vector-of : (t u w : Ty) (n m : ℕ) (b : Bool) → Some (m, w) ≡ vec_part t → m ≡ n → b ≡ same w u → (b ≡ true) ↔ (t ≡ vec n u)
 vector-of (vec k v) u w n m b e f is =
-    let pair = some-same {A = ℕ × Ty} (m, w) (k, v) e in
+    let pair = same_Some {A = ℕ × Ty} (m, w) (k, v) e in
     let n_is : k ≡ n = sym (ap (λ (q : ℕ × Ty). q.0) pair) ∙ f in
     let t_is : w ≡ v = ap (λ (q : ℕ × Ty). q.1) pair in (
       λ h. ap (λ (j : ℕ). vec j v) n_is ∙ ap (vec n) (sym t_is ∙ (same-Decides w u).0 (sym is ∙ h)),
       λ h. is ∙ (same-Decides w u).1 (t_is ∙ vec-same k n v u h),
     )
-vector-of t u w n m b e f is = absurd (none-other (m, w) e)
-  where
-    none-other : (p : ℕ × Ty) → Some p ≡ None → ⊥
-    none-other p g = cc
+vector-of t u w n m b e f is = absurd (none-some (m, w) (sym e))
 
 -- ---- why what bytes lay out has no part of an index
 

@@ -7,6 +7,7 @@ use Rattle.std.proofs.lemmas.Bool.Decides.{nat_tests}
 use Rattle.std.proofs.Math.ListN.{drop_of_length-le}
 use Rattle.std.proofs.Math.Nat.{div-mul-le_self}
 use Rattle.std.proofs.Math.Seq.{drop-nil}
+use Rattle.std.proofs.Math.Bool.{or-false}
 use Rattle.wgsl_rules.specs.Kinds.{bytes_of}
 use Rattle.wgsl_rules.specs.Types as types
 use Rattle.wgsl_rules.specs.Types.{Ty, struct, array, vec, mat, atomic, Fields, no_fields, field}
@@ -83,10 +84,6 @@ nth-inside (suc n) (suc i) l far from low to h lt = let k = nth-inside n i l far
 row-inside : (l : Layout) (far n to o len : ℕ) → AreTidy 0 (repeated l far 0 n) to → o + to ≤ len → (i : ℕ) → i < n → o + i * far + length_in l ≤ len
 row-inside l far n to o len h le i lt = let k = nth-inside n i l far 0 0 to h lt in omega arith
 
-or-false : (b : Bool) → (b || false) ≡ true → b ≡ true
-or-false true h = refl
-or-false false h = h
-
 -- a fixed layout does not turn on the count
 pub fixed-there : (n : ℕ) (t : Ty) (p : Plan) (at len : ℕ) → has_fixed_layout t ≡ true → p ≡ plan_of t → at + length_in (layout n t) ≤ len → IsThere n t p at len
 fixed-there n t p at len h planned inside =
@@ -124,7 +121,7 @@ pub record IsRowOfScalars (k far : ℕ) (t : Ty) (o len : ℕ) : Type 0 where
 
 pub vector-there : (n k far : ℕ) (t : Ty) (o len : ℕ) → IsThere n (vec k t) (components far) o len → IsRowOfScalars k far t o len
 vector-there n k far t o len h =
-    let both = and-both (is_from_2_to_4 k) (is_some (scalar_kind t)) (or-false (has_fixed_layout (vec k t)) h.laid) in
+    let both = and-both (is_from_2_to_4 k) (is_some (scalar_kind t)) (sym (or-false (has_fixed_layout (vec k t))) ∙ h.laid) in
     let g = some-of (scalar_kind t) both.1 in
     let s = scalar-is t g.0 g.1 in
     let sz : size t ≡ bytes_of g.0 = ap amount s.sized in
@@ -150,7 +147,7 @@ vector-made xs k far i m o len b t there count_is le so_far =
 
 pub matrix-there : (n c r far : ℕ) (t : Ty) (p : Plan) (o len : ℕ) → IsThere n (mat c r t) (row far p) o len → (far ≡ align (vec r t)) × ((i : ℕ) → i < c → IsThere 0 (vec r t) p (o + i * far) len)
 matrix-there n c r far t p o len h =
-    let fixed = or-false (has_fixed_layout (mat c r t)) h.laid in
+    let fixed = sym (or-false (has_fixed_layout (mat c r t))) ∙ h.laid in
     let made = fixed-mat c r t fixed in
     let column : has_fixed_layout (vec r t) ≡ true = rw made.rows made.scalar in
     let far_is : far ≡ align (vec r t) = cc (h.planned) in
@@ -175,7 +172,7 @@ matrix-made xs c r far i m o len b t p there count_is le so_far =
 
 element-fixed : (r : Option ℕ) (t : Ty) → HasLayout (array t r) → has_fixed_layout t ≡ true
 element-fixed None t h = (and-both (has_fixed_layout t) (is_some (known_stride t)) h).0
-element-fixed (Some k) t h = (fixed-array k t (or-false (has_fixed_layout (array t (Some k))) h)).element
+element-fixed (Some k) t h = (fixed-array k t (sym (or-false (has_fixed_layout (array t (Some k)))) ∙ h)).element
 
 elements-inside : (r : Option ℕ) (n o len : ℕ) (t : Ty) → HasLayout (array t r) → o + length_in (layout n (array t r)) ≤ len → (i : ℕ) → i < unwrap_or r n → o + i * stride t + length_in (layout n t) ≤ len
 elements-inside None n o len t h le i lt = row-inside (layout n t) (stride t) n (length_in (layout n (array t None))) o len (tidy (array t None) n h).0 le i lt

@@ -1,20 +1,15 @@
 -- Lists of the parts of values, and walks along two of them.
-use Rattle.std.proofs.Common.{◌≡◌, ℕ, zero, suc, ◌+◌, ◌<◌, ◌≤◌, List, [], ◌∷◌, length, get_or, Some, Bool, true, false, ◌&&◌, refl, sym, ap, ◌∙◌, arith, add-one}
+use Rattle.std.proofs.Common.{◌≡◌, ℕ, zero, suc, ◌+◌, ◌≤◌, List, length, Some, Bool, true, false, ◌&&◌, refl, sym, ap, ◌∙◌, arith, add-one}
 use Rattle.wgsl_rules.specs.Values.{Val, record_of, array_of, vector, matrix, Vals, no_vals, val, count, item}
 use Rattle.wgsl_rules.specs.Paths.{parts, same_paths, all_same_paths}
-use Rattle.wgsl_values.specs.View.{value_of, vals_view}
+use Rattle.wgsl_values.specs.View.{vals_view}
 use Rattle.wgsl_values.specs.declared.inst.Instance.{Instance}
+use Rattle.wgsl_values.proofs.lemmas.Views.{count-vals_view}
 
 -- ---- lists of values
 
 pub vals_counted : (vs : List Instance) → length vs ≡ count (vals_view vs)
-vals_counted [] = refl
-vals_counted (v ∷ vs) = ap suc (vals_counted vs)
-
-pub item_there : (vs : List Instance) (i : ℕ) (d : Instance) → i < length vs → item i (vals_view vs) ≡ Some (value_of (get_or vs i d))
-item_there [] i d h = absurd (omega arith)
-item_there (v ∷ vs) zero d h = refl
-item_there (v ∷ vs) (suc i) d h = item_there vs i d (omega arith)
+vals_counted vs = sym (count-vals_view vs)
 
 -- ---- the values behind the first
 

@@ -9,6 +9,7 @@ use Rattle.wgsl_rules.specs.Values.{Step, Reference, Val, type_of}
 use Rattle.wgsl_rules.specs.Refusals.{not_read, Outcome, and_then}
 use Rattle.wgsl_rules.specs.Paths.{or_refused, viewed, put_tree, put_viewed, fits}
 use Rattle.wgsl_rules.proofs.lemmas.Paths.{fits-Decides}
+use Rattle.wgsl_store.specs.Fitting.{FitsAt}
 use Rattle.wgsl_store.specs.Memory.{held, references, IsContent, IsSound, at_position, put_cells}
 use Rattle.wgsl_store.proofs.lemmas.Held.{has-cell, has-path, held-value}
 use Rattle.wgsl_store.proofs.lemmas.Places.{put-type}
@@ -28,17 +29,17 @@ answered (Err e) P h = absurd h
 -- ---- a tree stays of a type without a layout
 
 -- a put of what fits keeps the type of the whole
-put-typed : (steps : List Step) (w v : Val) → IsOkAnd (viewed steps v) (λ x. IsTrue (fits w x)) → type_of (put_viewed steps w v) ≡ type_of v
+put-typed : (steps : List Step) (w v : Val) → FitsAt w (viewed steps v) → type_of (put_viewed steps w v) ≡ type_of v
 put-typed steps w v h =
     let a = answered (viewed steps v) (λ x. IsTrue (fits w x)) h in
     let p = has-path steps v a.answer a.is in
     ap (λ (o : Outcome (List ℕ)). type_of (elim o [ Ok q ↦ put_tree q w v | Err r ↦ v ])) p.there ∙ put-type p.path w v a.answer p.stands ((fits-Decides w a.answer).0 a.fact).0
 
-pub replaced-form : (steps : List Step) (w v new : Val) → has_layout (type_of v) ≡ false → IsOkAnd (viewed steps v) (λ x. IsTrue (fits w x)) → new ≡ put_viewed steps w v → has_layout (type_of new) ≡ false
+pub replaced-form : (steps : List Step) (w v new : Val) → has_layout (type_of v) ≡ false → FitsAt w (viewed steps v) → new ≡ put_viewed steps w v → has_layout (type_of new) ≡ false
 replaced-form steps w v new h fit put = ap (λ (x : Val). has_layout (type_of x)) put ∙ ap has_layout (put-typed steps w v fit) ∙ h
 
 -- whether the put was accepted or not
-pub put-form : {X : Type 0} (steps : List Step) (w v new : Val) (o : Result Unit X) → has_layout (type_of v) ≡ false → (IsOk o → IsOkAnd (viewed steps v) (λ x. IsTrue (fits w x)))
+pub put-form : {X : Type 0} (steps : List Step) (w v new : Val) (o : Result Unit X) → has_layout (type_of v) ≡ false → (IsOk o → FitsAt w (viewed steps v))
     → OnOk o (new ≡ put_viewed steps w v) → OnErr o (new ≡ v) → has_layout (type_of new) ≡ false
 put-form steps w v new (Ok u) h fit put same = replaced-form steps w v new h (fit refl) put
 put-form steps w v new (Err x) h fit put same = ap (λ (y : Val). has_layout (type_of y)) same ∙ h
@@ -126,12 +127,12 @@ put-or view (Ok x) cs cells r i new cell w are at was put same = record { put = 
 put-or view (Err e) cs cells r i new cell w are at was put same = record { put = tt; same = same-cells view cs cells i new cell are was same }
 
 -- after a put of what fits the cells are sound, and each reference stays kept
-pub replaced-good : (cells after : List Val) (r : Reference) (w : Val) → IsSound cells → IsContent cells w → IsOkAnd (held cells r) (λ v. IsTrue (fits w v)) → after ≡ put_cells cells r w → StaysKept cells after
+pub replaced-good : (cells after : List Val) (r : Reference) (w : Val) → IsSound cells → IsContent cells w → FitsAt w (held cells r) → after ≡ put_cells cells r w → StaysKept cells after
 replaced-good cells after r w s h fit e =
     let a = answered (held cells r) (λ v. IsTrue (fits w v)) fit in
     subst (λ (vs : List Val). StaysKept cells vs) (sym e) (put-good cells r w a.answer s h a.is a.fact)
 
-pub put-or-good : {E A : Type 0} (o : Result A E) (cells after : List Val) (r : Reference) (w : Val) → IsSound cells → IsContent cells w → (IsOk o → IsOkAnd (held cells r) (λ v. IsTrue (fits w v)))
+pub put-or-good : {E A : Type 0} (o : Result A E) (cells after : List Val) (r : Reference) (w : Val) → IsSound cells → IsContent cells w → (IsOk o → FitsAt w (held cells r))
     → IsPutOr o cells after r w → StaysKept cells after
 put-or-good (Ok x) cells after r w s h fit p = replaced-good cells after r w s h (fit refl) p.put
 put-or-good (Err e) cells after r w s h fit p = subst (λ (vs : List Val). StaysKept cells vs) (sym p.same) (record { sound = s; keeps = λ q k. k })

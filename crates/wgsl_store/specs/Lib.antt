@@ -3,6 +3,7 @@ pub mod Buffers
 pub mod Cells
 pub mod Components
 pub mod Copies
+pub mod Fitting
 pub mod FlatCells
 pub mod HeldBytes
 pub mod Laws

@@ -30,6 +30,7 @@ ghost use Rattle.wgsl_store.specs.Atomics.{IsAtomicOf, number_in};
 ghost use Rattle.wgsl_store.specs.Cells.{IsCell, IsPart, LeadsIn, cell_value, part_value};
 ghost use Rattle.wgsl_store.specs.Components.{has_steps, is_vector, leads_to_component};
 ghost use Rattle.wgsl_store.specs.Copies.{IsCopied, is_bytes};
+ghost use Rattle.wgsl_store.specs.Fitting.{FitsAt};
 ghost use Rattle.wgsl_store.specs.HeldBytes.{bytes_at};
 ghost use Rattle.wgsl_values.specs.View.{reference_of, steps_of, value_of};
 
@@ -104,7 +105,7 @@ impl Cell {
         requires cell { IsCell self.old }
         requires leads { LeadsIn (cell_value self.old) (reference_of reference.now) }
         requires storable { IsStorable (value_of value) }
-        ensures fit { IsOk result ↔ IsOkAnd (viewed (reference_of reference.now).view (cell_value self.old)) (λ v. IsTrue (fits (value_of value) v)) }
+        ensures fit { IsOk result ↔ FitsAt (value_of value) (viewed (reference_of reference.now).view (cell_value self.old)) }
         ensures ok { OnOk result (cell_value self.new ≡ put_viewed (reference_of reference.now).view (value_of value) (cell_value self.old)) }
         ensures err { OnErr result (cell_value self.new ≡ cell_value self.old) }
         ensures back { IfErr result (λ v. value_of v ≡ value_of value) }
@@ -126,7 +127,7 @@ impl Cell {
         value: Instance,
     ) -> Result<Instance, AllocError>
         requires cell { IsCell self.old }
-        requires fit { IsOkAnd (viewed (reference_of reference.now).view (cell_value self.old)) (λ v. IsTrue (fits (value_of value) v)) }
+        requires fit { FitsAt (value_of value) (viewed (reference_of reference.now).view (cell_value self.old)) }
         requires storable { IsStorable (value_of value) }
         ensures put { OnOk result (cell_value self.new ≡ put_viewed (reference_of reference.now).view (value_of value) (cell_value self.old)) }
         ensures old { IfOk result (λ v. viewed (reference_of reference.now).view (cell_value self.old) ≡ Ok (value_of v)) }
@@ -196,7 +197,7 @@ impl Cell {
 fn put_bytes(bytes: &mut FlatCell, view: &MemView, value: Instance) -> Result<(), Instance>
     requires leads { IsOk (viewed (steps_of view.now) bytes.old) }
     requires storable { IsStorable (value_of value) }
-    ensures fit { IsOk result ↔ IsOkAnd (viewed (steps_of view.now) bytes.old) (λ v. IsTrue (fits (value_of value) v)) }
+    ensures fit { IsOk result ↔ FitsAt (value_of value) (viewed (steps_of view.now) bytes.old) }
     ensures ok { OnOk result (bytes.new ≡ put_viewed (steps_of view.now) (value_of value) bytes.old) }
     ensures err { OnErr result (bytes.new ≡ bytes.old) }
     ensures back { IfErr result (λ v. value_of v ≡ value_of value) }
@@ -212,7 +213,7 @@ fn put_bytes(bytes: &mut FlatCell, view: &MemView, value: Instance) -> Result<()
 fn put_tree(whole: &mut Instance, reference: &RefInstance, value: Instance) -> Result<(), Instance>
     requires leads { LeadsIn (value_of whole.old) (reference_of reference.now) }
     requires storable { IsStorable (value_of value) }
-    ensures fit { IsOk result ↔ IsOkAnd (viewed (reference_of reference.now).view (value_of whole.old)) (λ v. IsTrue (fits (value_of value) v)) }
+    ensures fit { IsOk result ↔ FitsAt (value_of value) (viewed (reference_of reference.now).view (value_of whole.old)) }
     ensures ok { OnOk result (value_of whole.new ≡ put_viewed (reference_of reference.now).view (value_of value) (value_of whole.old)) }
     ensures err { OnErr result (value_of whole.new ≡ value_of whole.old) }
     ensures back { IfErr result (λ v. value_of v ≡ value_of value) }
@@ -234,7 +235,7 @@ fn replace_bytes(
     view: &MemView,
     value: &Instance,
 ) -> Result<Instance, AllocError>
-    requires fit { IsOkAnd (viewed (steps_of view.now) bytes.old) (λ v. IsTrue (fits (value_of value.now) v)) }
+    requires fit { FitsAt (value_of value.now) (viewed (steps_of view.now) bytes.old) }
     requires storable { IsStorable (value_of value.now) }
     ensures put { OnOk result (bytes.new ≡ put_viewed (steps_of view.now) (value_of value.now) bytes.old) }
     ensures old { IfOk result (λ v. viewed (steps_of view.now) bytes.old ≡ Ok (value_of v)) }

@@ -59,12 +59,13 @@ impl FlatCell {
     };
     ghost use Rattle.std.specs.Bool.{OnFalse, OnTrue};
     ghost use Rattle.wgsl_rules.specs.Layout.{has_layout};
-    ghost use Rattle.wgsl_rules.specs.Paths.{fits, put_viewed, viewed};
+    ghost use Rattle.wgsl_rules.specs.Paths.{put_viewed, viewed};
     ghost use Rattle.wgsl_rules.specs.Values.{IsStorable, atomic_of, type_of};
     ghost use Rattle.wgsl_scalar.specs.Literals.{literal_of};
     ghost use Rattle.wgsl_store.specs.Atomics.{IsAtomicOf};
     ghost use Rattle.wgsl_store.specs.Buffers.{buffer};
     ghost use Rattle.wgsl_store.specs.Copies.{IsCopied};
+    ghost use Rattle.wgsl_store.specs.Fitting.{FitsAt};
     ghost use Rattle.wgsl_store.specs.FlatCells.{IsFlatPart, IsPartAt, part_value};
     ghost use Rattle.wgsl_values.specs.View.{value_of, steps_of};
 
@@ -126,7 +127,7 @@ impl FlatCell {
     pub(crate) fn put(&mut self, view: &MemView, value: &Instance) -> bool
         requires storable { IsStorable (value_of value.now) }
         requires there { IsOk (viewed (steps_of view.now) self.old) }
-        ensures fit { IsTrue result ↔ IsOkAnd (viewed (steps_of view.now) self.old) (λ v. IsTrue (fits (value_of value.now) v)) }
+        ensures fit { IsTrue result ↔ FitsAt (value_of value.now) (viewed (steps_of view.now) self.old) }
         ensures put { OnTrue result (self.new ≡ put_viewed (steps_of view.now) (value_of value.now) self.old) }
         ensures same { OnFalse result (self.new ≡ self.old) }
     {

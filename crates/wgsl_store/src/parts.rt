@@ -25,7 +25,7 @@ pub(crate) fn part_count(value: &Instance) -> usize
 }
 
 /// The member, element, component or column at the position.
-#[tactic(auto, using(crate::proofs::SamePaths::vals_counted, crate::proofs::SamePaths::item_there))]
+#[tactic(auto, using(crate::proofs::SamePaths::vals_counted, wgsl_values::proofs::lemmas::Views::item_within))]
 pub(crate) fn part(value: &Instance, i: usize) -> &Instance
     requires { i < count (parts (value_of value.now)) }
     ensures { item i (parts (value_of value.now)) ≡ Some (value_of result.now) }

@@ -9,7 +9,6 @@ ghost use Rattle.std.specs.Prelude.{
   IfErr,
   IfSome,
   IsOk,
-  IsOkAnd,
   IsTrue,
   OnOk,
   OnErr,
@@ -21,7 +20,6 @@ ghost use Rattle.std.specs.Prelude.{
   string_bytes,
 };
 ghost use Rattle.wgsl_rules.specs.Access.{can_read, can_write};
-ghost use Rattle.wgsl_rules.specs.Paths.{fits};
 ghost use Rattle.wgsl_rules.specs.Types.{atomic};
 ghost use Rattle.wgsl_rules.specs.Values.{
   Reference,
@@ -37,6 +35,7 @@ ghost use Rattle.wgsl_scalar.specs.Literals.{literal_of};
 ghost use Rattle.wgsl_store.specs.Atomics.{atomic_number};
 ghost use Rattle.wgsl_store.specs.Components.{names_component};
 ghost use Rattle.wgsl_store.specs.Copies.{are_in_bytes, copied};
+ghost use Rattle.wgsl_store.specs.Fitting.{FitsAt};
 ghost use Rattle.wgsl_store.specs.Memory.{HoldsValue, IsContent, IsKept, IsSound, held, put_cells};
 ghost use Rattle.wgsl_store.specs.ReferenceCalls.{
   deeper,
@@ -199,7 +198,7 @@ fn check_exchange(
     requires kept { IsKept store.now (reference_of reference.now) }
     requires storable { IsStorable (value_of value.now) }
     ensures may_write { OnOk result (can_write (reference_of reference.now).access ≡ true) }
-    ensures fit { OnOk result (IsOkAnd (held store.now (reference_of reference.now)) (λ v. IsTrue (fits (value_of value.now) v))) }
+    ensures fit { OnOk result (FitsAt (value_of value.now) (held store.now (reference_of reference.now))) }
     ensures err { IfErr result (λ e. IfSome (refusal_of e) (λ f. read_written store.now (reference_of reference.now) (value_of value.now) ≡ Err f)) }
 {
     if !reference.access().is_write() {

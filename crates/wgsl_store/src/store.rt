@@ -56,13 +56,14 @@ impl Store {
       slice_get,
     };
     ghost use Rattle.std.specs.Result.{result_ok};
-    ghost use Rattle.wgsl_rules.specs.Paths.{fits, parts};
+    ghost use Rattle.wgsl_rules.specs.Paths.{parts};
     ghost use Rattle.wgsl_rules.specs.Types.{atomic};
     ghost use Rattle.wgsl_rules.specs.Values.{Reference, IsStorable, atomic_of, type_of};
     ghost use Rattle.wgsl_store.specs.Atomics.{atomic_number};
     ghost use Rattle.wgsl_store.specs.Cells.{IsPart, part_value};
     ghost use Rattle.wgsl_store.specs.Components.{names_component};
     ghost use Rattle.wgsl_store.specs.Copies.{AreCopied, are_in_bytes};
+    ghost use Rattle.wgsl_store.specs.Fitting.{FitsAt};
     ghost use Rattle.wgsl_store.specs.HeldBytes.{held_bytes, read_bytes};
     ghost use Rattle.wgsl_store.specs.Memory.{
       AllKept,
@@ -232,7 +233,7 @@ impl Store {
     pub(crate) fn fits(&self, reference: &RefInstance, value: &Instance) -> bool
         requires kept { IsKept self.now (reference_of reference.now) }
         requires storable { IsStorable (value_of value.now) }
-        ensures { IsTrue result ↔ IsOkAnd (held self.now (reference_of reference.now)) (λ v. IsTrue (fits (value_of value.now) v)) }
+        ensures { IsTrue result ↔ FitsAt (value_of value.now) (held self.now (reference_of reference.now)) }
     {
         self.part(reference).fits(reference.target_ty(), value)
     }
@@ -258,7 +259,7 @@ impl Store {
     pub(crate) fn put(&mut self, reference: &RefInstance, value: Instance) -> Result<(), Instance>
         requires kept { IsKept self.old (reference_of reference.now) }
         requires content { IsContent self.old (value_of value) }
-        ensures fit { IsOk result ↔ IsOkAnd (held self.old (reference_of reference.now)) (λ v. IsTrue (fits (value_of value) v)) }
+        ensures fit { IsOk result ↔ FitsAt (value_of value) (held self.old (reference_of reference.now)) }
         ensures ok { OnOk result (self.new ≡ put_cells self.old (reference_of reference.now) (value_of value)) }
         ensures err { OnErr result (self.new ≡ self.old) }
         ensures back { IfErr result (λ v. value_of v ≡ value_of value) }
@@ -278,7 +279,7 @@ impl Store {
         value: Instance,
     ) -> Result<Instance, AllocError>
         requires content { IsContent self.old (value_of value) }
-        requires fit { IsOkAnd (held self.old (reference_of reference.now)) (λ v. IsTrue (fits (value_of value) v)) }
+        requires fit { FitsAt (value_of value) (held self.old (reference_of reference.now)) }
         ensures put { OnOk result (self.new ≡ put_cells self.old (reference_of reference.now) (value_of value)) }
         ensures old { IfOk result (λ v. held self.old (reference_of reference.now) ≡ Ok (value_of v)) }
         ensures err { OnErr result (self.new ≡ self.old) }

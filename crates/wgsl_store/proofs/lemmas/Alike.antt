@@ -1,10 +1,12 @@
 -- Values of one type with the same paths are alike, and where a view leads in the one it leads in the other.
 use Rattle.std.proofs.Common.{◌≡◌, ℕ, zero, suc, ◌≤◌, List, [], ◌∷◌, Option, Some, None, is_some, option_and_then, Bool, true, false, refl, sym, ap, ◌∙◌, subst, arith}
+use Rattle.wgsl_values.proofs.lemmas.Steps.{parts-storable}
 use Rattle.std.proofs.lemmas.Bool.{false≢true}
+use Rattle.std.proofs.lemmas.Option.{same_Some}
 use Rattle.wgsl_rules.specs.Types.{Ty, struct, array, vec, mat, Fields, no_fields, field}
 use Rattle.wgsl_rules.specs.Values.{Val, record_of, array_of, vector, matrix, Vals, no_vals, val, count, item, type_of, first_type, matrix_type, array_type, AllOfType, HaveTypes, AreVectors, IsStorable, AreStorable}
 use Rattle.wgsl_rules.specs.Paths.{parts, value_at, replace_item, with_parts, put_tree, FitsPlace}
-use Rattle.wgsl_store.proofs.lemmas.Places.{parts-storable, part-type}
+use Rattle.wgsl_store.proofs.lemmas.Places.{part-type}
 
 abbrev pub HasNone : Vals → Type 0
 HasNone no_vals = Unit {0}
@@ -87,20 +89,17 @@ child_type (vec n t) i = Some t
 child_type (mat c r t) i = Some (vec r t)
 child_type t i = None
 
-some-is : (x y : Val) → ◌≡◌ {A = Option Val} (Some x) (Some y) → x ≡ y
-some-is x y e = cc
-
 field-typed : (i : ℕ) (fs : Fields) (vs : Vals) (y : Val) → HaveTypes fs vs → item i vs ≡ Some y → field_type i fs ≡ Some (type_of y)
 unfolding field_type
 field-typed i no_fields no_vals y h e = absurd (cc)
 field-typed i no_fields (val v vs) y h e = absurd h
 field-typed i (field n t s a fs) no_vals y h e = absurd h
-field-typed zero (field n t s a fs) (val v vs) y h e = ap Some (sym h.0 ∙ ap type_of (some-is v y e))
+field-typed zero (field n t s a fs) (val v vs) y h e = ap Some (sym h.0 ∙ ap type_of (same_Some v y e))
 field-typed (suc i) (field n t s a fs) (val v vs) y h e = field-typed i fs vs y h.1 e
 
 all-typed : (t : Ty) (i : ℕ) (vs : Vals) (y : Val) → AllOfType t vs → item i vs ≡ Some y → t ≡ type_of y
 all-typed t i no_vals y h e = absurd (cc)
-all-typed t zero (val v vs) y h e = sym h.0 ∙ ap type_of (some-is v y e)
+all-typed t zero (val v vs) y h e = sym h.0 ∙ ap type_of (same_Some v y e)
 all-typed t (suc i) (val v vs) y h e = all-typed t i vs y h.1 e
 
 array-child : (runtime : Bool) (t : Ty) (n i : ℕ) → child_type (array_type runtime t n) i ≡ Some t

@@ -1,5 +1,5 @@
 -- A buffer reads back as its value.
-use Rattle.std.proofs.Common.{◌≡◌, ℕ, zero, suc, ◌+◌, ◌-◌, ◌<◌, ◌≤◌, ℤ, List, [], ◌∷◌, ◌++◌, map, Some, option_and_then, Bool, true, false, cond, refl, sym, ap, ◌∙◌, subst, arith}
+use Rattle.std.proofs.Common.{◌≡◌, ℕ, zero, suc, ◌+◌, ◌-◌, ◌<◌, ◌≤◌, ℤ, List, [], ◌∷◌, ◌++◌, map, Some, option_and_then, Bool, true, cond, refl, sym, ap, ◌∙◌, subst, arith}
 use Rattle.std.specs.Prelude.{nat_le, nat_lt, ◌&&◌, slice_index, get_or}
 use Rattle.std.specs.List.{range_with_len}
 use Rattle.std.proofs.lemmas.Bool.Decides.{nat_tests}
@@ -9,7 +9,7 @@ use Rattle.wgsl_rules.specs.Paths.{parts, value_at}
 use Rattle.wgsl_rules.specs.Layout.{Layout, scalar, composite, Parts, no_parts, part, length_in, layout_of, Leaf, under, leaves, part_leaves}
 use Rattle.wgsl_store.specs.Buffers.{number_of, number_at, byte_at, byte_of, buffer, Reads}
 use Rattle.wgsl_store.specs.Laws.{AreInOrder}
-use Rattle.wgsl_store.proofs.lemmas.Ranges.{IsTidy, leaves-order}
+use Rattle.wgsl_store.proofs.lemmas.Ranges.{IsTidy, behind, leaves-order, order-bound}
 use Rattle.wgsl_store.proofs.lemmas.Follows.{Follows, FollowAll}
 use Rattle.wgsl_store.proofs.lemmas.Numbers.{number-back}
 use Rattle.wgsl_store.proofs.lemmas.Compose.{number-made}
@@ -44,9 +44,6 @@ mutual
 inside : (o n j : ℕ) → j < n → (nat_le o (o + j) && nat_lt (o + j) (o + n)) ≡ true
 inside o n j h = grind (arith, nat_tests)
 
-behind : (o n j : ℕ) → o + n ≤ j → (nat_le o j && nat_lt j (o + n)) ≡ false
-behind o n j h = grind (arith, nat_tests)
-
 reads-rest : (f : List ℕ → ℤ) (b : List ℕ) (ls : List Leaf) (a len : ℕ) → ((j : ℕ) → a ≤ j → j < len → slice_index b j ≡ byte_at f ls j) → AreInOrder a ls len → AreInKind f ls → Reads f b ls
 reads-rest f b [] a len h o k = tt
 reads-rest f b (l ∷ ls) a len h o k =
@@ -58,10 +55,6 @@ reads-rest f b (l ∷ ls) a len h o k =
       reads-rest f b ls (l.offset + bytes_of l.kind) len (λ j le lt. h j (omega (arith, o.0)) lt
           ∙ ap (λ (c : Bool). cond c (byte_of (f l.path) (j - l.offset)) (byte_at f ls j)) (behind l.offset (bytes_of l.kind) j le)) o.1 k.1,
     )
-  where
-    order-bound : (a b : ℕ) (ls : List Leaf) → AreInOrder a ls b → a ≤ b
-    order-bound a b [] h = h
-    order-bound a b (l ∷ ls) h = let rest = order-bound (l.offset + bytes_of l.kind) b ls h.1 in omega (arith, h.0)
 
 run-index : (f : ℕ → ℕ) (more : List ℕ) (a n j : ℕ) → j < n → get_or (map f (range_with_len a n) ++ more) j 0 ≡ f (a + j)
 run-index f more a zero j h = absurd (omega arith)

@@ -4,13 +4,11 @@ use Rattle.std.specs.Prelude.{nat_le, ◌||◌, MatchOption, ⊤, if◌then◌el
 use Rattle.std.proofs.lemmas.Bool.{false≢true}
 use Rattle.std.proofs.lemmas.Bool.Decides.{nat_tests}
 use lib.Arith.{digits_div}
-use Rattle.wgsl_rules.specs.Kinds as kinds
-use Rattle.wgsl_rules.specs.Kinds.{Kind, bytes_of}
-use Rattle.wgsl_rules.specs.Types.{Ty, struct, array, vec, Fields, no_fields, field}
+use Rattle.wgsl_rules.specs.Types.{Ty, struct, array, Fields, no_fields, field}
 use Rattle.wgsl_rules.specs.Values.{Val, truth, number, record_of, array_of, vector, matrix, atomic_of, pointer, reference, deferred, Vals, no_vals, val, count, type_of, type_of_kind, first_type, matrix_type, HaveTypes, IsStorable, AreStorable}
 use Rattle.wgsl_rules.specs.Size.{size_of, offset_after, end_after, extent_in}
 use Rattle.wgsl_rules.specs.Layout.{size, stride, amount, has_fixed_layout, have_fixed_layouts, is_runtime_array, end_in_runtime_array, has_runtime_layout, has_layout, Tail, tail_at, tail_of, last_tail, layout_len, at_least_one, count_in, elements, last_elements, runtime_count, count_with, length_with}
-use Rattle.wgsl_store.proofs.lemmas.Fixed.{first-fixed, last-runtime}
+use Rattle.wgsl_store.proofs.lemmas.Fixed.{array-runtime, first-fixed, last-runtime, no-runtime-kind, no-runtime-matrix}
 use Rattle.wgsl_store.proofs.lemmas.Known.{and-both}
 use Rattle.wgsl_store.proofs.lemmas.Tidy.{fixed-length, length-fixed}
 
@@ -38,30 +36,15 @@ count-fixed v s h = refl
 
 -- ---- one element at least in a value of a layout with a runtime-sized array
 
-matrix-no : (c : ℕ) (u : Ty) → has_runtime_layout (matrix_type c u) ≡ true → ⊥
-matrix-no c (vec k t) h = false≢true h
-matrix-no c u h = false≢true h
-
-kind-no : (k : Kind) → has_runtime_layout (type_of_kind k) ≡ true → ⊥
-kind-no kinds.abstract_int h = false≢true h
-kind-no kinds.i32 h = false≢true h
-kind-no kinds.u32 h = false≢true h
-kind-no kinds.i64 h = false≢true h
-kind-no kinds.u64 h = false≢true h
-
-array-runtime : (t : Ty) → is_runtime_array t ≡ true → has_runtime_layout t ≡ true
-array-runtime (struct name fs) h = absurd (false≢true h)
-array-runtime t h = h
-
 elements-some : (v : Val) → IsStorable v → is_runtime_array (type_of v) ≡ true → 1 ≤ elements v
 elements-some (truth b) s h = absurd (false≢true h)
-elements-some (number k z) s h = absurd (kind-no k (array-runtime (type_of_kind k) h))
+elements-some (number k z) s h = absurd (no-runtime-kind k (array-runtime (type_of_kind k) h))
 elements-some (record_of (struct name fs) vs) s h = absurd (false≢true h)
 elements-some (record_of t vs) s h = absurd (s.0)
 elements-some (array_of true vs) s h = omega (arith, s.0)
 elements-some (array_of false vs) s h = absurd (false≢true h)
 elements-some (vector vs) s h = absurd (false≢true h)
-elements-some (matrix vs) s h = absurd (matrix-no (count vs) (first_type vs) (array-runtime (matrix_type (count vs) (first_type vs)) h))
+elements-some (matrix vs) s h = absurd (no-runtime-matrix (count vs) (first_type vs) (array-runtime (matrix_type (count vs) (first_type vs)) h))
 elements-some (atomic_of v) s h = absurd (false≢true h)
 elements-some (pointer r) s h = absurd (false≢true h)
 elements-some (reference r) s h = absurd (false≢true h)
@@ -80,13 +63,13 @@ last-some (field name t z g (field n u y k fs)) (val v vs) m from a s h =
 
 pub count-some : (v : Val) → IsStorable v → has_runtime_layout (type_of v) ≡ true → 1 ≤ runtime_count v
 count-some (truth b) s h = absurd (false≢true h)
-count-some (number k z) s h = absurd (kind-no k h)
+count-some (number k z) s h = absurd (no-runtime-kind k h)
 count-some (record_of (struct name fs) vs) s h = last-some fs vs 0 (Some 0) s.0 s.1 h
 count-some (record_of t vs) s h = absurd (s.0)
 count-some (array_of true vs) s h = omega (arith, s.0)
 count-some (array_of false vs) s h = absurd (false≢true h)
 count-some (vector vs) s h = absurd (false≢true h)
-count-some (matrix vs) s h = absurd (matrix-no (count vs) (first_type vs) h)
+count-some (matrix vs) s h = absurd (no-runtime-matrix (count vs) (first_type vs) h)
 count-some (atomic_of v) s h = absurd (false≢true h)
 count-some (pointer r) s h = absurd (false≢true h)
 count-some (reference r) s h = absurd (false≢true h)

@@ -4,6 +4,7 @@ use Rattle.std.specs.Prelude.{nat_le, ◌||◌}
 use Rattle.std.proofs.lemmas.Bool.{false≢true}
 use Rattle.std.proofs.lemmas.Bool.Decides.{nat_tests}
 use Rattle.std.proofs.lemmas.Int.{ints}
+use Rattle.std.proofs.lemmas.Option.{none-some}
 use Rattle.wgsl_rules.specs.Kinds as kinds
 use Rattle.wgsl_rules.specs.Kinds.{Kind, bytes_of, wrap, InKind}
 use Rattle.wgsl_rules.specs.Types as types
@@ -16,7 +17,7 @@ use Rattle.wgsl_store.specs.Buffers.{number_from, number_of, number_at, Reads, L
 use Rattle.wgsl_store.specs.Laws.{DecodingIsReading}
 use Rattle.wgsl_store.proofs.lemmas.Fixed.{first-fixed, fixed-array, fixed-mat, last-runtime}
 use Rattle.wgsl_store.proofs.lemmas.Known.{and-both, some-of}
-use Rattle.wgsl_store.proofs.lemmas.Tidy.{fixed-length}
+use Rattle.wgsl_store.proofs.lemmas.Tidy.{counts, fixed-length}
 use Rattle.wgsl_store.proofs.lemmas.Counts.{count-fixed, tail-there}
 use Rattle.wgsl_store.proofs.lemmas.Compose.{ReadsFrom, number-made, laid-decodes, laid-once}
 
@@ -63,9 +64,6 @@ in-all : (t : Ty) (vs : Vals) (n : ℕ) → count vs ≡ n → 1 ≤ n → AllOf
 in-all t vs n c h a =
     let e = first-of-all t vs (omega arith) a in
     (e, subst (λ (u : Ty). AllOfType u vs) (sym e) a)
-
-counts : (n : ℕ) → is_from_2_to_4 n ≡ true → (2 ≤ n) × (n ≤ 4)
-counts n h = (grind (arith, nat_tests), grind (arith, nat_tests))
 
 -- ---- scalars
 
@@ -316,10 +314,7 @@ decoding-is-reading b t = by (has_layout t) (count_in (length b) t) refl refl
     is c o h e = ap (λ (x : Bool). if x then option_map (λ n. decoded b 0 (layout n t)) (count_in (length b) t) else None) h ∙ ap (λ (q : Option ℕ). if c then option_map (λ n. decoded b 0 (layout n t)) q else None) e
 
     none : decode b t ≡ None → IsReadOf b t (decode b t)
-    none e = subst (IsReadOf b t) (sym e) (λ v h. absurd (nothing v (sym e ∙ laid-decodes b t v h)))
-      where
-        nothing : (v : Val) → None ≡ Some v → ⊥
-        nothing v e = cc
+    none e = subst (IsReadOf b t) (sym e) (λ v h. absurd (none-some v (sym e ∙ laid-decodes b t v h)))
 
     by : (c : Bool) (o : Option ℕ) → has_layout t ≡ c → count_in (length b) t ≡ o → IsReadOf b t (decode b t)
     by true (Some n) h e = let l = decoded-lays b t n h e in subst (IsReadOf b t) (sym (is true (Some n) h e)) (l, λ w k. laid-once b t (decoded b 0 (layout n t)) w l k)

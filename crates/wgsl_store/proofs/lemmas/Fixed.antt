@@ -1,9 +1,13 @@
 -- What a layout says of the parts of a type.
 use Rattle.std.proofs.Common.{◌≡◌, ℕ, Option, Some, is_some, is_none, Bool, true}
+use Rattle.std.proofs.lemmas.Bool.{false≢true}
 use Rattle.std.specs.Prelude.{nat_le, ◌&&◌}
-use Rattle.wgsl_rules.specs.Types.{Ty, array, mat}
+use Rattle.wgsl_rules.specs.Kinds as kinds
+use Rattle.wgsl_rules.specs.Kinds.{Kind}
+use Rattle.wgsl_rules.specs.Types.{Ty, array, mat, struct, vec}
+use Rattle.wgsl_rules.specs.Values.{matrix_type, type_of_kind}
 use Rattle.wgsl_rules.specs.Size.{size_of, align_of, offset_after, extent_in}
-use Rattle.wgsl_rules.specs.Layout.{scalar_kind, is_from_2_to_4, is_size_valid, is_align_valid, are_attributes_valid, has_fixed_layout, is_runtime_array}
+use Rattle.wgsl_rules.specs.Layout.{scalar_kind, is_from_2_to_4, is_size_valid, is_align_valid, are_attributes_valid, has_fixed_layout, has_runtime_layout, is_runtime_array}
 use Rattle.wgsl_store.proofs.lemmas.Known.{and-both}
 
 pub record IsFixedMat (c r : ℕ) (t : Ty) : Type 0 where
@@ -52,3 +56,20 @@ last-runtime t s a from h =
     let two = and-both (is_runtime_array t) (is_none s && is_align_valid a (align_of t)) one.0 in
     let three = and-both (is_none s) (is_align_valid a (align_of t)) two.1 in
     (two.0, one.1, three.1)
+
+-- ---- what has no runtime-sized array
+
+pub no-runtime-matrix : (c : ℕ) (u : Ty) → has_runtime_layout (matrix_type c u) ≡ true → ⊥
+no-runtime-matrix c (vec k t) h = false≢true h
+no-runtime-matrix c u h = false≢true h
+
+pub no-runtime-kind : (k : Kind) → has_runtime_layout (type_of_kind k) ≡ true → ⊥
+no-runtime-kind kinds.abstract_int h = false≢true h
+no-runtime-kind kinds.i32 h = false≢true h
+no-runtime-kind kinds.u32 h = false≢true h
+no-runtime-kind kinds.i64 h = false≢true h
+no-runtime-kind kinds.u64 h = false≢true h
+
+pub array-runtime : (t : Ty) → is_runtime_array t ≡ true → has_runtime_layout t ≡ true
+array-runtime (struct name fs) h = absurd (false≢true h)
+array-runtime t h = h

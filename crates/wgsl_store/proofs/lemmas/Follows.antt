@@ -13,7 +13,7 @@ use Rattle.wgsl_rules.specs.Size.{size_of, end_after, offset_after, extent_in}
 use Rattle.wgsl_rules.specs.Layout.{size, align, stride, known_stride, scalar_kind, is_from_2_to_4, has_fixed_layout, have_fixed_layouts, is_runtime_array, end_in_runtime_array, has_runtime_layout, has_layout, amount, layout_len, Layout, scalar, composite, Parts, no_parts, part, repeated, layout, member_parts, layout_of, runtime_count, elements, last_elements}
 use Rattle.wgsl_store.specs.Buffers.{made_of_number, made_of_parts}
 use Rattle.wgsl_store.specs.Ranges.{Range, further, part_at, parts_in, range_in}
-use Rattle.wgsl_store.proofs.lemmas.Fixed.{first-fixed, fixed-array, fixed-mat, last-runtime}
+use Rattle.wgsl_store.proofs.lemmas.Fixed.{array-runtime, first-fixed, fixed-array, fixed-mat, last-runtime, no-runtime-kind, no-runtime-matrix}
 use Rattle.wgsl_store.proofs.lemmas.Known.{and-both}
 use Rattle.wgsl_store.proofs.lemmas.Tidy.{fixed-length, length-fixed}
 
@@ -147,17 +147,6 @@ mutual
 
 -- ---- layouts that are or end in a runtime-sized array
 
-no-runtime-matrix : (c : ℕ) (u : Ty) → has_runtime_layout (matrix_type c u) ≡ true → ⊥
-no-runtime-matrix c (vec k t) h = false≢true h
-no-runtime-matrix c u h = false≢true h
-
-no-runtime-kind : (k : Kind) → has_runtime_layout (values.type_of_kind k) ≡ true → ⊥
-no-runtime-kind kinds.abstract_int h = false≢true h
-no-runtime-kind kinds.i32 h = false≢true h
-no-runtime-kind kinds.u32 h = false≢true h
-no-runtime-kind kinds.i64 h = false≢true h
-no-runtime-kind kinds.u64 h = false≢true h
-
 array-follows : (n : ℕ) (vs : Vals) → n ≡ count vs → AllOfType (first_type vs) vs → AreStorable vs → is_runtime_array (array (first_type vs) None) ≡ true
     → Follows (layout n (array (first_type vs) None)) (array_of true vs)
 array-follows n vs e a s h =
@@ -171,26 +160,15 @@ array-follows n vs e a s h =
 last-follows : (v : Val) (t : Ty) → IsStorable v → type_of v ≡ t → is_runtime_array t ≡ true → IsOwn (layout (elements v) t) v × Follows (layout (elements v) t) v
 last-follows v t s e h = subst (λ (u : Ty). IsOwn (layout (elements v) u) v × Follows (layout (elements v) u) v) e (by v s (ap is_runtime_array e ∙ h))
   where
-    matrix-no : (c : ℕ) (u : Ty) → is_runtime_array (matrix_type c u) ≡ true → ⊥
-    matrix-no c (vec k t) h = false≢true h
-    matrix-no c u h = false≢true h
-
-    kind-no : (k : Kind) → is_runtime_array (values.type_of_kind k) ≡ true → ⊥
-    kind-no kinds.abstract_int h = false≢true h
-    kind-no kinds.i32 h = false≢true h
-    kind-no kinds.u32 h = false≢true h
-    kind-no kinds.i64 h = false≢true h
-    kind-no kinds.u64 h = false≢true h
-
     by : (v : Val) → IsStorable v → is_runtime_array (type_of v) ≡ true → IsOwn (layout (elements v) (type_of v)) v × Follows (layout (elements v) (type_of v)) v
     by (array_of true vs) s h = ((refl, h), array-follows (count vs) vs refl s.1 s.2 h)
     by (array_of false vs) s h = absurd (false≢true h)
     by (truth b) s h = absurd (false≢true h)
-    by (number k z) s h = absurd (kind-no k h)
+    by (number k z) s h = absurd (no-runtime-kind k (array-runtime (values.type_of_kind k) h))
     by (record_of (struct name fs) vs) s h = absurd (false≢true h)
     by (record_of t vs) s h = absurd (s.0)
     by (vector vs) s h = absurd (false≢true h)
-    by (matrix vs) s h = absurd (matrix-no (count vs) (first_type vs) h)
+    by (matrix vs) s h = absurd (no-runtime-matrix (count vs) (first_type vs) (array-runtime (matrix_type (count vs) (first_type vs)) h))
     by (atomic_of v) s h = absurd (false≢true h)
     by (pointer r) s h = absurd (false≢true h)
     by (reference r) s h = absurd (false≢true h)

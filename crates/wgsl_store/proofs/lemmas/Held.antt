@@ -1,5 +1,6 @@
 -- What references hold, in cells that are sound.
 use Rattle.std.proofs.Common.{◌≡◌, ℕ, zero, suc, List, [], ◌∷◌, ◌++◌, slice_get, Option, Some, None, option_and_then, Ok, Err, refl, sym, ap, ◌∙◌, subst}
+use Rattle.std.proofs.lemmas.Option.{none-some, same_Some}
 use Rattle.std.specs.Prelude.{IsOkAnd, IsSomeAnd, MatchResult}
 use Rattle.wgsl_rules.specs.Values.{Step, Reference, Val, record_of, array_of, vector, matrix, Vals, no_vals, val, item, type_of}
 use Rattle.wgsl_rules.specs.Refusals.{not_read, Outcome, and_then}
@@ -7,12 +8,6 @@ use Rattle.wgsl_rules.specs.Paths.{parts, value_at, path_of, viewed, or_refused}
 use Rattle.wgsl_rules.proofs.lemmas.Paths.{view-leads}
 use Rattle.wgsl_store.specs.Memory.{held, IsKept, AllKept, references, references_in, IsContent, AreContents, IsSound}
 use Rattle.wgsl_store.proofs.lemmas.Places.{part-storable}
-
-pub some-is : {A : Type 0} (x y : A) → Some x ≡ Some y → x ≡ y
-some-is x y e = cc
-
-pub no-none : {A : Type 0} (x : A) → None ≡ Some x → ⊥
-no-none x e = cc
 
 -- ---- a view has a path, at which its value stands
 
@@ -48,7 +43,7 @@ leads-to steps x y p e is = at (value_at p x) refl (ok (path_of steps x) e (view
 
 pub sound-at : (all cells : List Val) (i : ℕ) (x : Val) → AreContents all cells → slice_get cells i ≡ Some x → IsContent all x
 sound-at all [] i x h e = absurd (cc)
-sound-at all (y ∷ ys) zero x h e = subst (IsContent all) (some-is y x e) (h.0)
+sound-at all (y ∷ ys) zero x h e = subst (IsContent all) (same_Some y x e) (h.0)
 sound-at all (y ∷ ys) (suc i) x h e = sound-at all ys i x h.1 e
 
 -- what a reference holds, and the cell that it is in
@@ -85,8 +80,8 @@ kept-is cells r k = by (held cells r) refl k
 
 -- each of a list of references that are kept
 pub kept-in : (cells : List Val) (rs : List Reference) (i : ℕ) (r : Reference) → AllKept cells rs → slice_get rs i ≡ Some r → IsKept cells r
-kept-in cells [] i r k e = absurd (no-none r e)
-kept-in cells (q ∷ rs) zero r k e = subst (IsKept cells) (some-is q r e) k.0
+kept-in cells [] i r k e = absurd (none-some r e)
+kept-in cells (q ∷ rs) zero r k e = subst (IsKept cells) (same_Some q r e) k.0
 kept-in cells (q ∷ rs) (suc i) r k e = kept-in cells rs i r k.1 e
 
 -- ---- what is held may be stored, and its references are kept
@@ -108,15 +103,15 @@ kept-parts cells v h = tt
 
 pub kept-item : (cells : List Val) (i : ℕ) (vs : Vals) (y : Val) → AllKept cells (references_in vs) → item i vs ≡ Some y → AllKept cells (references y)
 kept-item cells i no_vals y h e = absurd (cc)
-kept-item cells zero (val v vs) y h e = subst (λ (u : Val). AllKept cells (references u)) (some-is v y e) (kept-first cells (references v) (references_in vs) h)
+kept-item cells zero (val v vs) y h e = subst (λ (u : Val). AllKept cells (references u)) (same_Some v y e) (kept-first cells (references v) (references_in vs) h)
 kept-item cells (suc i) (val v vs) y h e = kept-item cells i vs y (kept-second cells (references v) (references_in vs) h) e
 
 pub kept-at : (cells : List Val) (p : List ℕ) (x y : Val) → AllKept cells (references x) → value_at p x ≡ Some y → AllKept cells (references y)
-kept-at cells [] x y h e = subst (λ (u : Val). AllKept cells (references u)) (some-is x y e) h
+kept-at cells [] x y h e = subst (λ (u : Val). AllKept cells (references u)) (same_Some x y e) h
 kept-at cells (i ∷ p) x y h e = by (item i (parts x)) refl e (λ z k d. kept-at cells p z y k d)
   where
     by : (o : Option Val) → item i (parts x) ≡ o → option_and_then (value_at p) o ≡ Some y → ((z : Val) → AllKept cells (references z) → value_at p z ≡ Some y → AllKept cells (references y)) → AllKept cells (references y)
-    by None is e on = absurd (no-none y e)
+    by None is e on = absurd (none-some y e)
     by (Some z) is e on = on z (kept-item cells i (parts x) z (kept-parts cells x h) is) e
 
 pub held-value : (cells : List Val) (r : Reference) (y : Val) → IsSound cells → held cells r ≡ Ok y → IsContent cells y

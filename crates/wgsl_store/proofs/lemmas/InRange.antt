@@ -1,11 +1,11 @@
 -- What bytes lay out in a range is what the bytes of the range lay out.
-use Rattle.std.proofs.Common.{◌≡◌, ℕ, zero, suc, ◌+◌, ◌<◌, ◌≤◌, List, length, drop, take, Option, Some, None, option_map, Bool, true, if◌then◌else◌, refl, sym, ap, ◌∙◌, arith, length-drop, pos}
+use Rattle.std.proofs.Common.{◌≡◌, ℕ, zero, suc, ◌+◌, ◌<◌, ◌≤◌, List, length, drop, take, Option, Some, None, option_map, Bool, if◌then◌else◌, refl, sym, ap, ◌∙◌, arith, length-drop, pos}
 use Rattle.std.specs.Prelude.{slice_index}
 use Rattle.std.proofs.lemmas.List.{length-take-le, get_or-take, get_or-drop}
 use Rattle.wgsl_rules.specs.Kinds.{bytes_of, wrap}
 use Rattle.wgsl_rules.specs.Types.{Ty}
-use Rattle.wgsl_rules.specs.Values.{Val, type_of}
-use Rattle.wgsl_rules.specs.Layout.{has_layout, Layout, scalar, composite, Parts, no_parts, part, length_in, layout, layout_of, runtime_count, count_in}
+use Rattle.wgsl_rules.specs.Values.{type_of}
+use Rattle.wgsl_rules.specs.Layout.{Layout, scalar, composite, Parts, no_parts, part, length_in, layout, runtime_count, count_in}
 use Rattle.wgsl_store.specs.Buffers.{number_from, made_of_number, made_of_parts, decoded, decoded_parts, decode}
 use Rattle.wgsl_store.specs.Plan.{Plan}
 use Rattle.wgsl_store.specs.Ranges.{Range, bytes_in}

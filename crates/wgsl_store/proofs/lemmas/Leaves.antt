@@ -13,7 +13,7 @@ use Rattle.wgsl_rules.specs.Layout.{Layout, length_in, Leaf, under, leaves}
 use Rattle.wgsl_store.specs.Buffers.{covers, byte_of, byte_at, bytes_with, is_covered}
 use Rattle.wgsl_store.specs.Ranges.{overwritten}
 use Rattle.wgsl_store.specs.Laws.{AreInOrder}
-use Rattle.wgsl_store.proofs.lemmas.Ranges.{IsTidy, leaves-order}
+use Rattle.wgsl_store.proofs.lemmas.Ranges.{IsTidy, before, behind, covered-in, leaves-order, order-bound}
 use Rattle.wgsl_store.specs.Walk.{number_bytes, written_leaves}
 
 -- ---- lists of leaves
@@ -64,9 +64,6 @@ over-behind b c a j h le =
 bytes-length : (k : Kind) (z : ℤ) → length (number_bytes k z) ≡ bytes_of k
 bytes-length k z = length-map-range_with_len (byte_of z) 0 (bytes_of k)
 
-inside : (o n j : ℕ) → (nat_le o j && nat_lt j (o + n)) ≡ true → (o ≤ j) × (j < o + n)
-inside o n j h = (grind (arith, nat_tests), grind (arith, nat_tests))
-
 outside : (o n j : ℕ) → (nat_le o j && nat_lt j (o + n)) ≡ false → (j < o) ⊎ (o + n ≤ j)
 outside o n j h = by (dec_lt j o)
   where
@@ -78,20 +75,13 @@ outside o n j h = by (dec_lt j o)
 uncovered : (ls : List Leaf) (a to j : ℕ) → AreInOrder a ls to → j < a → is_covered ls j ≡ false
 uncovered [] a to j h lt = refl
 uncovered (l ∷ ls) a to j h lt = ap (λ (c : Bool). c || is_covered ls j) (before l.offset (bytes_of l.kind) j (omega (arith, h.0))) ∙ uncovered ls (l.offset + bytes_of l.kind) to j h.1 (omega (arith, h.0))
-  where
-    before : (o n j : ℕ) → j < o → (nat_le o j && nat_lt j (o + n)) ≡ false
-    before o n j h = grind (arith, nat_tests)
-
-order-le : (a to : ℕ) (ls : List Leaf) → AreInOrder a ls to → a ≤ to
-order-le a to [] h = h
-order-le a to (l ∷ ls) h = let rest = order-le (l.offset + bytes_of l.kind) to ls h.1 in omega (arith, h.0)
 
 pub leaves-length : (f : List ℕ → ℤ) (ls : List Leaf) (a to o : ℕ) (b : List ℕ) → AreInOrder a ls to → o + to ≤ length b → length (written_leaves f ls o b) ≡ length b
 leaves-length f [] a to o b h le = refl
 leaves-length f (l ∷ ls) a to o b h le =
     let c = number_bytes l.kind (f l.path) in
     let few = bytes-length l.kind (f l.path) in
-    let rest = order-le (l.offset + bytes_of l.kind) to ls h.1 in
+    let rest = order-bound (l.offset + bytes_of l.kind) to ls h.1 in
     let one = over-length b c (o + l.offset) (omega (arith, few)) in
     leaves-length f ls (l.offset + bytes_of l.kind) to o (overwritten b (o + l.offset) c) h.1 (omega (arith, one)) ∙ one
 
@@ -100,7 +90,7 @@ leaf-byte : (f : List ℕ → ℤ) (l : Leaf) (ls : List Leaf) (to o : ℕ) (b :
     → (if is_covered ls j then byte_at f ls j else slice_index (overwritten b (o + l.offset) (number_bytes l.kind (f l.path))) (o + j))
     ≡ (if t || is_covered ls j then (if t then byte_of (f l.path) (j - l.offset) else byte_at f ls j) else slice_index b (o + j))
 leaf-byte f l ls to o b j true h le e =
-    let i = inside l.offset (bytes_of l.kind) j e in
+    let i = covered-in l.offset (bytes_of l.kind) j e in
     let few = bytes-length l.kind (f l.path) in
     let none = uncovered ls (l.offset + bytes_of l.kind) to j h i.1 in
     let here : o + j ≡ o + l.offset + (j - l.offset) = omega (arith, i.0) in
@@ -123,7 +113,7 @@ pub leaves-byte : (f : List ℕ → ℤ) (ls : List Leaf) (a to o : ℕ) (b : Li
 leaves-byte f [] a to o b j h le = refl
 leaves-byte f (l ∷ ls) a to o b j h le =
     let few = bytes-length l.kind (f l.path) in
-    let rest = order-le (l.offset + bytes_of l.kind) to ls h.1 in
+    let rest = order-bound (l.offset + bytes_of l.kind) to ls h.1 in
     let one = over-length b (number_bytes l.kind (f l.path)) (o + l.offset) (omega (arith, few)) in
     leaves-byte f ls (l.offset + bytes_of l.kind) to o (overwritten b (o + l.offset) (number_bytes l.kind (f l.path))) j h.1 (omega (arith, one))
     ∙ leaf-byte f l ls to o b j (covers l j) h.1 (omega (arith, rest)) refl
@@ -133,7 +123,7 @@ pub leaves-before : (f : List ℕ → ℤ) (ls : List Leaf) (a to o : ℕ) (b : 
 leaves-before f [] a to o b j h le lt = refl
 leaves-before f (l ∷ ls) a to o b j h le lt =
     let few = bytes-length l.kind (f l.path) in
-    let rest = order-le (l.offset + bytes_of l.kind) to ls h.1 in
+    let rest = order-bound (l.offset + bytes_of l.kind) to ls h.1 in
     let one = over-length b (number_bytes l.kind (f l.path)) (o + l.offset) (omega (arith, few)) in
     leaves-before f ls (l.offset + bytes_of l.kind) to o (overwritten b (o + l.offset) (number_bytes l.kind (f l.path))) j h.1 (omega (arith, one)) lt
     ∙ over-before b (number_bytes l.kind (f l.path)) (o + l.offset) j (omega (arith, few)) (omega arith)
@@ -152,11 +142,8 @@ nothing f (l ∷ ls) j = by (covers l j) (nothing f ls j)
 past : (f : List ℕ → ℤ) (ls : List Leaf) (a to j : ℕ) → AreInOrder a ls to → to ≤ j → is_covered ls j ≡ false
 past f [] a to j h le = refl
 past f (l ∷ ls) a to j h le =
-    let rest = order-le (l.offset + bytes_of l.kind) to ls h.1 in
+    let rest = order-bound (l.offset + bytes_of l.kind) to ls h.1 in
     ap (λ (c : Bool). c || is_covered ls j) (behind l.offset (bytes_of l.kind) j (omega arith)) ∙ past f ls (l.offset + bytes_of l.kind) to j h.1 le
-  where
-    behind : (o n j : ℕ) → o + n ≤ j → (nat_le o j && nat_lt j (o + n)) ≡ false
-    behind o n j h = grind (arith, nat_tests)
 
 -- ---- a layout in bytes of which the padding is zeroed
 

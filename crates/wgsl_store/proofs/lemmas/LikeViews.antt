@@ -1,5 +1,6 @@
 -- Where a view leads in a value it leads in each value that is like it.
 use Rattle.std.proofs.Common.{◌≡◌, ℕ, zero, suc, List, [], ◌∷◌, Option, Some, option_map, option_and_then, Ok, Err, Bool, true, false, refl, sym, ap, ◌∙◌, subst}
+use Rattle.wgsl_values.proofs.lemmas.Steps.{item-storable, parts-storable}
 use Rattle.wgsl_rules.specs.Kinds as kinds
 use Rattle.wgsl_rules.specs.Kinds.{Kind}
 use Rattle.wgsl_rules.specs.Types.{Ty, struct, vec}
@@ -7,7 +8,6 @@ use Rattle.wgsl_rules.specs.Values.{Step, member, index, Val, truth, number, rec
 use Rattle.wgsl_rules.specs.Refusals.{Refusal, component, out_of_bounds, Outcome, and_then}
 use Rattle.wgsl_rules.specs.Paths.{parts, index_in, placed, or_refused, stepped, viewed, path_of}
 use Rattle.wgsl_store.specs.Ranges.{step_in}
-use Rattle.wgsl_store.proofs.lemmas.Places.{parts-storable, item-storable}
 use Rattle.wgsl_store.proofs.lemmas.ViewPaths.{step-gives, array-index, matrix-index}
 use Rattle.wgsl_store.proofs.lemmas.Alike.{IsLike, AreLike, like-both}
 

@@ -1,6 +1,6 @@
 -- The buffer of what is read is the bytes with padding zeroed.
-use Rattle.std.proofs.Common.{◌≡◌, ◌⊎◌, ℕ, zero, suc, ◌+◌, ◌-◌, ◌/◌, ◌%◌, ◌^◌, ◌<◌, ◌≤◌, ℤ, pos, negsuc, List, [], ◌∷◌, Bool, true, false, if◌then◌else◌, refl, sym, ap, ◌∙◌, subst, arith}
-use Rattle.std.specs.Prelude.{nat_le, nat_lt, ◌&&◌, ◌||◌, slice_index}
+use Rattle.std.proofs.Common.{◌≡◌, ◌⊎◌, ℕ, zero, suc, ◌+◌, ◌-◌, ◌/◌, ◌%◌, ◌^◌, ◌<◌, ℤ, pos, negsuc, List, [], ◌∷◌, Bool, true, false, if◌then◌else◌, refl, sym, ap, ◌∙◌, subst, arith}
+use Rattle.std.specs.Prelude.{nat_lt, ◌||◌, slice_index}
 use mathlib.Core.Logic.{inl, inr}
 use Rattle.std.proofs.lemmas.Bool.Decides.{nat_tests}
 use Rattle.std.proofs.lemmas.Int.{ints}
@@ -11,7 +11,7 @@ use Rattle.wgsl_rules.specs.Layout.{Leaf, leaves, layout_of, length_in}
 use Rattle.wgsl_store.specs.Buffers.{covers, byte_of, byte_at, number_at, number_from, read_number, Reads, IsReadOf, is_covered}
 use Rattle.wgsl_store.specs.Laws.{AreBytes, AReadValueHasTheBytes}
 use Rattle.wgsl_store.proofs.lemmas.Numbers.{next-byte}
-use Rattle.wgsl_store.proofs.lemmas.Ranges.{alike}
+use Rattle.wgsl_store.proofs.lemmas.Ranges.{alike, covered-in}
 use Rattle.wgsl_store.proofs.lemmas.Decoded.{decoding-is-reading}
 
 -- ---- the bytes of a number that was read
@@ -90,9 +90,6 @@ byte-back b o k j h lt = by (word-is k (number_from b o (bytes_of k)) (number-sm
     by (inr e) = ap (λ (z : ℤ). byte_of z j) e.1 ∙ co-digit b (bytes_of k) o j e.0 h lt e.2
 
 -- ---- each byte
-
-covered-in : (o n j : ℕ) → (nat_le o j && nat_lt j (o + n)) ≡ true → (o ≤ j) × (j < o + n)
-covered-in o n j h = (grind (arith, nat_tests), grind (arith, nat_tests))
 
 byte-is : (f : List ℕ → ℤ) (b : List ℕ) (ls : List Leaf) (j : ℕ) → AreBytes b → Reads f b ls → byte_at f ls j ≡ (if is_covered ls j then slice_index b j else 0)
 byte-is f b [] j h r = refl

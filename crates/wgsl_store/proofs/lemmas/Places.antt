@@ -1,6 +1,7 @@
 -- What is put at a path of a value: it stands there, what stands apart from it stays, and the type and the
 -- count of the whole stay.
 use Rattle.std.proofs.Common.{◌≡◌, ℕ, zero, suc, List, [], ◌∷◌, Option, Some, None, is_some, option_and_then, Bool, true, false, refl, sym, ap, ◌∙◌, subst}
+use Rattle.wgsl_values.proofs.lemmas.Steps.{item-storable, parts-storable}
 use Rattle.std.proofs.lemmas.Bool.{false≢true}
 use Rattle.std.proofs.Common.{◌⊎◌}
 use mathlib.Core.Logic.{inl, inr}
@@ -195,18 +196,6 @@ put-count [] w v x s t e h = let same : v ≡ x = cc in fits-count w x s t h ∙
 put-count (i ∷ p) w v x s t e h = part-count i (put_tree p w) v (λ y is. put-elements p w y x (below p (item i (parts v)) x y e is) (fits-elements w x s t h))
 
 -- ---- a part may be stored where the whole may
-
-pub parts-storable : (v : Val) → IsStorable v → AreStorable (parts v)
-parts-storable (record_of t vs) s = s.1
-parts-storable (array_of runtime vs) s = s.2
-parts-storable (vector vs) s = s.4
-parts-storable (matrix vs) s = s.4
-parts-storable v s = tt
-
-pub item-storable : (i : ℕ) (vs : Vals) (y : Val) → AreStorable vs → item i vs ≡ Some y → IsStorable y
-item-storable i no_vals y s e = absurd (cc)
-item-storable zero (val v vs) y s e = let same : v ≡ y = cc in subst IsStorable same s.0
-item-storable (suc i) (val v vs) y s e = item-storable i vs y s.1 e
 
 pub part-storable : (p : List ℕ) (v x : Val) → IsStorable v → value_at p v ≡ Some x → IsStorable x
 part-storable [] v x s e = let same : v ≡ x = cc in subst IsStorable same s

@@ -3,6 +3,7 @@ use Rattle.std.proofs.Common.{◌≡◌, ℕ, ◌*◌, ◌<◌, ◌≤◌, List,
 use Rattle.std.specs.Prelude.{◌||◌, MatchOption, ⊤}
 use Rattle.std.proofs.lemmas.Bool.{false≢true}
 use Rattle.std.proofs.lemmas.Bool.Decides.{nat_tests}
+use Rattle.std.proofs.lemmas.Option.{same_Some}
 use Rattle.wgsl_rules.specs.Kinds as kinds
 use Rattle.wgsl_rules.specs.Kinds.{Kind, bytes_of}
 use Rattle.wgsl_rules.specs.Types as types
@@ -13,11 +14,8 @@ use Rattle.wgsl_store.proofs.lemmas.Fixed.{first-fixed, fixed-array, fixed-mat, 
 use Rattle.wgsl_store.proofs.lemmas.Known.{and-both, some-of, both-known, times-known, rounded-known, stride-known, end-known, ends-known}
 use Rattle.wgsl_store.proofs.lemmas.Tidy.{scalar-is, vector-is, attribute-holds, fixed-length, fixed-tidy}
 
-some-is : (a b : ℕ) → ◌≡◌ {A = Option ℕ} (Some a) (Some b) → a ≡ b
-some-is a b e = cc
-
 end-later : (ms : List Extent) (x e : ℕ) → end_of_members (Some x) ms ≡ Some e → x ≤ e
-end-later [] x e h = let s = some-is x e h in omega arith
+end-later [] x e h = let s = same_Some x e h in omega arith
 end-later (m ∷ ms) x e h =
     let g = ends-known (end_after (Some x) m) ms e h in
     let k = end-known x m g.0 g.1 in
@@ -43,7 +41,7 @@ vector-positive n k t s ck ct e =
     let g = some-of (scalar_kind t) ct in
     let sc = scalar-is t g.0 g.1 in
     let m = times-known k (size_of t) s e in
-    let same : bytes_of g.0 ≡ m.0 = some-is (bytes_of g.0) m.0 (sym sc.sized ∙ m.1) in
+    let same : bytes_of g.0 ≡ m.0 = same_Some (bytes_of g.0) m.0 (sym sc.sized ∙ m.1) in
     let one = kind-bytes g.0 in
     let p = product k m.0 (from-2 k ck) (omega arith) in
     let eq = m.2 in
@@ -56,11 +54,11 @@ fixed-known : (t : Ty) → has_fixed_layout t ≡ true → (s : ℕ) × (size_of
 fixed-known t h = let g = fixed-tidy t 0 h in (length_in (layout 0 t), g.1)
 
 pub positive : (t : Ty) (s : ℕ) → has_fixed_layout t ≡ true → size_of t ≡ Some s → 1 ≤ s
-positive types.i32 s h e = let q = some-is 4 s e in omega arith
-positive types.u32 s h e = let q = some-is 4 s e in omega arith
-positive types.i64 s h e = let q = some-is 8 s e in omega arith
-positive types.u64 s h e = let q = some-is 8 s e in omega arith
-positive (atomic t) s h e = let q = some-is 4 s e in omega arith
+positive types.i32 s h e = let q = same_Some 4 s e in omega arith
+positive types.u32 s h e = let q = same_Some 4 s e in omega arith
+positive types.i64 s h e = let q = same_Some 8 s e in omega arith
+positive types.u64 s h e = let q = same_Some 8 s e in omega arith
+positive (atomic t) s h e = let q = same_Some 4 s e in omega arith
 positive (vec k t) s h e =
     let both = and-both (is_from_2_to_4 k) (is_some (scalar_kind t)) h in
     vector-positive 0 k t s both.0 both.1 e
@@ -86,7 +84,7 @@ positive (array t (Some k)) s h e =
 positive (array t None) s h e = absurd (false≢true h)
 positive (struct name no_fields) s h e =
     let b = both-known round_up (struct_align []) (end_of_members (Some 0) []) s e in
-    let zero : 0 ≡ b.0 = some-is 0 b.0 b.2 in
+    let zero : 0 ≡ b.0 = same_Some 0 b.0 b.2 in
     absurd (nothing b.1 s (rw (← zero) at b.4))
 positive (struct name (field n t sz a fs)) s h e =
     let both = and-both (have_fixed_layouts (field n t sz a fs)) (is_some (size_of (struct name (field n t sz a fs)))) h in

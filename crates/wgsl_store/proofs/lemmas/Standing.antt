@@ -1,8 +1,9 @@
 -- The walk by the plan of a type puts the leaves of the layout in their places, and a value whose range lies inside
 -- stands there.
-use Rattle.std.proofs.Common.{◌≡◌, ℕ, suc, ◌+◌, ◌≤◌, ℤ, List, [], ◌∷◌, ◌++◌, map, Option, Some, is_some, option_and_then, Bool, true, false, refl, sym, ap, ◌∙◌, subst, arith}
-use Rattle.std.specs.Prelude.{◌&&◌, ◌||◌}
+use Rattle.std.proofs.Common.{◌≡◌, ℕ, suc, ◌+◌, ◌≤◌, ℤ, List, [], ◌∷◌, ◌++◌, map, Option, Some, is_some, option_and_then, true, false, refl, sym, ap, ◌∙◌, subst, arith}
+use Rattle.std.specs.Prelude.{◌&&◌}
 use Rattle.std.proofs.lemmas.Bool.{false≢true}
+use Rattle.std.proofs.Math.Bool.{or-false}
 use Rattle.wgsl_rules.specs.Kinds as kinds
 use Rattle.wgsl_rules.specs.Kinds.{Kind}
 use Rattle.wgsl_rules.specs.Types.{Ty, struct, vec, mat, Fields, no_fields, field}
@@ -30,13 +31,9 @@ own-row : (vs : Vals) (l : Layout) (far from : ℕ) → FollowAll (repeated l fa
 own-row no_vals l far from h = tt
 own-row (val v vs) l far from h = (h.0, own-row vs l far (from + far) h.2)
 
-or-false : (b : Bool) → (b || false) ≡ true → b ≡ true
-or-false true h = refl
-or-false false h = h
-
 -- a matrix has columns of two rows at least
 no-columns : (c : ℕ) (t : Ty) → has_layout (mat c 0 t) ≡ true → ⊥
-no-columns c t h = false≢true (and-both (is_from_2_to_4 c) (is_from_2_to_4 0 && (is_some (scalar_kind t) && is_some (size_of (mat c 0 t)))) (or-false (has_fixed_layout (mat c 0 t)) h)).1
+no-columns c t h = false≢true (and-both (is_from_2_to_4 c) (is_from_2_to_4 0 && (is_some (scalar_kind t) && is_some (size_of (mat c 0 t)))) (sym (or-false (has_fixed_layout (mat c 0 t))) ∙ h)).1
 
 -- of a matrix, its columns
 matrix-leaves : (n c : ℕ) (u : Ty) → has_layout (matrix_type c u) ≡ true → leaves (layout n (matrix_type c u)) ≡ part_leaves 0 (repeated (layout n u) (align u) 0 c)

@@ -4,13 +4,14 @@ use Rattle.std.specs.Prelude.{nat_le, ◌||◌, ◌==◌, if◌then◌else◌}
 use Rattle.std.specs.Option.{option_or}
 use Rattle.std.proofs.lemmas.Bool.{false≢true}
 use Rattle.std.proofs.lemmas.Bool.Decides.{nat_tests}
+use Rattle.std.proofs.lemmas.Option.{none-some}
 use Rattle.wgsl_rules.specs.Kinds as kinds
 use Rattle.wgsl_rules.specs.Kinds.{Kind, bytes_of}
 use Rattle.wgsl_rules.specs.Types.{Ty, i32, u32, i64, u64, struct, array, vec, mat, atomic, Fields, no_fields, field}
-use Rattle.wgsl_rules.specs.Size.{size_of, align_of, with_both, sum_of, times, vec3_align, round_up, extents, Extent, offset_after, end_after, end_of_members, struct_align, extent_in}
+use Rattle.wgsl_rules.specs.Size.{size_of, align_of, times, vec3_align, round_up, extents, offset_after, end_after, end_of_members, struct_align, extent_in}
 use Rattle.wgsl_rules.specs.Layout.{amount, size, align, known_stride, stride, Tail, scalar_kind, atomic_kind, is_from_2_to_4, is_size_valid, has_fixed_layout, have_fixed_layouts, is_runtime_array, end_in_runtime_array, has_runtime_layout, has_layout, tail_at, last_tail, tail_of, layout_len, Layout, scalar, Parts, no_parts, part, length_in, repeated, leaf, layout, member_parts, length_with}
 use Rattle.wgsl_store.proofs.lemmas.Fixed.{first-fixed, fixed-array, fixed-mat, last-runtime}
-use Rattle.wgsl_store.proofs.lemmas.Known.{and-both, some-of, fits, both-known, times-known, rounded-known, stride-known, offset-known, end-known, ends-known}
+use Rattle.wgsl_store.proofs.lemmas.Known.{and-both, some-of, fits, both-known, times-known, rounded-known, stride-known, offset-known, end-known, ends-known, end_after-none, offset_after-none}
 use Rattle.wgsl_store.proofs.lemmas.Ranges.{IsTidy, AreTidy}
 
 -- ---- parts alike
@@ -51,9 +52,6 @@ unfolding is_within
 within n a None h e = absurd (cc)
 within n a (Some b) h e = let s : b ≡ a = cc in grind (arith, nat_tests)
 
-none-some : {A : Type 0} (c : A) → None ≡ Some c → ⊥
-none-some c e = cc
-
 pub scalar-is : (t : Ty) (k : Kind) → scalar_kind t ≡ Some k → IsScalar t k
 unfolding is_within
 scalar-is i32 k e = let s : kinds.i32 ≡ k = cc in subst (IsScalar i32) s (record { sized = refl; its_leaf = λ n. refl; small = omega arith; three = λ a f. within 12 a (vec3_align i32) refl f })
@@ -74,7 +72,7 @@ atomic-size t k e = absurd (none-some k e)
 
 -- ---- vectors and matrices
 
-counts : (n : ℕ) → is_from_2_to_4 n ≡ true → (2 ≤ n) × (n ≤ 4)
+pub counts : (n : ℕ) → is_from_2_to_4 n ≡ true → (2 ≤ n) × (n ≤ 4)
 counts n h = (grind (arith, nat_tests), grind (arith, nat_tests))
 
 pub record IsVector (n k : ℕ) (t : Ty) : Type 0 where
@@ -223,24 +221,14 @@ mutual
 
 -- ---- layouts that are or end in a runtime-sized array
 
-offset-none : (m : Extent) → offset_after None m ≡ None
-offset-none m = by m.align
-  where
-    by : (a : Option ℕ) → with_both round_up a None ≡ None
-    by None = refl
-    by (Some a) = refl
-
-end-none : (m : Extent) → end_after None m ≡ None
-end-none m = ap (λ (o : Option ℕ). with_both sum_of o m.size) (offset-none m)
-
 -- where what is in front has no known end, so has what follows
 open-known : (fs : Fields) → end_in_runtime_array None fs ≡ true → ⊥
 open-known no_fields h = false≢true h
 open-known (field name t s a no_fields) h =
-    false≢true (ap (λ (o : Option ℕ). is_some o) (sym (offset-none (extent_in t s a))) ∙ (last-runtime t s a None h).1)
+    false≢true (ap (λ (o : Option ℕ). is_some o) (sym (offset_after-none (extent_in t s a))) ∙ (last-runtime t s a None h).1)
 open-known (field name t s a (field m u z b fs)) h =
     let made = first-fixed t s a (end_in_runtime_array (end_after None (extent_in t s a)) (field m u z b fs)) h in
-    open-known (field m u z b fs) (ap (λ (o : Option ℕ). end_in_runtime_array o (field m u z b fs)) (sym (end-none (extent_in t s a))) ∙ made.rest)
+    open-known (field m u z b fs) (ap (λ (o : Option ℕ). end_in_runtime_array o (field m u z b fs)) (sym (end_after-none (extent_in t s a))) ∙ made.rest)
 
 pub open-from : (o : Option ℕ) (fs : Fields) → end_in_runtime_array o fs ≡ true → (x : ℕ) × (o ≡ Some x)
 open-from None fs h = absurd (open-known fs h)

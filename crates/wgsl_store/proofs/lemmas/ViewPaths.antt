@@ -3,9 +3,10 @@ use Rattle.std.proofs.Common.{◌≡◌, ℕ, List, [], ◌∷◌, Option, Some,
 use Rattle.wgsl_rules.specs.Types.{Ty, struct, array, vec, mat}
 use Rattle.wgsl_rules.specs.Kinds.{Kind}
 use Rattle.wgsl_rules.specs.Values.{Step, member, index, Val, record_of, array_of, vector, matrix, Vals, item, count, type_of, first_type, matrix_type, array_type}
-use Rattle.wgsl_rules.specs.Refusals.{Refusal, component, out_of_bounds, Outcome, and_then}
-use Rattle.wgsl_rules.specs.Paths.{parts, index_in, placed, member_named, or_refused, part_at as part_of, stepped, path_of}
+use Rattle.wgsl_rules.specs.Refusals.{component, out_of_bounds, Outcome, and_then}
+use Rattle.wgsl_rules.specs.Paths.{parts, index_in, placed, member_named, part_at as part_of, stepped, path_of}
 use Rattle.wgsl_rules.specs.Layout.{Layout, type_in, leaf, leaf_kind, layout, layout_of, runtime_count}
+use Rattle.wgsl_rules.proofs.lemmas.Paths.{named-both, or_refused-ok, placed-both}
 use Rattle.wgsl_store.specs.Ranges.{Range, part_at, parts_in, step_in, path_in, range_in, view_range}
 use Rattle.wgsl_store.specs.Laws.{ViewsLeadToRanges}
 use Rattle.wgsl_store.proofs.lemmas.Follows.{Follows, IsOwn, follows, part-leads, parts-follow}
@@ -24,27 +25,12 @@ layout-type t n = leaf-type t (leaf_kind t)
 
 -- ---- one step
 
-pub ok-of : {A : Type 0} (o : Option A) (f : Refusal) (x : A) → or_refused o f ≡ Ok x → o ≡ Some x
-ok-of None f x e = absurd (cc)
-ok-of (Some y) f x e = cc
-
-placed-is : (i : ℕ) (vs : Vals) (p : ℕ × Val) → placed i vs ≡ Some p → (i ≡ p.0) × (item i vs ≡ Some p.1)
-placed-is i vs p e = there (item i vs) refl e
-  where
-    there : (o : Option Val) → item i vs ≡ o → option_map (λ x. (i, x)) o ≡ Some p → (i ≡ p.0) × (item i vs ≡ Some p.1)
-    there None is f = absurd (cc)
-    there (Some x) is f = let same : (i, x) ≡ p = cc in (ap (λ (q : ℕ × Val). q.0) same, is ∙ ap (λ (q : ℕ × Val). Some q.1) same)
-
 -- what a step gives: the position in the type, and the part there
 abbrev pub Gives : Step → Val → ℕ × Val → Type 0
 Gives s v p = (step_in s (type_of v) ≡ Some p.0) × (item p.0 (parts v) ≡ Some p.1)
 
 placed-gives : (i : ℕ) (vs : Vals) (p : ℕ × Val) (o : Option ℕ) → placed i vs ≡ Some p → o ≡ Some i → (o ≡ Some p.0) × (item p.0 vs ≡ Some p.1)
-placed-gives i vs p o e is = let h = placed-is i vs p e in (is ∙ ap Some h.0, ap (λ (j : ℕ). item j vs) (sym h.0) ∙ h.1)
-
-named-gives : (o : Option ℕ) (vs : Vals) (p : ℕ × Val) → option_and_then (λ i. placed i vs) o ≡ Some p → (o ≡ Some p.0) × (item p.0 vs ≡ Some p.1)
-named-gives None vs p e = absurd (cc)
-named-gives (Some i) vs p e = placed-gives i vs p (Some i) e refl
+placed-gives i vs p o e is = let h = placed-both i vs p e in (is ∙ ap Some h.0, ap (λ (j : ℕ). item j vs) (sym h.0) ∙ h.1)
 
 pub array-index : (i : ℕ) (runtime : Bool) (t : Ty) (n : ℕ) → step_in (index i) (array_type runtime t n) ≡ Some i
 array-index i true t n = refl
@@ -55,19 +41,19 @@ matrix-index i c (vec r t) = refl
 matrix-index i c u = refl
 
 member-gives : (n : List ℕ) (v : Val) (p : ℕ × Val) → member_named n v ≡ Some p → Gives (member n) v p
-member-gives n (record_of t vs) p e = named-gives (index_in n t) vs p e
+member-gives n (record_of t vs) p e = named-both (index_in n t) vs p e
 member-gives n v p e = absurd (cc)
 
 index-gives : (i : ℕ) (v : Val) (p : ℕ × Val) → part_of i v ≡ Ok p → Gives (index i) v p
 index-gives i (array_of runtime vs) p e =
-    placed-gives i vs p (step_in (index i) (type_of (array_of runtime vs))) (ok-of (placed i vs) (out_of_bounds i (type_of (array_of runtime vs)) (count vs)) p e) (array-index i runtime (first_type vs) (count vs))
-index-gives i (vector vs) p e = placed-gives i vs p (Some i) (ok-of (placed i vs) (out_of_bounds i (type_of (vector vs)) (count vs)) p e) refl
+    placed-gives i vs p (step_in (index i) (type_of (array_of runtime vs))) (or_refused-ok (placed i vs) (out_of_bounds i (type_of (array_of runtime vs)) (count vs)) p e) (array-index i runtime (first_type vs) (count vs))
+index-gives i (vector vs) p e = placed-gives i vs p (Some i) (or_refused-ok (placed i vs) (out_of_bounds i (type_of (vector vs)) (count vs)) p e) refl
 index-gives i (matrix vs) p e =
-    placed-gives i vs p (step_in (index i) (type_of (matrix vs))) (ok-of (placed i vs) (out_of_bounds i (type_of (matrix vs)) (count vs)) p e) (matrix-index i (count vs) (first_type vs))
+    placed-gives i vs p (step_in (index i) (type_of (matrix vs))) (or_refused-ok (placed i vs) (out_of_bounds i (type_of (matrix vs)) (count vs)) p e) (matrix-index i (count vs) (first_type vs))
 index-gives i v p e = absurd (cc)
 
 pub step-gives : (s : Step) (v : Val) (p : ℕ × Val) → stepped s v ≡ Ok p → Gives s v p
-step-gives (member n) v p e = member-gives n v p (ok-of (member_named n v) (component (type_of v) n) p e)
+step-gives (member n) v p e = member-gives n v p (or_refused-ok (member_named n v) (component (type_of v) n) p e)
 step-gives (index i) v p e = index-gives i v p e
 
 -- ---- a view

@@ -1,5 +1,6 @@
 -- Writes apart commute, and neither changes what the other reads.
 use Rattle.std.proofs.Common.{◌≡◌, ◌≢◌, ℕ, zero, suc, List, [], ◌∷◌, ◌++◌, slice_get, Option, Some, Ok, Err, Bool, true, false, if◌then◌else◌, refl, sym, ap, ◌∙◌, subst}
+use Rattle.std.proofs.lemmas.Option.{same_Some}
 use mathlib.Core.Logic.{inl, inr}
 use native.Mathlib.Decide.{ℕ_discrete}
 use Rattle.wgsl_rules.specs.Access.{can_write}
@@ -123,9 +124,6 @@ pub record Independent (cells : List Val) (q r : Reference) (v w a : Val) : Type
   pub held_one : (old : Val) → held cells r ≡ Ok old → fits w old ≡ true → held (put_cells cells r w) q ≡ held cells q
   pub commute : (old : Val) → held cells r ≡ Ok old → fits w old ≡ true → put_cells (put_cells cells q v) r w ≡ put_cells (put_cells cells r w) q v
 
-some-is : (x y : Val) → ◌≡◌ {A = Option Val} (Some x) (Some y) → x ≡ y
-some-is x y e = cc
-
 independent : (cells : List Val) (q r : Reference) (v w a : Val) → IsSound cells → IsKept cells r → IsStorable v → IsStorable w → AreApart cells q r → held cells q ≡ Ok a → fits v a ≡ true → Independent cells q r v w a
 independent cells q r v w a s k tv tw apart hq fa = by (ℕ_discrete q.cell r.cell) apart
   where
@@ -142,18 +140,18 @@ independent cells q r v w a s k tv tw apart hq fa = by (ℕ_discrete q.cell r.ce
         let b = kr.held_value in
         let two = two-paths cells q r a b hq kr.holds same h in
         let c = put-cell cells q v a s tv hq fa in
-        let cq : c.cell ≡ two.cell = some-is c.cell two.cell (sym c.there ∙ two.there) in
+        let cq : c.cell ≡ two.cell = same_Some c.cell two.cell (sym c.there ∙ two.there) in
         let pq : c.path ≡ two.one = let e : ◌≡◌ {A = Outcome (List ℕ)} (Ok c.path) (Ok two.one) = sym c.leads ∙ ap (path_of q.view) cq ∙ two.leads_one in cc in
         record {
           held_two = held-same-cell cells q r v a b two.two s tv c fa same (ap (path_of r.view) cq ∙ two.leads_two) (ap (value_at two.two) cq ∙ two.stands_two) (subst (λ (p : List ℕ). Apart p two.two) (sym pq) two.apart) ∙ sym kr.holds;
           held_one = λ old hr f.
               let d = put-cell cells r w old s tw hr f in
-              let cr : d.cell ≡ two.cell = some-is d.cell two.cell (sym d.there ∙ ap (slice_get cells) (sym same) ∙ two.there) in
+              let cr : d.cell ≡ two.cell = same_Some d.cell two.cell (sym d.there ∙ ap (slice_get cells) (sym same) ∙ two.there) in
               let pr : d.path ≡ two.two = let e : ◌≡◌ {A = Outcome (List ℕ)} (Ok d.path) (Ok two.two) = sym d.leads ∙ ap (path_of r.view) cr ∙ two.leads_two in cc in
               held-same-cell cells r q w old a two.one s tw d f (sym same) (ap (path_of q.view) cr ∙ two.leads_one) (ap (value_at two.one) cr ∙ two.stands_one) (subst (λ (p : List ℕ). Apart p two.one) (sym pr) (begins-back two.one two.two two.apart)) ∙ sym hq;
           commute = λ old hr f. at-both cells q.cell r.cell (put_viewed q.view v) (put_viewed r.view w) (λ e x is.
               let d = put-cell cells r w old s tw hr f in
-              let ex : two.cell ≡ x = some-is two.cell x (sym two.there ∙ is) in
+              let ex : two.cell ≡ x = same_Some two.cell x (sym two.there ∙ is) in
               subst (λ (u : Val). put_viewed r.view w (put_viewed q.view v u) ≡ put_viewed q.view v (put_viewed r.view w u)) ex (in-cell two old hr f));
         }
       where

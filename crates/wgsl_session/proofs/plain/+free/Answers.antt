@@ -3,7 +3,9 @@ use Rattle.std.proofs.lemmas.Bool.{false≢true}
 use Rattle.wgsl_rules.specs.Values.{count}
 use Rattle.wgsl_values.specs.View.{value_of, vals_view}
 use Rattle.wgsl_values.proofs.lemmas.Nodes.{nodes, all_nodes}
-use Rattle.wgsl_session.proofs.FreeValues.{matrix-free, item-there, counted, item-storable, item-smaller, not-free, free-more, all-free}
+use Rattle.wgsl_values.proofs.lemmas.Steps.{item-storable}
+use Rattle.wgsl_values.proofs.lemmas.Views.{count-vals_view}
+use Rattle.wgsl_session.proofs.FreeValues.{matrix-free, item-there, item-smaller, not-free, free-more, all-free}
 use Rattle.wgsl_session.proofs.plain.+free.Goals as goal
 
 pub are_free-is_free-requires : goal.are_free-is_free-requires
@@ -25,7 +27,7 @@ are_free-loop-value-preserved t c =
 
 pub are_free-returns : goal.are_free-returns
 are_free-returns t c =
-    let past : count (vals_view c.args.values.now) ≤ c.loop-value.value-index = omega (arith, counted c.args.values.now, c.loop-value-test.false) in
+    let past : count (vals_view c.args.values.now) ≤ c.loop-value.value-index = omega (arith, count-vals_view c.args.values.now, c.loop-value-test.false) in
     ((λ h. all-free c.loop-value.value-index (vals_view c.args.values.now) c.loop-value.invariant past), (λ e. refl))
 
 pub is_free-returns-in-Mat : goal.is_free-returns-in-Mat

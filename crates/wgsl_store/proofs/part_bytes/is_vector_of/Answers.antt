@@ -2,18 +2,18 @@ use Rattle.std.proofs.Common.{◌≡◌, arith}
 use Rattle.wgsl_rules.specs.Paths.{parts}
 use Rattle.wgsl_rules.specs.Values.{count}
 use Rattle.wgsl_rules.specs.View.{type_view}
+use Rattle.wgsl_rules.proofs.lemmas.Converted.{storable-well_formed}
 use Rattle.wgsl_values.specs.View.{value_of, vals_view, vec_view}
 use Rattle.wgsl_values.proofs.lemmas.Views.{vec_view-is}
-use Rattle.wgsl_store.proofs.Answered.{well-formed}
+use Rattle.wgsl_values.proofs.lemmas.Steps.{item-storable, parts-storable}
 use Rattle.wgsl_store.proofs.FlatParts.{vector-told}
-use Rattle.wgsl_store.proofs.lemmas.Places.{item-storable, parts-storable}
 use Rattle.wgsl_store.proofs.part_bytes.is_vector_of.Goals as goal
 
 pub has_ty-requires : goal.has_ty-requires
 has_ty-requires c =
     let w = vec_view c.args.value.now in
     let x = value_of c.index.result.now in
-    well-formed x (item-storable 0 (parts w) x (parts-storable w c.requires) c.index.ensures)
+    storable-well_formed x (item-storable 0 (parts w) x (parts-storable w c.requires) c.index.ensures)
 
 pub returns-then-n-from : goal.returns-then-n-from
 returns-then-n-from c =

@@ -1,4 +1,4 @@
-use Rattle.std.proofs.Common.{◌≡◌, Bool, map, slice_index_or, slice_set, subst, ap, ◌∙◌, arith}
+use Rattle.std.proofs.Common.{◌≡◌, Bool, slice_index_or, slice_set, subst, ap, arith}
 use Rattle.std.proofs.lemmas.List.Elements.{All-set}
 use Rattle.std.specs.Prelude.{IsOkAnd}
 use Rattle.wgsl_rules.specs.Paths.{viewed}

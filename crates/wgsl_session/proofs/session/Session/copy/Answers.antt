@@ -1,7 +1,7 @@
 use Rattle.std.proofs.Common.{map}
 use Rattle.wgsl_store.proofs.lemmas.Sound.{all-keep}
-use Rattle.wgsl_values.specs.View.{reference_of, value_of}
-use Rattle.wgsl_session.proofs.Answering.{copy-accepted, copy-done, copy-named, copy-refused}
+use Rattle.wgsl_values.specs.View.{reference_of}
+use Rattle.wgsl_session.proofs.Answering.{copy-done, copy-refused}
 use Rattle.wgsl_session.proofs.Handles.{handle-kept}
 use Rattle.wgsl_session.proofs.session.Session.copy.Goals as goal
 

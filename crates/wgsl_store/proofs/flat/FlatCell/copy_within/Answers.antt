@@ -1,4 +1,4 @@
-use Rattle.std.proofs.Common.{◌≡◌, ◌∙◌, List, ℕ, Some, None, length, ap, sym, arith, refl}
+use Rattle.std.proofs.Common.{◌≡◌, ◌∙◌, List, ℕ, None, length, ap, sym, arith, refl}
 use Rattle.std.specs.Vec.{with_items}
 use Rattle.std.proofs.lemmas.Bool.{false≢true}
 use Rattle.std.proofs.Math.Seq.{take-append_seam}
@@ -6,7 +6,7 @@ use Rattle.wgsl_rules.specs.Layout.{has_layout, layout_of}
 use Rattle.wgsl_rules.specs.View.{type_view}
 use Rattle.wgsl_values.specs.View.{steps_of}
 use Rattle.wgsl_store.specs.Buffers.{buffer}
-use Rattle.wgsl_store.specs.FlatCells.{IsPartAt, flat_value}
+use Rattle.wgsl_store.specs.FlatCells.{flat_value}
 use Rattle.wgsl_store.specs.Located.{part_range}
 use Rattle.wgsl_store.specs.Plan.{plan_view}
 use Rattle.wgsl_store.specs.Ranges.{bytes_in, overwritten, view_range}

@@ -1,7 +1,6 @@
-use Rattle.std.proofs.Common.{◌≡◌, sym, ap, ◌∙◌, eq-eqb}
+use Rattle.std.proofs.Common.{sym, ap, ◌∙◌, eq-eqb}
 use Rattle.std.proofs.lemmas.Bool.{eqb-true}
 use Rattle.wgsl_rules.specs.Layout.{length_in}
-use Rattle.wgsl_store.specs.Located.{part_range}
 use Rattle.wgsl_store.proofs.Copies.{alike-parts}
 use Rattle.wgsl_store.proofs.located.Located.is_like.Goals as goal
 

@@ -1,11 +1,12 @@
 use Rattle.std.proofs.Common.{◌≡◌, map, slice_set, subst, sym}
 use Rattle.std.proofs.lemmas.List.Elements.{All-set}
-use Rattle.std.specs.Prelude.{◌↔◌, IsOk, IsOkAnd, IsTrue}
-use Rattle.wgsl_rules.specs.Paths.{fits, viewed}
+use Rattle.std.specs.Prelude.{◌↔◌, IsOk}
+use Rattle.wgsl_rules.specs.Paths.{viewed}
 use Rattle.wgsl_rules.specs.Refusals.{Outcome}
 use Rattle.wgsl_rules.specs.Values.{Val, type_of}
 use Rattle.wgsl_values.specs.View.{value_of, reference_of}
 use Rattle.wgsl_store.specs.Cells.{IsCell, cell_value}
+use Rattle.wgsl_store.specs.Fitting.{FitsAt}
 use Rattle.wgsl_store.specs.Memory.{held}
 use Rattle.wgsl_store.specs.MemoryLaws.{StaysKept}
 use Rattle.wgsl_store.proofs.StoreCells.{IsPutOr, held-there, put-or, put-or-good}
@@ -22,8 +23,8 @@ changed c =
     put-or cell_value c.put.result c.self.inside.cells.items c.args.self.now (reference_of c.args.reference.now) c.cell.result c.put.new.self c.index_mut-cell.result.now (value_of c.args.value)
     c.self.view_is c.cell.ensures c.index_mut-cell.ensures.value c.put.ensures.ok c.put.ensures.err
 
-fit : (c : goal.After-self-1) → IsOk c.put.result ↔ IsOkAnd (held c.args.self.now (reference_of c.args.reference.now)) (λ v. IsTrue (fits (value_of c.args.value) v))
-fit c = subst (λ (o : Outcome Val). IsOk c.put.result ↔ IsOkAnd o (λ v. IsTrue (fits (value_of c.args.value) v))) (sym (led c)) c.put.ensures.fit
+fit : (c : goal.After-self-1) → IsOk c.put.result ↔ FitsAt (value_of c.args.value) (held c.args.self.now (reference_of c.args.reference.now))
+fit c = subst (λ (o : Outcome Val). IsOk c.put.result ↔ FitsAt (value_of c.args.value) o) (sym (led c)) c.put.ensures.fit
 
 good : (c : goal.After-self-1) → StaysKept c.args.self.now (map cell_value (slice_set c.self.inside.cells.items c.cell.result c.put.new.self))
 good c =
