@@ -1,0 +1,32 @@
+//! One number for all results.
+
+/// What all that was added comes to, in its order.
+#[derive(Clone, Copy)]
+pub(crate) struct Digest {
+    state: u64,
+}
+
+impl Digest {
+    pub(crate) fn new() -> Digest {
+        Digest { state: 0 }
+    }
+
+    pub(crate) fn value(self) -> u64 {
+        self.state
+    }
+
+    pub(crate) fn add(&mut self, n: u64) {
+        let turned = self.state.rotate_left(5) ^ n;
+        self.state = turned.wrapping_mul(0x9e37_79b9_7f4a_7c15);
+    }
+
+    pub(crate) fn add_count(&mut self, n: usize) {
+        self.add(n as u64);
+    }
+
+    pub(crate) fn add_bytes(&mut self, bytes: &[u8]) {
+        for byte in bytes {
+            self.add(u64::from(*byte));
+        }
+    }
+}

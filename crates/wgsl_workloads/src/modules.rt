@@ -1,0 +1,203 @@
+//! Modules of shaders are laid out, as at each key that is pressed.
+
+use crate::digest::Digest;
+use crate::random::Random;
+use std::alloc::{AllocError, Global};
+use wgsl_eval::{Declarations, Item, ItemKind, resolve};
+use wgsl_source::Reading;
+use wgsl_types::{Error, StructType, Type};
+
+/// What most of a module is: the lines of functions, and comments.
+const LINES: [&str; 20] = [
+    "    let position = vec3<f32>(in.position.xy * scale.xy, 0.5);\n",
+    "    // The light comes from above, and is cut where the surface turns away from it.\n",
+    "    var color = textureSample(albedo, linear_sampler, in.uv * 2.0 + offset);\n",
+    "    if (dot(normal, light.direction) <= 0.0 || distance > light.range) { discard; }\n",
+    "    for (var i = 0u; i < arrayLength(&lights.items) && i < 64u; i++) {\n",
+    "        sum += lights.items[i].color.rgb * attenuation(distance, lights.items[i].range);\n",
+    "    }\n",
+    "    let index = (cell.z * GRID.y + cell.y) * GRID.x + cell.x;\n",
+    "    let hashed = (index ^ (index >> 16u)) * 0x45d9f3bu;\n",
+    "    /* Shadows are looked up four times,\n       and mixed. */\n",
+    "    workgroupBarrier();\n",
+    "    let old = atomicAdd(&histogram.bins[bin], 1u);\n",
+    "    switch (kind) { case 0u, 1u: { return vec4<f32>(1.0); } default: { break; } }\n",
+    "    out.clip_position = camera.view_projection * vec4<f32>(world_position, 1.0);\n",
+    "    let roughness = clamp(material.roughness * sample.g, 0.045, 1.0);\n",
+    "    color = mix(color, fog.color, smoothstep(fog.start, fog.end, length(view_vector)));\n",
+    "    let tangent_space = mat3x3<f32>(in.tangent, in.bitangent, in.normal);\n",
+    "    // TODO: take the derivative by hand\n",
+    "    while (depth < max_depth) { depth = depth + step_size(depth, bias); }\n",
+    "    return vec4<f32>(pow(color.rgb, vec3<f32>(1.0 / 2.2)), color.a);\n",
+];
+
+/// The types that members have.
+const TYPES: [&str; 12] = [
+    "f32",
+    "u32",
+    "vec3<f32>",
+    "vec4<f32>",
+    "mat4x4<f32>",
+    "vec2<u32>",
+    "array<vec4<f32>, COUNT>",
+    "vec3<i32>",
+    "atomic<u32>",
+    "array<u32, max(4, COUNT) * 2>",
+    "mat3x3<f32>",
+    "i32",
+];
+
+fn picked(texts: &[&'static str], random: &mut Random) -> &'static str {
+    match texts.get(random.index(texts.len())) {
+        Some(text) => text,
+        None => "",
+    }
+}
+
+/// Modules of 20 to 300 kB, and a bundle of 1 MB.
+pub(crate) fn run(
+    alloc: Global,
+    random: &mut Random,
+    scale: u32,
+    digest: &mut Digest,
+) -> Result<(), Error> {
+    for number in 0..scale {
+        let size = 20_000usize.saturating_add((number % 15) as usize * 20_000);
+        let text = module(alloc, random, size)?;
+        lay_out(alloc, text.as_str(), digest)?;
+    }
+    let bundle = module(alloc, random, 10_000usize.saturating_mul(scale as usize))?;
+    lay_out(alloc, bundle.as_str(), digest)?;
+    Ok(())
+}
+
+// A module of so many bytes, or a few more.
+fn module(alloc: Global, random: &mut Random, size: usize) -> Result<String, AllocError> {
+    let mut text = String::from_str(alloc, "const COUNT = 3 + 5;\n")?;
+    let mut structures = 0u32;
+    for number in 0..u32::MAX {
+        if text.len() >= size {
+            break;
+        }
+        match random.below(8) {
+            0 => {
+                add_structure(&mut text, random, structures)?;
+                structures = structures.wrapping_add(1);
+            }
+            1 if structures > 0 => add_variable(&mut text, random, number, structures)?,
+            2 => write!(
+                text,
+                "const LIMIT_{number} = COUNT * {}u;\n",
+                random.below(1000)
+            )?,
+            _ => add_function(&mut text, random, number)?,
+        }
+    }
+    Ok(text)
+}
+
+fn add_structure(text: &mut String, random: &mut Random, number: u32) -> Result<(), AllocError> {
+    write!(text, "struct Block{number} {{\n")?;
+    for member in 0..random.below(8).wrapping_add(2) {
+        if random.below(9) == 0 && number > 0 {
+            let inner = random.below(number);
+            write!(text, "    member_{member}: Block{inner},\n")?;
+        } else {
+            let ty = picked(&TYPES, random);
+            write!(text, "    member_{member}: {ty},\n")?;
+        }
+    }
+    text.push_str("}\n")
+}
+
+fn add_variable(
+    text: &mut String,
+    random: &mut Random,
+    number: u32,
+    structures: u32,
+) -> Result<(), AllocError> {
+    let block = random.below(structures);
+    let binding = random.below(1000);
+    if random.below(2) == 0 {
+        write!(
+            text,
+            "@group(0) @binding({binding}) var<uniform> uniform_{number}: Block{block};\n"
+        )
+    } else {
+        let declared = "var<storage, read_write>";
+        write!(
+            text,
+            "@group(1) @binding({binding}) {declared} buffer_{number}: array<Block{block}>;\n"
+        )
+    }
+}
+
+fn add_function(text: &mut String, random: &mut Random, number: u32) -> Result<(), AllocError> {
+    write!(
+        text,
+        "fn function_{number}(in: VertexOutput, index: u32) -> vec4<f32> {{\n"
+    )?;
+    for _ in 0..random.below(20).wrapping_add(4) {
+        let line = picked(&LINES, random);
+        text.push_str(line)?;
+    }
+    text.push_str("}\n\n")
+}
+
+/// What a module has, and where it lies.
+pub(crate) fn lay_out(alloc: Global, text: &str, digest: &mut Digest) -> Result<(), AllocError> {
+    let reading = Reading::of_module(alloc, text)?;
+    digest.add_count(reading.faults().len());
+    let Declarations { items, messages } = resolve(alloc, &reading)?;
+    digest.add_count(messages.len());
+    for item in &items {
+        add_item(alloc, item, digest)?;
+    }
+    Ok(())
+}
+
+fn add_item(alloc: Global, item: &Item, digest: &mut Digest) -> Result<(), AllocError> {
+    digest.add_count(item.start);
+    match &item.kind {
+        ItemKind::Struct(ty) => match ty.as_struct() {
+            Some(structure) => add_places(alloc, structure, digest),
+            None => Ok(()),
+        },
+        ItemKind::Variable(variable) => add_variable_type(alloc, &variable.ty, digest),
+        ItemKind::Alias(ty) => add_variable_type(alloc, ty, digest),
+        ItemKind::Value(value) => digest.add_value(alloc, value),
+        ItemKind::Skipped => Ok(()),
+        ItemKind::Faulty => {
+            digest.add(99);
+            Ok(())
+        }
+    }
+}
+
+fn add_places(alloc: Global, ty: &StructType, digest: &mut Digest) -> Result<(), AllocError> {
+    for place in &ty.member_layouts(alloc)? {
+        add_number(place.offset, digest);
+        add_number(place.size, digest);
+        add_number(place.align, digest);
+    }
+    add_number(ty.size_of(), digest);
+    add_number(ty.align_of(), digest);
+    Ok(())
+}
+
+fn add_variable_type(alloc: Global, ty: &Type, digest: &mut Digest) -> Result<(), AllocError> {
+    add_number(ty.least_binding(), digest);
+    add_number(ty.stride(), digest);
+    digest.add(u64::from(ty.uniform_rule().is_some()));
+    if let Some(structure) = ty.as_struct() {
+        digest.add_count(structure.uniform_faults(alloc)?.len());
+    }
+    Ok(())
+}
+
+fn add_number(number: Option<u32>, digest: &mut Digest) {
+    match number {
+        Some(n) => digest.add(u64::from(n)),
+        None => digest.add(1 << 40),
+    }
+}
