@@ -288,8 +288,7 @@ impl References for RefInstance {
             return Err(Error::Component(whole.ty(alloc)?, name));
         };
         let ty = part.ty(alloc)?;
-        let mut view = self.view().clone(alloc)?;
-        view.append_member(alloc, name)?;
+        let view = self.view().with_member(alloc, name)?;
         Ok(RefInstance::from_parts(self.cell(), view, ty, self.space(), self.access()))
     }
 
@@ -299,8 +298,7 @@ impl References for RefInstance {
             return Err(whole.no_part(alloc, i)?);
         };
         let ty = part.ty(alloc)?;
-        let mut view = self.view().clone(alloc)?;
-        view.append_index(alloc, i)?;
+        let view = self.view().with_index(alloc, i)?;
         Ok(RefInstance::from_parts(self.cell(), view, ty, self.space(), self.access()))
     }
 

@@ -1,7 +1,7 @@
 -- What the values and views of the program stand for in the model.
 use Rattle.std.specs.Prelude.{List, [], ◌∷◌, map, string_bytes}
 use Rattle.wgsl_rules.specs.Values.{Step, member, index, Reference, Val, record_of, array_of, vector, matrix, atomic_of, pointer, reference, deferred, Vals, no_vals, val}
-use Rattle.wgsl_rules.specs.View.{type_view, struct_view as struct_type_view}
+use Rattle.wgsl_rules.specs.View.{type_view}
 use Rattle.wgsl_scalar.specs.Literals.{literal_of}
 use Rattle.wgsl_values.specs.declared.inst.Instance.{Instance}
 use Rattle.wgsl_values.specs.declared.inst.ArrayInstance.{ArrayInstance}
@@ -65,7 +65,7 @@ abbrev pub mat_step : MatInstance-F Val Val Val Val Val Val → Val
 mat_step m = matrix (vals_of m.columns.items)
 
 abbrev pub struct_step : StructInstance-F Val Val Val Val Val Val → Val
-struct_step s = record_of (struct_type_view s.ty) (vals_of s.members.items)
+struct_step s = record_of s.ty (vals_of s.members.items)
 
 abbrev pub vec_step : VecInstance-F Val Val Val Val Val Val → Val
 vec_step v = vector (vals_of v.components.items)

@@ -67,6 +67,24 @@ impl MemView {
         Ok(())
     }
 
+    /// A copy of the view, in memory of its own, with a last step to the member of the name.
+    pub fn with_member(&self, alloc: Global, name: String) -> Result<MemView, AllocError>
+        ensures { IfOk result (λ v. steps_of v ≡ steps_of self.now ++ member_step (string_bytes name) ∷ []) }
+    {
+        let turned = self.turned_copy(alloc)?;
+        let whole = Box::new(alloc, MemView::Whole)?;
+        Ok(turned.turned_onto(MemView::Member(name, whole)))
+    }
+
+    /// A copy of the view, in memory of its own, with a last step to the part of the index.
+    pub fn with_index(&self, alloc: Global, index: usize) -> Result<MemView, AllocError>
+        ensures { IfOk result (λ v. steps_of v ≡ steps_of self.now ++ index_step index ∷ []) }
+    {
+        let turned = self.turned_copy(alloc)?;
+        let whole = Box::new(alloc, MemView::Whole)?;
+        Ok(turned.turned_onto(MemView::Index(index, whole)))
+    }
+
     /// Puts the steps of the other view behind the own ones.
     fn append(&mut self, last: MemView)
         ensures { steps_of self.new ≡ steps_of self.old ++ steps_of last }

@@ -2,7 +2,7 @@
 use Rattle.std.proofs.Common.{◌≡◌, ℕ, zero, suc, ◌<◌, ◌≤◌, List, [], ◌∷◌, length, get_or, set, Some, None, refl, ap, arith, rules, String, Global, Box, string_bytes}
 use Rattle.wgsl_rules.specs.Values.{member, index, record_of, array_of, vector, matrix, atomic_of, deferred, item, count, val}
 use Rattle.wgsl_rules.specs.Paths.{replace_item}
-use Rattle.wgsl_rules.specs.View.{type_view, struct_view as struct_type_view}
+use Rattle.wgsl_rules.specs.View.{type_view}
 use Rattle.wgsl_rules.specs.declared.ty.Type.{«Type» as RType}
 use Rattle.wgsl_scalar.specs.Literals.{literal_of}
 use Rattle.wgsl_scalar.specs.declared.literal.LiteralInstance.{LiteralInstance}
@@ -47,7 +47,7 @@ value_of-Atomic a = search (rules, the_lemmas)
 pub value_of-Deferred : (t : RType) → value_of (inst.Deferred t) ≡ deferred (type_view t)
 value_of-Deferred t = search (rules, the_lemmas)
 
-pub struct_view-is : (s : StructInstance) → struct_view s ≡ record_of (struct_type_view s.ty) (vals_view s.members.items)
+pub struct_view-is : (s : StructInstance) → struct_view s ≡ record_of s.ty (vals_view s.members.items)
 struct_view-is s = search (rules, the_lemmas)
 
 pub array_view-is : (a : ArrayInstance) → array_view a ≡ array_of a.runtime_sized (vals_view a.components.items)

@@ -72,6 +72,29 @@ fn a_member_that_wants_memory_is_not_put_on(rt: HostRuntime) {
     drop(old);
 }
 
+#[test]
+fn a_view_with_a_last_index_wants_memory_or_is_made(rt: HostRuntime) {
+    let alloc = rt.alloc();
+    let (view, old, wanted) = answer_of!(&rt; index_views(alloc));
+    assert_is(&rt, &wanted, answer_of!(&rt; view.with_index(alloc, 2)));
+    assert_same(&rt, view, old);
+    drop(wanted);
+}
+
+/// The view with a last step to the member b.
+fn with_b(alloc: Global, view: &MemView) -> Result<MemView, AllocError> {
+    view.with_member(alloc, format!(in alloc; "b")?)
+}
+
+#[test]
+fn a_view_with_a_last_member_wants_memory_or_is_made(rt: HostRuntime) {
+    let alloc = rt.alloc();
+    let (view, old, wanted) = answer_of!(&rt; member_views(alloc));
+    assert_is(&rt, &wanted, answer_of!(&rt; with_b(alloc, &view)));
+    assert_same(&rt, view, old);
+    drop(wanted);
+}
+
 /// A matrix of two columns and three rows, a view into its third column, and the refusal.
 fn past_the_end(rt: &impl Abort, alloc: Global) -> (Instance, MemView, Error) {
     let matrix_of_two = answer_of!(rt; mat2x3(rt, alloc));

@@ -13,5 +13,5 @@ returns-clause-kept c =
     step-kept c.args.store.now (reference_of c.args.self.now) (reference_of c.from_parts.result) (index c.args.i) (part_value c.in_ok-whole.whole) (part_value c.in-Some.part)
     c.in_ok-whole.ensures.outcome (indexed-viewed c.args.i (part_value c.in_ok-whole.whole) (part_value c.in-Some.part) c.in-Some.ensures.value)
     (ap (λ (q : Reference). q.cell) c.from_parts.ensures ∙ c.cell.ensures)
-    (ap (λ (q : Reference). q.view) c.from_parts.ensures ∙ c.in_ok-append_index.ensures.ok ∙ ap (λ ss. ss ++ (index c.args.i) ∷ []) (c.in_ok-view.ensures ∙ c.view.ensures))
+    (ap (λ (q : Reference). q.view) c.from_parts.ensures ∙ c.in_ok-view.ensures ∙ ap (λ ss. ss ++ (index c.args.i) ∷ []) c.view.ensures)
     (ap (λ (q : Reference). q.ty) c.from_parts.ensures ∙ c.in_ok-ty.ensures)

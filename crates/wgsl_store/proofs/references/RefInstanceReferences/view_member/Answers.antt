@@ -18,5 +18,5 @@ returns-clause-kept c =
     step-kept c.args.store.now (reference_of c.args.self.now) (reference_of c.from_parts.result) (member (string_bytes c.args.name)) (part_value c.in_ok-whole.whole) (part_value c.in-Some.part)
     c.in_ok-whole.ensures.outcome (viewed-member (string_bytes c.args.name) [] (part_value c.in_ok-whole.whole) (part_value c.in-Some.part) (c.in-Some.ensures.value ∙ ap (λ n. option_map (λ (p : ℕ × Val). p.1) (member_named n (part_value c.in_ok-whole.whole))) c.as_str.ensures.value))
     (ap (λ (q : Reference). q.cell) c.from_parts.ensures ∙ c.cell.ensures)
-    (ap (λ (q : Reference). q.view) c.from_parts.ensures ∙ c.in_ok-append_member.ensures.ok ∙ ap (λ ss. ss ++ (member (string_bytes c.args.name)) ∷ []) (c.in_ok-view.ensures ∙ c.view.ensures))
+    (ap (λ (q : Reference). q.view) c.from_parts.ensures ∙ c.in_ok-view.ensures ∙ ap (λ ss. ss ++ (member (string_bytes c.args.name)) ∷ []) c.view.ensures)
     (ap (λ (q : Reference). q.ty) c.from_parts.ensures ∙ c.in_ok-ty-2.ensures)
