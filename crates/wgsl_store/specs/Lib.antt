@@ -1,3 +1,4 @@
+pub mod Arrays
 pub mod Atomics
 pub mod Buffers
 pub mod Cells

@@ -5,6 +5,7 @@ use crate::located::Located;
 use crate::make::TypePlan;
 use crate::plan::Plan;
 use crate::reader::read_literal;
+use crate::shares::Shares;
 use crate::writer::{runtime_count, write_whole};
 use std::alloc::{AllocError, Global};
 use std::marker::Model;
@@ -75,7 +76,7 @@ impl FlatCell {
         ensures { let v = value_of value.now in IfOk result (λ o. MatchOption o (has_layout (type_of v) ≡ false) (λ c. c ≡ v)) }
     {
         let ty = value.ty(alloc)?;
-        let of_type = TypePlan::of_type(alloc, &ty)?;
+        let of_type = TypePlan::of_type(alloc, &ty, Shares::None)?;
         if !of_type.has_layout {
             return Ok(None);
         }
@@ -221,6 +222,7 @@ impl<'a> FlatPart<'a> {
     ghost use Rattle.wgsl_rules.specs.View.{type_view};
     ghost use Rattle.wgsl_scalar.specs.Answers.{refusal_of};
     ghost use Rattle.wgsl_scalar.specs.Literals.{literal_of};
+    ghost use Rattle.wgsl_store.specs.Arrays.{elements_in};
     ghost use Rattle.wgsl_store.specs.Atomics.{number_in};
     ghost use Rattle.wgsl_store.specs.Components.{is_vector};
     ghost use Rattle.wgsl_store.specs.FlatCells.{IsFlatPart, part_value};
@@ -303,6 +305,13 @@ impl<'a> FlatPart<'a> {
     {
         let content = self.located.atomic_content()?;
         Some(read_literal(self.bytes, self.located.start, content))
+    }
+
+    /// How many elements the array has that the part is; `None` where it is no array.
+    pub(crate) fn element_count(self) -> Option<usize>
+        ensures { result ≡ elements_in (part_value self.entry) }
+    {
+        self.located.element_count()
     }
 
     /// Whether the value fits the place of the part: it is of the part's type, and has the same paths. The

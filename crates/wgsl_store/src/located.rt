@@ -15,9 +15,10 @@ ghost use Rattle.std.specs.Prelude.{
   length,
   option_map,
 };
+ghost use Rattle.std.specs.Option.{unwrap_or};
 ghost use Rattle.wgsl_rules.specs.Layout.{layout, member_parts, repeated};
 ghost use Rattle.wgsl_rules.specs.Paths.{index_named};
-ghost use Rattle.wgsl_rules.specs.TypeParts.{atomic_part, vec_part};
+ghost use Rattle.wgsl_rules.specs.TypeParts.{array_part, atomic_part, vec_part};
 ghost use Rattle.wgsl_rules.specs.Types.{array, mat, vec};
 ghost use Rattle.wgsl_rules.specs.Values.{index as index_step, member as member_step};
 ghost use Rattle.wgsl_rules.specs.View.{type_view, struct_view, members_view};
@@ -114,7 +115,7 @@ impl<'a> Located<'a> {
         ensures range { option_map part_range result ≡ range_behind (member_step name.now) self.entry.count (struct_view ty.now) self.entry.start }
         ensures there { IfSome result (IsInside self.entry) }
     {
-        let Plan::Members(places) = plan else {
+        let Plan::Members(_, places) = plan else {
             unreachable!()
         };
         let members = ty.members.as_slice();
@@ -310,6 +311,19 @@ impl<'a> Located<'a> {
     {
         match self.shape {
             Shape::Whole(ty, _) | Shape::Component(ty) => ty.as_atomic(),
+            Shape::Column(_, _, _) => None,
+        }
+    }
+
+    /// How many elements the part has; `None` where it is no array.
+    pub(crate) fn element_count(self) -> Option<usize>
+        ensures { result ≡ option_map (λ p. unwrap_or p.1 self.entry.count) (array_part (shape_ty self.entry.shape)) }
+    {
+        match self.shape {
+            Shape::Whole(ty, _) | Shape::Component(ty) => {
+                let (_, n) = ty.as_array()?;
+                Some(n.unwrap_or(self.count))
+            }
             Shape::Column(_, _, _) => None,
         }
     }

@@ -59,6 +59,7 @@ impl Store {
     ghost use Rattle.wgsl_rules.specs.Paths.{parts};
     ghost use Rattle.wgsl_rules.specs.Types.{atomic};
     ghost use Rattle.wgsl_rules.specs.Values.{Reference, IsStorable, atomic_of, type_of};
+    ghost use Rattle.wgsl_store.specs.Arrays.{element_count};
     ghost use Rattle.wgsl_store.specs.Atomics.{atomic_number};
     ghost use Rattle.wgsl_store.specs.Cells.{IsPart, part_value};
     ghost use Rattle.wgsl_store.specs.Components.{names_component};
@@ -226,6 +227,16 @@ impl Store {
         ensures { option_map literal_of result ≡ atomic_number self.now (reference_of reference.now) }
     {
         self.part(reference).atomic_number()
+    }
+
+    /// How many elements the array has that the reference names; `None` where it names no array (WGSL: array builtin
+    /// functions, `arrayLength`). Read access is not asked, and no memory is taken. The condition: the reference is
+    /// kept, as [`Store::holds`] tests.
+    pub fn element_count(&self, reference: &RefInstance) -> Option<usize>
+        requires { IsKept self.now (reference_of reference.now) }
+        ensures { result ≡ element_count self.now (reference_of reference.now) }
+    {
+        self.part(reference).element_count()
     }
 
     /// Whether the value fits the place of the part that the reference names. It takes no memory. The

@@ -1,5 +1,6 @@
 pub mod Answers
 pub mod Arguments
+pub mod ArrayLengths
 pub mod AtomicLoads
 pub mod AtomicRows
 pub mod Atoms

@@ -1,44 +1,29 @@
 //! The length of an array (WGSL: array builtin functions).
 
-ghost use Rattle.std.specs.Prelude.{IfOk};
+ghost use Rattle.std.specs.Prelude.{IfOk, pos};
+ghost use Rattle.wgsl_rules.specs.Converted.{number_in};
+ghost use Rattle.wgsl_rules.specs.Kinds as kinds;
+ghost use Rattle.wgsl_rules.specs.Refusals.{builtin};
 ghost use Rattle.wgsl_rules.specs.Values.{IsStorable};
 ghost use Rattle.wgsl_scalar.specs.Answers.{Answers, Gives};
-ghost use Rattle.wgsl_types.specs.Atomics.{KeepsPointer, array_length, element_count};
-ghost use Rattle.wgsl_values.specs.View.{array_view, value_of};
+ghost use Rattle.wgsl_scalar.specs.Operands.{ok_or};
+ghost use Rattle.wgsl_types.specs.Atomics.{KeepsPointer, array_length};
+ghost use Rattle.wgsl_values.specs.View.{value_of};
 
 use crate::cases::pointed;
 use std::alloc::Global;
 use wgsl_scalar::{BuiltinReason, Error};
-use wgsl_store::{References, Store};
-use wgsl_values::{ArrayInstance, Instance};
+use wgsl_store::Store;
+use wgsl_values::Instance;
 
-// How many elements there are, as a `u32`; a greater count is refused by `Builtin`.
-fn count(array: &ArrayInstance) -> Result<Instance, Error>
-    ensures outcome { Answers value_of result (element_count (array_view array.now)) }
+// The count as a `u32`; a greater one is refused by `Builtin`.
+fn number(n: usize) -> Result<Instance, Error>
+    ensures outcome { Answers value_of result (ok_or builtin (number_in kinds.u32 (pos n))) }
     ensures storable { IfOk result (λ n. IsStorable (value_of n)) }
 {
-    match u32::try_from(array.n()) {
+    match u32::try_from(n) {
         Ok(n) => Ok(Instance::from(n)),
         Err(_) => Err(Error::Builtin(BuiltinReason::OutOfRange)),
-    }
-}
-
-// How many elements the array has; another value is refused by `Builtin`.
-fn element_count(value: &Instance) -> Result<Instance, Error>
-    ensures outcome { Answers value_of result (element_count (value_of value.now)) }
-    ensures storable { IfOk result (λ n. IsStorable (value_of n)) }
-{
-    match value {
-        Instance::Array(array) => count(array),
-        Instance::Literal(_) | Instance::Struct(_) | Instance::Vec(_) => {
-            Err(Error::Builtin(BuiltinReason::NotArray))
-        }
-        Instance::Mat(_) | Instance::Ptr(_) | Instance::Ref(_) => {
-            Err(Error::Builtin(BuiltinReason::NotArray))
-        }
-        Instance::Atomic(_) | Instance::Deferred(_) => {
-            Err(Error::Builtin(BuiltinReason::NotArray))
-        }
     }
 }
 
@@ -53,6 +38,11 @@ pub fn arrayLength(alloc: Global, store: &Store, p: &Instance) -> Result<Instanc
     ensures storable { IfOk result (λ n. IsStorable (value_of n)) }
 {
     let reference = pointed(p)?;
-    let value = reference.read(alloc, store)?;
-    element_count(&value)
+    if !reference.access().is_read() {
+        return Err(Error::NotRead);
+    }
+    match store.element_count(reference) {
+        Some(n) => number(n),
+        None => Err(Error::Builtin(BuiltinReason::NotArray)),
+    }
 }
