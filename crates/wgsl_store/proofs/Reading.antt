@@ -262,15 +262,15 @@ pub struct-there : (s : StructType) (ms : List StructMemberType) (n : ℕ) (ps :
 struct-there s ms n ps o len there e =
     members-there (string_bytes (out-StructType s).name) (members_view ms) n ps o len (subst (λ (t : Ty). IsThere n t (members ps) o len) (struct-of s ms e) there)
 
-pub struct-made : (s copy : StructType) (ms : List StructMemberType) (n : ℕ) (ps : Places) (o len : ℕ) (b : List ℕ) (xs : Vals) → IsThere n (struct_type_view s) (members ps) o len → ms ≡ (out-StructType s).members.items
-    → struct_type_view copy ≡ struct_type_view s → xs ≡ members_at b o n (members_view ms) ps → IsMade (record_of (struct_type_view copy) xs) (decoded b o (layout n (struct_type_view s)))
-struct-made s copy ms n ps o len b xs there e copied is =
+pub struct-made : (s : StructType) (shared : Ty) (ms : List StructMemberType) (n : ℕ) (ps : Places) (o len : ℕ) (b : List ℕ) (xs : Vals) → IsThere n (struct_type_view s) (members ps) o len → ms ≡ (out-StructType s).members.items
+    → shared ≡ struct_type_view s → xs ≡ members_at b o n (members_view ms) ps → IsMade (record_of shared xs) (decoded b o (layout n (struct_type_view s)))
+struct-made s shared ms n ps o len b xs there e copied is =
     let t = struct-of s ms e in
     let fs = members_view ms in
     let here = subst (λ (u : Ty). IsThere n u (members ps) o len) t there in
     let same : ps ≡ places_of (Some 0) fs = cc (here.planned) in
-    made n (struct_type_view s) (members ps) o len b (record_of (struct_type_view copy) xs) there
-    (ap (record_of (struct_type_view copy)) (is ∙ ap (λ (x : Places). members_at b o n fs x) same ∙ at-parts fs n (Some 0) o b)
+    made n (struct_type_view s) (members ps) o len b (record_of shared xs) there
+    (ap (record_of shared) (is ∙ ap (λ (x : Places). members_at b o n fs x) same ∙ at-parts fs n (Some 0) o b)
     ∙ ap (λ (u : Ty). record_of u (decoded_parts b o (member_parts n (Some 0) fs))) (copied ∙ t)
     ∙ ap (λ (u : Ty). decoded b o (layout n u)) (sym t))
 

@@ -26,6 +26,7 @@ ghost use Rattle.wgsl_rules.specs.Values.{IsStorable, IsWellFormed, atomic_of, t
 ghost use Rattle.wgsl_rules.specs.View.{type_view};
 ghost use Rattle.wgsl_scalar.specs.Answers.{refusal_of};
 ghost use Rattle.wgsl_scalar.specs.Literals.{literal_of};
+ghost use Rattle.wgsl_store.specs.Arrays.{elements_in};
 ghost use Rattle.wgsl_store.specs.Atomics.{IsAtomicOf, number_in};
 ghost use Rattle.wgsl_store.specs.Cells.{IsCell, IsPart, LeadsIn, cell_value, part_value};
 ghost use Rattle.wgsl_store.specs.Components.{has_steps, is_vector, leads_to_component};
@@ -36,7 +37,9 @@ ghost use Rattle.wgsl_values.specs.View.{reference_of, steps_of, value_of};
 
 use crate::flat::{FlatCell, FlatPart};
 use crate::in_place::InPlace;
-use crate::parts::{atomic_number, fits_place, indexed, member, no_part, part_viewed, with_number};
+use crate::parts::{
+    atomic_number, element_count, fits_place, indexed, member, no_part, part_viewed, with_number,
+};
 use std::alloc::{AllocError, Global};
 use wgsl_rules::{Convert, Ty, Type};
 use wgsl_scalar::{Error, LiteralInstance};
@@ -395,6 +398,16 @@ impl<'a> Part<'a> {
         match self {
             Part::Flat(part) => part.atomic_number(),
             Part::Tree(value) => atomic_number(value),
+        }
+    }
+
+    /// How many elements the array has that the part is; `None` where it is no array.
+    pub(crate) fn element_count(self) -> Option<usize>
+        ensures { result ≡ elements_in (part_value self.entry) }
+    {
+        match self {
+            Part::Flat(part) => part.element_count(),
+            Part::Tree(value) => element_count(value),
         }
     }
 

@@ -17,6 +17,7 @@ mod parts;
 mod plan;
 mod reader;
 mod references;
+mod shares;
 mod show;
 mod store;
 mod writer;

@@ -7,6 +7,7 @@ ghost use Rattle.wgsl_rules.specs.Values.{IsStorable, atomic_of, count, item, ty
 ghost use Rattle.wgsl_rules.specs.View.{type_view};
 ghost use Rattle.wgsl_scalar.specs.Answers.{refusal_of};
 ghost use Rattle.wgsl_scalar.specs.Literals.{literal_of};
+ghost use Rattle.wgsl_store.specs.Arrays.{elements_in};
 ghost use Rattle.wgsl_store.specs.Atomics.{IsAtomicOf, number_in};
 ghost use Rattle.wgsl_values.specs.View.{value_of, steps_of};
 
@@ -98,6 +99,17 @@ pub(crate) fn atomic_number(value: &Instance) -> Option<LiteralInstance>
         Instance::Atomic(atomic) => Some(*atomic.inner().unwrap_literal_ref()),
         Instance::Literal(_) | Instance::Struct(_) | Instance::Array(_) | Instance::Vec(_) => None,
         Instance::Mat(_) | Instance::Ptr(_) | Instance::Ref(_) | Instance::Deferred(_) => None,
+    }
+}
+
+/// How many elements the array has that the value is; `None` where it is no array.
+pub(crate) fn element_count(value: &Instance) -> Option<usize>
+    ensures { result ≡ elements_in (value_of value.now) }
+{
+    match value {
+        Instance::Array(array) => Some(array.n()),
+        Instance::Literal(_) | Instance::Struct(_) | Instance::Vec(_) | Instance::Mat(_) => None,
+        Instance::Ptr(_) | Instance::Ref(_) | Instance::Atomic(_) | Instance::Deferred(_) => None,
     }
 }
 

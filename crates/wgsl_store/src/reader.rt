@@ -19,11 +19,13 @@ ghost use Rattle.wgsl_store.specs.Reading.{IsThere, AreThere, members_at};
 
 use crate::make::TypePlan;
 use crate::plan::{Place, Plan};
+use crate::shares::Shares;
 use std::alloc::{AllocError, Global};
 use wgsl_rules::{StructMemberType, StructType, Type};
 use wgsl_scalar::LiteralInstance;
 use wgsl_values::{
-    ArrayInstance, AtomicInstance, Instance, MatInstance, StructInstance, VecInstance,
+    ArrayInstance, AtomicInstance, Instance, MatInstance, SharedStructType, StructInstance,
+    VecInstance,
 };
 
 // The number in the four bytes at `at`, the lowest byte first.
@@ -60,7 +62,7 @@ pub(crate) fn read_buffer(
 ) -> Result<Option<Instance>, AllocError>
     ensures { IfOk result (λ v. option_map value_of v ≡ decode bytes.now (type_view ty.now)) }
 {
-    let of_type = TypePlan::of_type(alloc, ty)?;
+    let of_type = TypePlan::of_type(alloc, ty, Shares::InArrays)?;
     if !of_type.has_layout {
         return Ok(None);
     }
@@ -233,7 +235,7 @@ fn read_struct(
     requires { IsThere count (struct_type_view ty.now) (plan_view plan.now) base (length bytes.now) }
     ensures { IfOk result (λ v. struct_view v ≡ decoded bytes.now base (layout count (struct_type_view ty.now))) }
 {
-    let Plan::Members(places) = plan else {
+    let Plan::Members(shared, places) = plan else {
         unreachable!()
     };
     let members = read_members(
@@ -244,7 +246,24 @@ fn read_struct(
         ty.members.as_slice(),
         places.as_slice(),
     )?;
-    Ok(StructInstance::new(ty.clone(alloc)?, members))
+    Ok(StructInstance::of_shared(shared_type(alloc, shared, ty)?, members))
+}
+
+// The structure type as values share it: as the plan has it, else a copy.
+fn shared_type(
+    alloc: Global,
+    shared: &Option<Box<SharedStructType>>,
+    ty: &StructType,
+) -> Result<SharedStructType, AllocError>
+    ensures { IfOk result (λ s. s ≡ struct_type_view ty.now) }
+{
+    if let Some(shared) = shared {
+        if shared.is_type(ty) {
+            return (**shared).clone(alloc);
+        }
+    }
+    let copy = ty.clone(alloc)?;
+    SharedStructType::new(alloc, copy)
 }
 
 // The members at these places of a structure that begins at `base`.

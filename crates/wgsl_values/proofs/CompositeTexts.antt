@@ -2,7 +2,8 @@
 use Rattle.std.proofs.Common.{◌≡◌, ℕ, ◌+◌, ◌<◌, ◌==◌, List, [], ◌∷◌, ◌++◌, take, map, length, get_or, refl, ap, string_bytes, codes}
 use Rattle.std.specs.List.{flat_map, join_by}
 use Rattle.std.specs.Prelude.{decimal}
-use Rattle.wgsl_rules.specs.declared.ty.StructType.{out-StructType}
+use Rattle.wgsl_rules.specs.View.{struct_view as struct_type_view}
+use Rattle.wgsl_rules.specs.declared.ty.StructType.{StructType, out-StructType}
 use Rattle.wgsl_rules.proofs.lemmas.Views.{struct_view-is as struct_type_view-is}
 use Rattle.wgsl_values.specs.declared.inst.Instance.{Instance}
 use Rattle.wgsl_values.specs.declared.inst.ArrayInstance.{ArrayInstance}
@@ -16,8 +17,8 @@ use Rattle.wgsl_values.specs.View.{value_of, array_view, mat_view, struct_view, 
 use Rattle.wgsl_values.proofs.Joined.{joined_more}
 use Rattle.wgsl_values.proofs.lemmas.Views.{array_view-is, mat_view-is, struct_view-is, vec_view-is, count-vals_view}
 
-pub text_of_struct : (s : StructInstance) → text_of_value (struct_view s) ≡ string_bytes (out-StructType s.ty).name ++ (codes "(" ++ (text_of_items (vals_view s.members.items) ++ codes ")"))
-text_of_struct s = rw (struct_view-is s, struct_type_view-is s.ty) refl
+pub text_of_struct : (s : StructInstance) (t : StructType) → struct_type_view t ≡ s.ty → text_of_value (struct_view s) ≡ string_bytes (out-StructType t).name ++ (codes "(" ++ (text_of_items (vals_view s.members.items) ++ codes ")"))
+text_of_struct s t e = rw (struct_view-is s, ← e, struct_type_view-is t) refl
 
 pub text_of_array : (a : ArrayInstance) → text_of_value (array_view a) ≡ codes "array(" ++ (text_of_items (vals_view a.components.items) ++ codes ")")
 text_of_array a = rw (array_view-is a) refl

@@ -8,7 +8,6 @@ use Rattle.wgsl_rules.specs.Refusals.{write_ref_type}
 use Rattle.wgsl_rules.specs.Same.{same}
 use Rattle.wgsl_rules.specs.Types.{Ty}
 use Rattle.wgsl_rules.specs.Values.{Val, Vals, no_vals, val, item, record_of, array_of, vector, matrix, type_of}
-use Rattle.wgsl_rules.specs.View.{struct_view as struct_type_view}
 use Rattle.wgsl_values.specs.Parts.{as_record, as_vector, component_at, components}
 use Rattle.wgsl_values.specs.View.{value_of, array_view, mat_view, struct_view, vec_view, vals_view}
 use Rattle.wgsl_values.specs.Written.{as_array, as_matrix, replaced, with_part, with_inner_part, with_placed, with_member}
@@ -55,11 +54,11 @@ with_member-placed t i w vs n e = rw (← e) (by (item i vs) refl)
     by None is = ap (record_of t) (replace_item-past i w vs is)
     by (Some x) is = refl
 
-pub struct_view-with : (s : StructInstance) (i : ℕ) (w : Instance) (n : List ℕ) → Some i ≡ index_in n (struct_type_view s.ty)
+pub struct_view-with : (s : StructInstance) (i : ℕ) (w : Instance) (n : List ℕ) → Some i ≡ index_in n s.ty
     → struct_view (roll-StructInstance (record { ty = s.ty; members = with_item s.members i w })) ≡ with_member n (value_of w) (struct_view s)
 struct_view-with s i w n e =
     rw (struct_view-is s, struct_view-is (roll-StructInstance (record { ty = s.ty; members = with_item s.members i w })), vals_view-set)
-    (with_member-placed (struct_type_view s.ty) i (value_of w) (vals_view s.members.items) n e)
+    (with_member-placed s.ty i (value_of w) (vals_view s.members.items) n e)
 
 placed-value : (i : ℕ) (vs : Vals) → item i vs ≡ option_map (λ p. p.1) (placed i vs)
 placed-value i vs = by (item i vs)
@@ -69,7 +68,7 @@ placed-value i vs = by (item i vs)
     by (Some x) = refl
 
 -- the member of a name is the part at the position of the name
-pub named-value : (s : StructInstance) (i : ℕ) (n : List ℕ) → Some i ≡ index_in n (struct_type_view s.ty)
+pub named-value : (s : StructInstance) (i : ℕ) (n : List ℕ) → Some i ≡ index_in n s.ty
     → item i (vals_view s.members.items) ≡ option_map (λ p. p.1) (member_named n (struct_view s))
 named-value s i n e = rw (struct_view-is s, ← e) (placed-value i (vals_view s.members.items))
 

@@ -6,6 +6,7 @@ pub mod Matrices
 pub mod Parts
 pub mod Rows
 pub mod Same
+pub mod Shared
 pub mod Signatures
 pub mod Texts
 pub mod View

@@ -155,7 +155,7 @@ impl MemView {
 
     // A copy of the steps, from the last to the first.
     #[tactic(auto, using(crate::proofs::Turned::turned))]
-    fn turned_copy(&self, alloc: Global) -> Result<MemView, AllocError>
+    pub(crate) fn turned_copy(&self, alloc: Global) -> Result<MemView, AllocError>
         ensures { IfOk result (λ view. steps_of view ≡ reverse (steps_of self.now)) }
     {
         let mut copy = MemView::Whole;

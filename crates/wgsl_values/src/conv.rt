@@ -109,7 +109,7 @@ impl Instance {
         match self {
             Instance::Literal(literal) => other.has_ty(&literal.literal_ty()),
             Instance::Struct(a) => match other {
-                Instance::Struct(b) => a.ty == b.ty,
+                Instance::Struct(b) => a.ty.is_same(&b.ty),
                 _ => false,
             },
             Instance::Array(a) => match other {
@@ -148,7 +148,7 @@ impl Ty for StructInstance {
     ghost value_of = { struct_view };
 
     fn ty(&self, alloc: Global) -> Result<Type, AllocError> {
-        let ty = self.ty.clone(alloc)?;
+        let ty = self.ty.get().clone(alloc)?;
         Ok(Type::Struct(Box::new(alloc, ty)?))
     }
 
@@ -158,7 +158,7 @@ impl Ty for StructInstance {
 
     fn has_ty(&self, ty: &Type) -> bool {
         match ty.as_struct() {
-            Some(other) => self.ty == *other,
+            Some(other) => self.ty.equals(other),
             None => false,
         }
     }

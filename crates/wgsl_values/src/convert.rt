@@ -93,7 +93,7 @@ impl Instance {
     {
         match self {
             Instance::Literal(literal) => literal.literal_ty().is_convertible_to(ty),
-            Instance::Struct(s) => s.ty.is_convertible_to(ty),
+            Instance::Struct(s) => s.ty.get().is_convertible_to(ty),
             Instance::Array(a) => a.is_convertible_to(ty),
             Instance::Vec(v) => v.is_convertible_to(ty),
             Instance::Mat(m) => m.is_convertible_to(ty),

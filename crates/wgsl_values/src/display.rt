@@ -157,7 +157,7 @@ fn write_value<W: fmt::Write>(f: &mut fmt::Formatter<W>, value: &Instance) -> fm
 fn write_struct<W: fmt::Write>(f: &mut fmt::Formatter<W>, value: &StructInstance) -> fmt::Result
     ensures { WritesOnOk W.write_str_gives f.old result (text_of_value (struct_view value.now)) f.new }
 {
-    f.write_str(value.ty.name.as_str())?;
+    f.write_str(value.ty.get().name.as_str())?;
     f.write_str("(")?;
     write_items(f, &value.members)?;
     f.write_str(")")

@@ -116,7 +116,7 @@ impl PartialEq for StructInstance {
 
     #[cycle(same)]
     fn eq(&self, other: &StructInstance) -> bool {
-        self.ty == other.ty && same_parts(&self.members, &other.members)
+        self.ty.is_same(&other.ty) && same_parts(&self.members, &other.members)
     }
 }
 

@@ -1,7 +1,8 @@
 //! Values (WGSL: types; memory views).
 
+use crate::shared::SharedStructType;
 use crate::view::MemView;
-use wgsl_rules::{AccessMode, AddressSpace, StructType, Type};
+use wgsl_rules::{AccessMode, AddressSpace, Type};
 use wgsl_scalar::LiteralInstance;
 
 /// A value.
@@ -31,7 +32,7 @@ pub enum Instance {
 #[cycle(values)]
 #[derive(Debug, Drop)]
 pub struct StructInstance {
-    pub(crate) ty: StructType,
+    pub(crate) ty: SharedStructType,
     pub(crate) members: Vec<Instance>,
 }
 

@@ -16,6 +16,7 @@ mod matrix;
 mod mem_mut;
 mod part_mut;
 mod parts;
+mod shared;
 mod view;
 
 pub use call::{CallSignature, TpltParam};
@@ -29,4 +30,5 @@ pub use laws::{
     transposed_twice_is_itself,
 };
 pub use part_mut::{PartMut, Placed};
+pub use shared::SharedStructType;
 pub use view::MemView;

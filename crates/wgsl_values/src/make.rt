@@ -33,6 +33,7 @@ use crate::inst::{
     ArrayInstance, AtomicInstance, Instance, MatInstance, PtrInstance, RefInstance, StructInstance,
     VecInstance,
 };
+use crate::shared::SharedStructType;
 use std::alloc::{AllocError, Global};
 use wgsl_rules::{StructMemberType, StructType, Ty, Type};
 use wgsl_scalar::LiteralInstance;
@@ -61,7 +62,7 @@ impl Instance {
                 true
             }
             Instance::Ptr(_) | Instance::Ref(_) => true,
-            Instance::Struct(s) => have_types(&s.members, &s.ty.members),
+            Instance::Struct(s) => have_types(&s.members, &s.ty.get().members),
             Instance::Array(a) => ArrayInstance::can_make(&a.components, a.runtime_sized),
             Instance::Vec(v) => VecInstance::can_make(&v.components),
             Instance::Mat(m) => MatInstance::can_make(&m.columns),
@@ -126,6 +127,15 @@ impl StructInstance {
     pub fn new(ty: StructType, members: Vec<Instance>) -> Self
         requires { IsStorable (record_of (struct_type_view ty) (vals_view members.items)) }
         ensures { struct_view result ≡ record_of (struct_type_view ty) (vals_view members.items) }
+    {
+        let ty = SharedStructType::own(ty);
+        StructInstance { ty, members }
+    }
+
+    /// As [`StructInstance::new`], of a type that values share. The condition is the same.
+    pub fn of_shared(ty: SharedStructType, members: Vec<Instance>) -> Self
+        requires { IsStorable (record_of ty (vals_view members.items)) }
+        ensures { struct_view result ≡ record_of ty (vals_view members.items) }
     {
         StructInstance { ty, members }
     }

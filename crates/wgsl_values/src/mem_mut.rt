@@ -49,7 +49,6 @@ ghost use Rattle.wgsl_values.specs.declared.inst.Instance.{Array, Mat, Struct, V
 use crate::inst::{
     ArrayInstance, AtomicInstance, Instance, MatInstance, StructInstance, VecInstance,
 };
-use crate::parts::position;
 use crate::view::MemView;
 use std::mem;
 
@@ -116,7 +115,7 @@ impl StructInstance {
         ensures value { option_map (λ v. value_of v.now) result ≡ option_map (λ p. p.1) (member_named name.now (struct_view self.old)) }
         ensures sound { IfSome result (λ part. IsAsSound (value_of part.now) (struct_view self.old)) }
     {
-        let i = position(&self.ty, name)?;
+        let i = self.ty.position(name)?;
         nth_mut(&mut self.members, i)
     }
 }

@@ -38,6 +38,7 @@ use crate::inst::{
     ArrayInstance, AtomicInstance, Instance, MatInstance, PtrInstance, RefInstance, StructInstance,
     VecInstance,
 };
+use crate::shared::SharedStructType;
 use crate::view::MemView;
 use std::ops::Index;
 use wgsl_rules::{AccessMode, AddressSpace, StructType, Type};
@@ -164,6 +165,13 @@ impl StructInstance {
     pub fn struct_ty(&self) -> &StructType
         ensures { struct_type_view result.now ≡ type_of (struct_view self.now) }
     {
+        self.ty.get()
+    }
+
+    /// The type, as other values may share it.
+    pub fn shared_ty(&self) -> &SharedStructType
+        ensures { result.now ≡ type_of (struct_view self.now) }
+    {
         &self.ty
     }
 
@@ -178,7 +186,7 @@ impl StructInstance {
     pub fn member(&self, name: &str) -> Option<&Instance>
         ensures { option_map (λ v. value_of v.now) result ≡ option_map (λ p. p.1) (member_named name.now (struct_view self.now)) }
     {
-        let i = position(&self.ty, name)?;
+        let i = self.ty.position(name)?;
         nth(&self.members, i)
     }
 }

@@ -67,13 +67,13 @@ read_struct-read_members-requires t c =
     let there = rw (c.in-Members.is, view-members, ← c.as_slice-2.ensures.value) at c.requires in
     (search (rules, type_lemmas, plan_lemmas), struct-there c.args.ty.now c.as_slice.result.now c.args.count (places_view c.as_slice-2.result.now) c.args.base _ there c.as_slice.ensures.value)
 
-pub read_struct-new-requires : goal.read_struct-new-requires
-read_struct-new-requires t c =
+pub read_struct-of_shared-requires : goal.read_struct-of_shared-requires
+read_struct-of_shared-requires t c =
     let there = rw (c.in-Members.is, view-members, ← c.as_slice-2.ensures.value) at c.requires in
-    (struct-made c.args.ty.now c.in_ok-clone.field-0 c.as_slice.result.now c.args.count (places_view c.as_slice-2.result.now) c.args.base _ c.args.bytes.now _ there c.as_slice.ensures.value c.in_ok-clone.ensures c.in_ok-members.ensures).storable
+    (struct-made c.args.ty.now c.in_ok-shared_type.field-0 c.as_slice.result.now c.args.count (places_view c.as_slice-2.result.now) c.args.base _ c.args.bytes.now _ there c.as_slice.ensures.value c.in_ok-shared_type.ensures c.in_ok-members.ensures).storable
 
 pub read_struct-returns : goal.read_struct-returns
 read_struct-returns t c =
     let there = rw (c.in-Members.is, view-members, ← c.as_slice-2.ensures.value) at c.requires in
-    c.new.ensures
-    ∙ (struct-made c.args.ty.now c.in_ok-clone.field-0 c.as_slice.result.now c.args.count (places_view c.as_slice-2.result.now) c.args.base _ c.args.bytes.now _ there c.as_slice.ensures.value c.in_ok-clone.ensures c.in_ok-members.ensures).is
+    c.of_shared.ensures
+    ∙ (struct-made c.args.ty.now c.in_ok-shared_type.field-0 c.as_slice.result.now c.args.count (places_view c.as_slice-2.result.now) c.args.base _ c.args.bytes.now _ there c.as_slice.ensures.value c.in_ok-shared_type.ensures c.in_ok-members.ensures).is

@@ -7,11 +7,11 @@ use crate::tests::samples::{
 use std::alloc::{AllocError, Global};
 use std::process::Abort;
 use wgsl_rules::{Ty, Type};
-use wgsl_samples::types::array;
+use wgsl_samples::types::{array, pair_type};
 use wgsl_samples::values::reference_of;
 use wgsl_scalar::Error;
 use wgsl_scalar::LiteralInstance::U32;
-use wgsl_values::{Instance, PtrInstance, VecInstance};
+use wgsl_values::{Instance, PtrInstance, SharedStructType, VecInstance};
 
 #[test]
 fn vectors_of_literals_want_memory_or_are_made(rt: HostRuntime) {
@@ -74,6 +74,22 @@ fn a_copy_of_a_composite_wants_memory_or_is_equal(rt: HostRuntime) {
     let matrix = answer_of!(&rt; mat2x3(&rt, alloc));
     assert_is(&rt, &matrix, answer_of!(&rt; matrix.clone(alloc)));
     drop((pair, elements, components, matrix));
+}
+
+/// The type of pairs, to be shared.
+fn shared_pair_type(alloc: Global) -> Result<SharedStructType, AllocError> {
+    SharedStructType::new(alloc, pair_type(alloc)?)
+}
+
+#[test]
+fn a_structure_type_to_share_wants_memory_or_is_made(rt: HostRuntime) {
+    let alloc = rt.alloc();
+    let pair = answer_of!(&rt; pair_value(&rt, alloc));
+    let shared = answer_of!(&rt; shared_pair_type(alloc));
+    assert!(rt; shared.is_type(pair.struct_ty()));
+    let copy = answer_of!(&rt; pair.shared_ty().clone(alloc));
+    assert!(rt; copy.is_type(shared.get()));
+    drop((pair, shared, copy));
 }
 
 #[test]

@@ -9,9 +9,9 @@ use Rattle.wgsl_values.proofs.inst.+same_type.Goals as goal
 pub Instance::same_type-returns-in-Struct-other : goal.Instance::same_type-returns-in-Struct-other
 Instance::same_type-returns-in-Struct-other t c =
     rw (c.in-Struct.is, value_of-Struct c.in-Struct.a, struct_view-is c.in-Struct.a, c.in-Struct-other.is, value_of-Struct c.in-Struct-other.b, struct_view-is c.in-Struct-other.b)
-    (type-same _ _ _ c.eq.ensures)
+    (type-same _ _ _ c.is_same.ensures)
 
 pub Instance::same_type-returns-in-Atomic-other : goal.Instance::same_type-returns-in-Atomic-other
 Instance::same_type-returns-in-Atomic-other t c =
     rw (c.in-Atomic.is, value_of-Atomic c.in-Atomic.a, atomic_view-is c.in-Atomic.a, c.in-Atomic-other.is, value_of-Atomic c.in-Atomic-other.b, atomic_view-is c.in-Atomic-other.b)
-    (atomic-same _ _ _ (c.eq-in-Atomic-other.ensures ∙ ap₂ same (c.scalar_ty.ensures ∙ ap (λ x. type_of (value_of x)) c.deref.ensures) (c.scalar_ty-in-Atomic-other.ensures ∙ ap (λ x. type_of (value_of x)) c.deref-in-Atomic-other.ensures)))
+    (atomic-same _ _ _ (c.eq.ensures ∙ ap₂ same (c.scalar_ty.ensures ∙ ap (λ x. type_of (value_of x)) c.deref.ensures) (c.scalar_ty-in-Atomic-other.ensures ∙ ap (λ x. type_of (value_of x)) c.deref-in-Atomic-other.ensures)))

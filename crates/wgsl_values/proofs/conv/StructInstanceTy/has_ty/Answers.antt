@@ -5,4 +5,4 @@ use Rattle.wgsl_values.proofs.conv.StructInstanceTy.has_ty.Goals as goal
 
 pub returns-in-Some : goal.returns-in-Some
 returns-in-Some c =
-    rw (struct_view-is c.args.self.now) (struct-has (struct_type_view c.args.self.now.ty) (struct_type_view c.in-Some.other.now) (type_view c.args.ty.now) c.eq.result c.in-Some.ensures c.eq.ensures)
+    rw (struct_view-is c.args.self.now) (struct-has c.args.self.now.ty (struct_type_view c.in-Some.other.now) (type_view c.args.ty.now) c.equals.result c.in-Some.ensures c.equals.ensures)
