@@ -3,6 +3,7 @@ pub mod LineEnds
 pub mod LineStarts
 pub mod LiteralLemmas
 pub mod NameLemmas
+pub mod NameTableLemmas
 pub mod NamedLemmas
 pub mod Numerals
 pub mod Positions

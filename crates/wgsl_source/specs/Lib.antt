@@ -5,6 +5,7 @@ pub mod Expressions
 pub mod Families
 pub mod Generators
 pub mod Mixes
+pub mod NameTables
 pub mod Names
 pub mod Numbers
 pub mod Operators

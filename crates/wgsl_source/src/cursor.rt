@@ -177,41 +177,125 @@ impl<'a> Cursor<'a> {
         }
     }
 
-    /// Goes on behind the bracket that closes the one that is next; by one token where none is.
+    /// Goes on behind the bracket that closes the one that is next.
     pub(crate) fn skip_group(&mut self) {
-        let mut depth = 0usize;
-        for _ in self.at..self.tokens.len() {
-            match self.token().kind {
-                TokenKind::Symbol(b'(' | b'[' | b'{') => depth = depth.saturating_add(1),
-                TokenKind::Symbol(b')' | b']' | b'}') => depth = depth.saturating_sub(1),
-                _ => {}
-            }
-            self.advance();
-            if depth == 0 {
-                return;
-            }
-        }
+        let _ = self.pass_group(Brackets::NONE);
     }
 
-    /// Goes on behind the next `;` outside of brackets, or behind the braces that come before it.
-    pub(crate) fn skip_declaration(&mut self) {
+    // Goes on in the same way, and counts the brackets beside these.
+    fn pass_group(&mut self, before: Brackets) -> Brackets {
+        let left = self.tokens.get(self.at..).unwrap_or(&[]);
+        let (taken, brackets) = group_len(left, before);
+        self.at = self.at.saturating_add(taken);
+        brackets
+    }
+
+    /// Goes on behind the bracket that closes the one that is next, and answers which bracket is then
+    /// without its end, if one is.
+    pub(crate) fn skip_counted_group(&mut self) -> Option<char> {
+        self.pass_group(Brackets::NONE).open_end()
+    }
+
+    /// Goes on behind the next `;` outside of brackets, or behind the braces that come before it, and
+    /// answers which bracket is then without its end, if one is.
+    pub(crate) fn skip_declaration(&mut self) -> Option<char> {
+        let mut brackets = Brackets::NONE;
         for _ in self.at..self.tokens.len() {
             match self.token().kind {
                 TokenKind::Symbol(b'{') => {
-                    self.skip_group();
-                    return;
+                    brackets = self.pass_group(brackets);
+                    break;
                 }
-                TokenKind::Symbol(b'(' | b'[') => self.skip_group(),
+                TokenKind::Symbol(b'(' | b'[') => brackets = self.pass_group(brackets),
                 TokenKind::Symbol(b';') => {
                     self.advance();
-                    return;
+                    break;
+                }
+                TokenKind::Symbol(symbol) => {
+                    brackets = brackets.behind(symbol);
+                    self.advance();
                 }
                 _ => {
                     self.advance();
                 }
             }
         }
+        brackets.open_end()
     }
+}
+
+/// How many brackets of each sort have no end yet.
+#[derive(Clone, Copy)]
+struct Brackets {
+    braces: usize,
+    round: usize,
+    square: usize,
+}
+
+impl Brackets {
+    const NONE: Brackets = Brackets {
+        braces: 0,
+        round: 0,
+        square: 0,
+    };
+
+    // What they are behind a character.
+    fn behind(self, symbol: u8) -> Brackets {
+        let Brackets {
+            mut braces,
+            mut round,
+            mut square,
+        } = self;
+        match symbol {
+            b'{' => braces = braces.saturating_add(1),
+            b'}' => braces = braces.saturating_sub(1),
+            b'(' => round = round.saturating_add(1),
+            b')' => round = round.saturating_sub(1),
+            b'[' => square = square.saturating_add(1),
+            b']' => square = square.saturating_sub(1),
+            _ => {}
+        }
+        Brackets {
+            braces,
+            round,
+            square,
+        }
+    }
+
+    // The end that is wanting.
+    fn open_end(self) -> Option<char> {
+        if self.braces > 0 {
+            Some('}')
+        } else if self.round > 0 {
+            Some(')')
+        } else if self.square > 0 {
+            Some(']')
+        } else {
+            None
+        }
+    }
+}
+
+// How many tokens the group has that a bracket begins, to the bracket of any sort that closes it; all
+// where none does. Also counts the brackets beside those before it.
+fn group_len(tokens: &[Token], before: Brackets) -> (usize, Brackets) {
+    let mut brackets = before;
+    let mut depth = 0usize;
+    for (at, token) in tokens.iter().enumerate() {
+        let TokenKind::Symbol(symbol) = token.kind else {
+            continue;
+        };
+        match symbol {
+            b'(' | b'[' | b'{' => depth = depth.saturating_add(1),
+            b')' | b']' | b'}' => depth = depth.saturating_sub(1),
+            _ => continue,
+        }
+        brackets = brackets.behind(symbol);
+        if depth == 0 {
+            return (at.saturating_add(1), brackets);
+        }
+    }
+    (tokens.len(), brackets)
 }
 
 // The bytes from one to another of a text; none where these are no text of their own.

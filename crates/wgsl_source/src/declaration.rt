@@ -205,8 +205,8 @@ impl<'a> Reader<'a> {
             "binding" => attributes.binding = Some(self.argument_of(name, attributes.binding)?),
             _ => {
                 if self.expressions.cursor.token().is_symbol(b'(') {
-                    self.expressions.cursor.skip_group();
-                    self.check_closed(name)?;
+                    let open_end = self.expressions.cursor.skip_counted_group();
+                    self.check_closed(open_end)?;
                 }
             }
         }
@@ -403,19 +403,15 @@ impl<'a> Reader<'a> {
 
     // Passes over what says nothing of types.
     fn skip_declaration(&mut self) -> Result<(), Stop> {
-        let start = self.expressions.cursor.position();
-        self.expressions.cursor.skip_declaration();
-        self.check_closed(start)
+        let open_end = self.expressions.cursor.skip_declaration();
+        self.check_closed(open_end)
     }
 
-    // The brackets are closed that stand behind the token of this number.
-    fn check_closed(&mut self, start: usize) -> Result<(), Stop> {
-        for (open, close) in [(b'{', b'}'), (b'(', b')'), (b'[', b']')] {
-            if self.expressions.cursor.is_open(start, open, close) {
-                let symbol = Expected::Symbol(char::from(close));
-                return Err(self.expressions.cursor.expected(symbol));
-            }
+    // All brackets are closed, or this is the end that is wanting.
+    fn check_closed(&mut self, open_end: Option<char>) -> Result<(), Stop> {
+        match open_end {
+            Some(end) => Err(self.expressions.cursor.expected(Expected::Symbol(end))),
+            None => Ok(()),
         }
-        Ok(())
     }
 }

@@ -1,5 +1,8 @@
 //! Cuts a source into tokens (WGSL: tokens; comments; blankspace and line breaks).
 
+ghost use Rattle.std.specs.Prelude.{◌≤◌, ◌<◌, length, IfSome};
+
+use crate::bytes::{Class, class_of, may_break};
 use crate::fault::{Fault, Reason};
 use crate::token::{Token, TokenKind};
 use std::alloc::{AllocError, Global};
@@ -12,11 +15,11 @@ pub(crate) struct Lexed {
     pub(crate) fault: Option<Fault>,
 }
 
-/// What begins a text: so many bytes, and the token that they are, if they are one.
+/// What begins at a byte of a text, and the byte behind it.
 #[derive(Clone, Copy)]
 struct Piece {
     kind: PieceKind,
-    len: usize,
+    end: usize,
 }
 
 #[derive(Clone, Copy)]
@@ -30,86 +33,147 @@ enum PieceKind {
 pub(crate) fn tokens_of(alloc: Global, text: &str) -> Result<Lexed, AllocError> {
     let bytes = text.as_bytes();
     let mut tokens = Vec::new(alloc);
-    let mut next = 0;
-    for start in 0..bytes.len() {
-        if start < next {
+    let mut fault = None;
+    let mut start = 0;
+    while start < bytes.len() {
+        let class = class_of(bytes[start]);
+        if class.is_blank() {
+            start += 1;
             continue;
         }
-        let piece = piece_at(&bytes[start..]);
-        let end = start.saturating_add(piece.len);
-        match piece.kind {
-            PieceKind::Token(kind) => tokens.push(Token { kind, start, end })?,
+        let Piece { kind, end } = piece_at(class, bytes, start);
+        match kind {
             PieceKind::Blank => {}
+            PieceKind::Token(kind) => tokens.push(Token { kind, start, end })?,
             PieceKind::OpenComment => {
                 let reason = Reason::OpenComment;
-                let fault = Some(Fault { start, end, reason });
-                return Ok(Lexed { tokens, fault });
+                fault = Some(Fault { start, end, reason });
             }
         }
-        next = end;
+        start = end;
     }
-    Ok(Lexed {
-        tokens,
-        fault: None,
-    })
+    Ok(Lexed { tokens, fault })
 }
 
-fn piece_at(rest: &[u8]) -> Piece {
-    match rest {
-        [b'/', b'/', ..] => Piece::blank(line_comment_len(rest)),
-        [b'/', b'*', ..] => match block_comment_len(rest) {
-            Some(len) => Piece::blank(len),
+// What begins with this byte, which is of this class.
+fn piece_at(class: Class, bytes: &[u8], start: usize) -> Piece
+    requires { start < length bytes.now }
+    ensures later { start < result.end }
+    ensures within { result.end ≤ length bytes.now }
+{
+    match class {
+        Class::Letter => Piece {
+            kind: PieceKind::Token(TokenKind::Name),
+            end: name_end(bytes, start),
+        },
+        Class::Symbol => symbol_at(bytes, start),
+        _ => rare_at(class, bytes, start),
+    }
+}
+
+// What begins with a byte that is neither an ASCII letter nor a symbol.
+#[inline(never)]
+fn rare_at(class: Class, bytes: &[u8], start: usize) -> Piece
+    requires { start < length bytes.now }
+    ensures later { start < result.end }
+    ensures within { result.end ≤ length bytes.now }
+{
+    let blank = wide_blank_len(&bytes[start..]);
+    if blank > 0 {
+        return Piece {
+            kind: PieceKind::Blank,
+            end: start + blank,
+        };
+    }
+    if let Class::Digit = class {
+        return number_at(bytes, start);
+    }
+    Piece {
+        kind: PieceKind::Token(TokenKind::Name),
+        end: name_end(bytes, start),
+    }
+}
+
+// What begins with a character that is neither of a name nor blank nor a digit.
+fn symbol_at(bytes: &[u8], start: usize) -> Piece
+    requires { start < length bytes.now }
+    ensures later { start < result.end }
+    ensures within { result.end ≤ length bytes.now }
+{
+    let first = bytes[start];
+    if first == b'/' || first == b'.' {
+        return slash_or_point_at(bytes, start);
+    }
+    Piece {
+        kind: PieceKind::Token(TokenKind::Symbol(first)),
+        end: start + 1,
+    }
+}
+
+// What begins with a character that may begin a comment or a number.
+#[inline(never)]
+fn slash_or_point_at(bytes: &[u8], start: usize) -> Piece
+    requires { start < length bytes.now }
+    ensures later { start < result.end }
+    ensures within { result.end ≤ length bytes.now }
+{
+    match &bytes[start..] {
+        [b'/', b'/', rest @ ..] => Piece {
+            kind: PieceKind::Blank,
+            end: bytes.len() - behind_line(rest).len(),
+        },
+        [b'/', b'*', rest @ ..] => match behind_comment(rest) {
+            Some(left) => Piece {
+                kind: PieceKind::Blank,
+                end: bytes.len() - left.len(),
+            },
             None => Piece {
                 kind: PieceKind::OpenComment,
-                len: rest.len(),
+                end: bytes.len(),
             },
         },
-        [b'.', b'0'..=b'9', ..] | [b'0'..=b'9', ..] => {
-            Piece::token(TokenKind::Number, number_len(rest))
-        }
-        _ => word_at(rest),
+        [b'.', b'0'..=b'9', ..] => number_at(bytes, start),
+        _ => Piece {
+            kind: PieceKind::Token(TokenKind::Symbol(bytes[start])),
+            end: start + 1,
+        },
     }
 }
 
-// What begins a text that is no comment and no number.
-fn word_at(rest: &[u8]) -> Piece {
-    let blank = blank_len(rest);
-    if blank > 0 {
-        return Piece::blank(blank);
-    }
-    match name_len(rest) {
-        0 => Piece::token(symbol(rest), 1),
-        len => Piece::token(TokenKind::Name, len),
-    }
-}
-
-fn symbol(rest: &[u8]) -> TokenKind {
-    match rest.first() {
-        Some(byte) => TokenKind::Symbol(*byte),
-        None => TokenKind::End,
+fn number_at(bytes: &[u8], start: usize) -> Piece
+    requires { start < length bytes.now }
+    ensures later { start < result.end }
+    ensures within { result.end ≤ length bytes.now }
+{
+    let left = behind_number(bytes[start], &bytes[start + 1..]);
+    Piece {
+        kind: PieceKind::Token(TokenKind::Number),
+        end: bytes.len() - left.len(),
     }
 }
 
-impl Piece {
-    fn blank(len: usize) -> Piece {
-        Piece {
-            kind: PieceKind::Blank,
-            len,
-        }
-    }
-
-    fn token(kind: TokenKind, len: usize) -> Piece {
-        Piece {
-            kind: PieceKind::Token(kind),
-            len,
+// Where a name ends that begins here: letters, digits and `_`. What is no ASCII is taken for a letter.
+fn name_end(bytes: &[u8], start: usize) -> usize
+    requires { start < length bytes.now }
+    ensures later { start < result }
+    ensures within { result ≤ length bytes.now }
+{
+    for at in start + 1..bytes.len() {
+        match class_of(bytes[at]) {
+            Class::Letter | Class::Digit => {}
+            Class::Lead if wide_blank_len(&bytes[at..]) == 0 => {}
+            _ => return at,
         }
     }
+    bytes.len()
 }
 
-/// The bytes of the blank character at the front; 0 where there is none (WGSL: blankspace).
-fn blank_len(rest: &[u8]) -> usize {
+/// The bytes of the blank character at the front, if it has several; 0 where there is none (WGSL:
+/// blankspace).
+fn wide_blank_len(rest: &[u8]) -> usize
+    ensures { result ≤ length rest.now }
+{
     match rest {
-        [b' ' | b'\t' | b'\n' | 0x0b | 0x0c | b'\r', ..] => 1,
         // The next line.
         [0xc2, 0x85, ..] => 2,
         // The marks of direction, and the separators of lines and of paragraphs.
@@ -118,88 +182,82 @@ fn blank_len(rest: &[u8]) -> usize {
     }
 }
 
-/// A comment as far as its line goes.
-fn line_comment_len(rest: &[u8]) -> usize {
-    for at in 0..rest.len() {
-        if begins_line_break(&rest[at..]) {
-            return at;
+// What is behind the line: eight bytes are passed over at a time where none of them may be of a line
+// break, the others one by one.
+fn behind_line(rest: &[u8]) -> &[u8]
+    ensures { length result.now ≤ length rest.now }
+{
+    let mut left = rest;
+    while let Some((word, behind)) = left.split_first_chunk::<8>() {
+        if may_break(u64::from_le_bytes(*word)) {
+            break;
         }
+        left = behind;
     }
-    rest.len()
+    from_line_break(left)
 }
 
-// Line feed, vertical tab, form feed, carriage return, the next line, and the separators of lines
-// and of paragraphs (WGSL: blankspace and line breaks).
-fn begins_line_break(rest: &[u8]) -> bool {
-    matches!(
-        rest,
-        [b'\n' | 0x0b | 0x0c | b'\r', ..] | [0xc2, 0x85, ..] | [0xe2, 0x80, 0xa8 | 0xa9, ..]
-    )
-}
-
-/// A comment with those inside it, up to its `*/`; `None` where it has no end.
-fn block_comment_len(rest: &[u8]) -> Option<usize> {
-    let mut depth = 0usize;
-    let mut next = 0;
-    for at in 0..rest.len() {
-        if at < next {
-            continue;
-        }
-        match &rest[at..] {
-            [b'/', b'*', ..] => {
-                depth = depth.saturating_add(1);
-                next = at.saturating_add(2);
-            }
-            [b'*', b'/', ..] => {
-                depth = depth.saturating_sub(1);
-                next = at.saturating_add(2);
-                if depth == 0 {
-                    return Some(next);
-                }
-            }
+// The next line break, with all behind it.
+fn from_line_break(rest: &[u8]) -> &[u8]
+    ensures { length result.now ≤ length rest.now }
+{
+    for (at, byte) in rest.iter().enumerate() {
+        match class_of(*byte) {
+            Class::Break => return &rest[at..],
+            Class::Lead if begins_line_break(&rest[at..]) => return &rest[at..],
             _ => {}
         }
+    }
+    &[]
+}
+
+// The line breaks of several bytes: the next line, and the separators of lines and of paragraphs
+// (WGSL: blankspace and line breaks).
+fn begins_line_break(rest: &[u8]) -> bool {
+    matches!(rest, [0xc2, 0x85, ..] | [0xe2, 0x80, 0xa8 | 0xa9, ..])
+}
+
+// What is behind the `*/` of a comment that is begun, with those inside it; `None` where it has no end.
+fn behind_comment(rest: &[u8]) -> Option<&[u8]>
+    ensures { IfSome result (λ left. length left.now ≤ length rest.now) }
+{
+    let mut inner = 0usize;
+    let mut left = rest;
+    while let Some((first, behind)) = left.split_first() {
+        left = match (*first, behind) {
+            (b'/', [b'*', left @ ..]) => {
+                inner = inner.saturating_add(1);
+                left
+            }
+            (b'*', [b'/', left @ ..]) => {
+                if inner == 0 {
+                    return Some(left);
+                }
+                inner = inner.saturating_sub(1);
+                left
+            }
+            _ => behind,
+        };
     }
     None
 }
 
-/// A name at the front; 0 where there is none. What is no ASCII is taken for a letter.
-fn name_len(rest: &[u8]) -> usize {
-    match rest.first() {
-        Some(first) if !first.is_ascii_digit() => run_len(rest),
-        _ => 0,
-    }
-}
-
-// Letters, digits and `_`.
-fn run_len(rest: &[u8]) -> usize {
-    for at in 0..rest.len() {
-        if !continues_name(rest[at]) || blank_len(&rest[at..]) > 0 {
-            return at;
-        }
-    }
-    rest.len()
-}
-
-fn continues_name(byte: u8) -> bool {
-    byte.is_ascii_alphanumeric() || byte == b'_' || !byte.is_ascii()
-}
-
-/// A number at the front, with its point, its exponent and its suffix.
-fn number_len(rest: &[u8]) -> usize {
-    let is_hexadecimal = matches!(rest, [b'0', b'x' | b'X', ..]);
+// What is behind a number that begins with this character, with its point, its exponent and its suffix.
+fn behind_number(first: u8, rest: &[u8]) -> &[u8]
+    ensures { length result.now ≤ length rest.now }
+{
+    let is_hexadecimal = first == b'0' && matches!(rest, [b'x' | b'X', ..]);
     let mut may_sign = false;
-    for at in 0..rest.len() {
-        let byte = rest[at];
-        let is_sign = may_sign && matches!(byte, b'+' | b'-');
-        if !byte.is_ascii_alphanumeric() && byte != b'.' && !is_sign {
-            return at;
+    for (at, byte) in rest.iter().enumerate() {
+        let is_sign = may_sign && matches!(*byte, b'+' | b'-');
+        if !byte.is_ascii_alphanumeric() && *byte != b'.' && !is_sign {
+            return &rest[at..];
         }
-        may_sign = match byte {
+        may_sign = match *byte {
             b'e' | b'E' => !is_hexadecimal,
             b'p' | b'P' => is_hexadecimal,
             _ => false,
         };
     }
-    rest.len()
+    &[]
 }

@@ -2,6 +2,7 @@
 //! is wrong in it. What these stand for is not said here, but for literals and for the language's names.
 #![tactic(auto)]
 
+mod bytes;
 mod cursor;
 mod declaration;
 mod expression;
@@ -11,6 +12,7 @@ mod lexer;
 mod literal;
 mod mixes;
 mod module;
+mod name_table;
 mod names;
 mod order;
 mod place;

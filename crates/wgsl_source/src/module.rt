@@ -10,11 +10,12 @@ use crate::expression::{Expressions, Span, Step};
 use crate::fault::{Expected, Fault, Faults};
 use crate::lexer::{Lexed, tokens_of};
 use crate::literal::{Literal, literal_of};
+use crate::name_table::NameTable;
 use crate::order::{names_of, order_of};
 use crate::templates::mark_templates;
 use crate::token::Token;
 use std::alloc::{AllocError, Global};
-use std::collections::{BTreeMap, BTreeSet};
+use std::collections::BTreeSet;
 use std::marker::Model;
 use wgsl_rules::{AccessMode, AddressSpace};
 
@@ -27,7 +28,7 @@ pub struct Reading<'a> {
     text: &'a str,
     tokens: Vec<Token>,
     module: Module,
-    names: BTreeMap<String, usize>,
+    names: NameTable,
     order: Vec<usize>,
     /// Where the operators begin that the grammar refuses.
     refused: BTreeSet<usize>,
@@ -37,7 +38,7 @@ pub struct Reading<'a> {
 // What it shows.
 impl<'a> Model for Reading<'a> {
     ghost use Rattle.std.specs.Prelude.{◌≡◌, ℕ, List, length, map};
-    ghost use Rattle.std.specs.BTreeMap.{get_by_text};
+    ghost use Rattle.wgsl_source.specs.NameTables.{named_in};
     ghost use Rattle.wgsl_source.specs.Readings.{Outline, extent_in, declared_in, field_in, found_by_if, first_of};
 
     ghost Value = { Outline };
@@ -47,7 +48,7 @@ impl<'a> Model for Reading<'a> {
       tokens = map extent_in r.tokens.items;
       declared = map (λ d. declared_in d.kind) r.module.declarations.items;
       names = map (λ d. d.name) r.module.declarations.items;
-      found_by = found_by_if (length r.names.entries) (map (λ d. d.name) r.module.declarations.items);
+      found_by = found_by_if (length r.names.maps.items) (map (λ d. d.name) r.module.declarations.items);
       fields = map field_in r.module.members.items;
       steps = r.module.steps.items;
       asserts = r.module.asserts.items;
@@ -56,8 +57,8 @@ impl<'a> Model for Reading<'a> {
       faults = r.faults.items;
     } };
 
-    ghost invariant = { λ r. (name : List ℕ) → get_by_text r.names name ≡ first_of r.text.now (map extent_in r.tokens.items)
-        (found_by_if (length r.names.entries) (map (λ d. d.name) r.module.declarations.items)) name };
+    ghost invariant = { λ r. (name : List ℕ) → named_in r.names name ≡ first_of r.text.now (map extent_in r.tokens.items)
+        (found_by_if (length r.names.maps.items) (map (λ d. d.name) r.module.declarations.items)) name };
 }
 
 /// Bytes of a source.
@@ -153,7 +154,7 @@ impl<'a> Reading<'a> {
             text,
             tokens,
             module,
-            names: BTreeMap::new(alloc),
+            names: NameTable::empty(alloc),
             order,
             refused,
             faults: faults.into_sorted()?,
@@ -250,7 +251,7 @@ impl<'a> Reading<'a> {
     pub fn number_of(&self, name: &str) -> Option<usize>
         ensures { result ≡ first_named self.now name.now }
     {
-        self.names.get(name).copied()
+        self.names.get(name)
     }
 
     /// The text of a token.

@@ -1,16 +1,16 @@
 //! An order of the declarations, in which each stands behind those that it names (WGSL: declaration
 //! and scope).
 
-ghost use Rattle.std.specs.Prelude.{◌≡◌, ℕ, List, IfOk};
-ghost use Rattle.std.specs.BTreeMap.{get_by_text};
+ghost use Rattle.std.specs.Prelude.{◌≡◌, ◌<◌, ℕ, List, length, IfOk};
 ghost use Rattle.wgsl_source.specs.Declarations.{number_named};
+ghost use Rattle.wgsl_source.specs.NameTables.{named_in};
 
 use crate::cursor::Cursor;
 use crate::declaration::Module;
 use crate::expression::{Callee, Step};
 use crate::fault::{Faults, Reason};
+use crate::name_table::NameTable;
 use std::alloc::{AllocError, Global};
-use std::collections::BTreeMap;
 
 /// Whether a declaration has its place in the order.
 #[derive(Clone, Copy, PartialEq, Eq)]
@@ -33,7 +33,7 @@ struct Frame {
 struct Search<'a> {
     cursor: Cursor<'a>,
     module: &'a Module,
-    names: &'a BTreeMap<String, usize>,
+    names: &'a NameTable,
     marks: Vec<Mark>,
     begun: Vec<Frame>,
     order: Vec<usize>,
@@ -45,13 +45,14 @@ pub(crate) fn names_of(
     module: &Module,
     cursor: Cursor<'_>,
     faults: &mut Faults,
-) -> Result<BTreeMap<String, usize>, AllocError>
-    ensures { IfOk result (λ names. (name : List ℕ) → get_by_text names name ≡ number_named cursor.entry «module».now.declarations.items name) }
+) -> Result<NameTable, AllocError>
+    ensures found { IfOk result (λ names. (name : List ℕ) → named_in names name ≡ number_named cursor.entry «module».now.declarations.items name) }
+    ensures filled { IfOk result (λ names. 0 < length names.maps.items) }
 {
-    let mut names = BTreeMap::new(alloc);
+    let mut names = NameTable::for_names(alloc, module.declarations.len())?;
     for (number, declaration) in module.declarations.iter().enumerate() {
         let name = cursor.text_at(declaration.name);
-        if names.contains_key(name) {
+        if names.get(name).is_some() {
             faults.add(cursor.fault_at(declaration.name, Reason::DuplicateName))?;
         } else {
             names.insert(String::from_str(alloc, name)?, number)?;
@@ -66,7 +67,7 @@ pub(crate) fn order_of(
     alloc: Global,
     module: &Module,
     cursor: Cursor<'_>,
-    names: &BTreeMap<String, usize>,
+    names: &NameTable,
     faults: &mut Faults,
 ) -> Result<Vec<usize>, AllocError> {
     let declared = module.declarations.len();
@@ -145,7 +146,7 @@ impl Search<'_> {
     }
 
     fn follow(&mut self, name: usize, faults: &mut Faults) -> Result<(), AllocError> {
-        let Some(declaration) = self.names.get(self.cursor.text_at(name)).copied() else {
+        let Some(declaration) = self.names.get(self.cursor.text_at(name)) else {
             return Ok(());
         };
         if self.mark(declaration) == Mark::Begun {

@@ -1,9 +1,13 @@
 //! What sources declare.
 
+mod compared;
 mod declarations;
 mod faults;
 mod growth;
+mod made;
 mod modules;
+mod plain_groups;
+mod plain_tokens;
 mod readings;
 mod reasons;
 mod recovery;

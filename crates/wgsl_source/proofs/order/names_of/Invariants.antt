@@ -1,8 +1,9 @@
-use Rattle.std.proofs.Common.{◌≡◌, ℕ, List, take}
-use Rattle.std.specs.BTreeMap.{get_by_text}
+use Rattle.std.proofs.Common.{◌≡◌, ◌<◌, ℕ, List, length, take}
 use Rattle.wgsl_source.specs.Declarations.{number_named}
+use Rattle.wgsl_source.specs.NameTables.{named_in}
 use Rattle.wgsl_source.proofs.order.names_of.Given as goal
 
 abbrev pub invariant-loop-number : goal.invariant-loop-number
 invariant-loop-number l =
-    (name : List ℕ) → get_by_text l.names name ≡ number_named l.cursor (take l.number l.module.declarations.items) name
+    ((name : List ℕ) → named_in l.names name ≡ number_named l.cursor (take l.number l.module.declarations.items) name)
+    × (0 < length l.names.maps.items)

@@ -1,0 +1,70 @@
+//! What the bytes of a source may be of.
+
+/// What a byte begins or goes on with.
+#[derive(Clone, Copy)]
+pub(crate) enum Class {
+    /// A letter or `_`; also all that is no ASCII, but for the bytes that may begin a blank.
+    Letter,
+    Digit,
+    /// A byte that may begin a letter, and may begin a blank character of several bytes.
+    Lead,
+    /// A character that is of no name and not blank.
+    Symbol,
+    /// A blank character that ends no line.
+    Blank,
+    /// A line break of one byte.
+    Break,
+}
+
+impl Class {
+    pub(crate) fn is_blank(self) -> bool {
+        matches!(self, Class::Blank | Class::Break)
+    }
+}
+
+const L: Class = Class::Letter;
+
+const D: Class = Class::Digit;
+
+const W: Class = Class::Lead;
+
+const S: Class = Class::Symbol;
+
+const B: Class = Class::Blank;
+
+const N: Class = Class::Break;
+
+/// The class of each byte.
+#[rattlefmt::skip]
+static CLASSES: [Class; 256] = [
+    S, S, S, S, S, S, S, S, S, B, N, N, N, N, S, S,
+    S, S, S, S, S, S, S, S, S, S, S, S, S, S, S, S,
+    B, S, S, S, S, S, S, S, S, S, S, S, S, S, S, S,
+    D, D, D, D, D, D, D, D, D, D, S, S, S, S, S, S,
+    S, L, L, L, L, L, L, L, L, L, L, L, L, L, L, L,
+    L, L, L, L, L, L, L, L, L, L, L, S, S, S, S, L,
+    S, L, L, L, L, L, L, L, L, L, L, L, L, L, L, L,
+    L, L, L, L, L, L, L, L, L, L, L, S, S, S, S, S,
+    L, L, L, L, L, L, L, L, L, L, L, L, L, L, L, L,
+    L, L, L, L, L, L, L, L, L, L, L, L, L, L, L, L,
+    L, L, L, L, L, L, L, L, L, L, L, L, L, L, L, L,
+    L, L, L, L, L, L, L, L, L, L, L, L, L, L, L, L,
+    L, L, W, L, L, L, L, L, L, L, L, L, L, L, L, L,
+    L, L, L, L, L, L, L, L, L, L, L, L, L, L, L, L,
+    L, L, W, L, L, L, L, L, L, L, L, L, L, L, L, L,
+    L, L, L, L, L, L, L, L, L, L, L, L, L, L, L, L,
+];
+
+/// What this byte may be of.
+pub(crate) fn class_of(byte: u8) -> Class {
+    CLASSES[byte as usize]
+}
+
+/// Eight bytes of 0x80.
+const HIGH: u64 = 0x8080_8080_8080_8080;
+
+/// Whether one of eight bytes may be of a line break: one below 0x0e, or one that is no ASCII.
+pub(crate) fn may_break(word: u64) -> bool {
+    // The difference borrows the highest bit of a byte only where one before it is below, too.
+    (word.wrapping_sub(0x0e0e_0e0e_0e0e_0e0e) | word) & HIGH != 0
+}
