@@ -20,6 +20,7 @@ pub mod NumericAnswers
 pub mod NumericRows
 pub mod Outcomes
 pub mod Overwrites
+pub mod OwnTypes
 pub mod PackedBytes
 pub mod PackingAnswers
 pub mod PackingRows

@@ -12,6 +12,7 @@ ghost use Rattle.wgsl_types.specs.Functions.{binary_value, unary_value};
 ghost use Rattle.wgsl_types.specs.Lifts.{in_common_type, on_both, on_components};
 ghost use Rattle.wgsl_values.specs.View.{value_of, vec_view};
 
+use crate::cases::are_of_one_type;
 use std::alloc::Global;
 use wgsl_ops::Compwise;
 use wgsl_rules::convert;
@@ -220,6 +221,9 @@ pub(crate) fn in_common_type(
     ensures value { Gives value_of result (and_then (in_common_type (value_of left.now) (value_of right.now)) (λ p. on_both (binary_value function) p.0 p.1)) }
     ensures storable { IfOk result (λ v. IsStorable (value_of v)) }
 {
+    if are_of_one_type(left, right) {
+        return on_both(alloc, function, left, right);
+    }
     match convert(alloc, left, right)? {
         Some((a, b)) => on_both(alloc, function, &a, &b),
         None => Err(Error::Builtin(BuiltinReason::NoCommonType)),

@@ -17,7 +17,7 @@ ghost use Rattle.wgsl_types.specs.Logical.{
 };
 ghost use Rattle.wgsl_values.specs.View.{vals_view, value_of, vec_view};
 
-use crate::cases::is_known;
+use crate::cases::{are_of_one_type, is_known};
 use crate::components::components;
 use std::alloc::Global;
 use wgsl_rules::convert;
@@ -189,6 +189,33 @@ fn selected_by(alloc: Global, cond: &Instance, f: Instance, t: Instance) -> Resu
     }
 }
 
+// Of two values, by a bool, a copy of the second where it is true, else of the first.
+fn one_copied(alloc: Global, cond: &Instance, f: &Instance, t: &Instance) -> Result<Instance, Error>
+    ensures { Gives value_of result (one_selected (value_of cond.now) (value_of f.now) (value_of t.now)) }
+{
+    let value = component_selected(cond, f, t)?;
+    Ok(value.clone(alloc)?)
+}
+
+// As `selected_by`, of values that stay with the caller: only what is picked is copied.
+fn copied_by(alloc: Global, cond: &Instance, f: &Instance, t: &Instance) -> Result<Instance, Error>
+    requires first { IsStorable (value_of f.now) }
+    requires second { IsStorable (value_of t.now) }
+    requires one_type { type_of (value_of f.now) ≡ type_of (value_of t.now) }
+    ensures { Gives value_of result (selected_by (value_of cond.now) (value_of f.now) (value_of t.now)) }
+{
+    match cond {
+        Instance::Vec(bools) => {
+            Ok(Instance::Vec(components_selected(alloc, bools.as_slice(), f, t)?))
+        }
+        Instance::Literal(_) | Instance::Struct(_) | Instance::Array(_) => {
+            one_copied(alloc, cond, f, t)
+        }
+        Instance::Mat(_) | Instance::Ptr(_) | Instance::Ref(_) => one_copied(alloc, cond, f, t),
+        Instance::Atomic(_) | Instance::Deferred(_) => one_copied(alloc, cond, f, t),
+    }
+}
+
 /// Of two values in their common type the second where the condition is true, else the first; by component
 /// where the condition is a vector of bools, and the values are vectors of its count. Refused by `Builtin`:
 /// values without a common type, deferred values, and other conditions (WGSL: logical builtin functions,
@@ -202,6 +229,9 @@ pub fn select(alloc: Global, f: &Instance, t: &Instance, cond: &Instance) -> Res
 {
     if !is_known(f) || !is_known(t) {
         return Err(Error::Builtin(BuiltinReason::NoCommonType));
+    }
+    if are_of_one_type(f, t) {
+        return copied_by(alloc, cond, f, t);
     }
     match convert(alloc, f, t)? {
         Some((f, t)) => selected_by(alloc, cond, f, t),

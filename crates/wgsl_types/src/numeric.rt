@@ -22,6 +22,7 @@ ghost use Rattle.wgsl_types.specs.Numeric.{
 };
 ghost use Rattle.wgsl_values.specs.View.{value_of, vec_view};
 
+use crate::cases::are_of_one_type;
 use crate::lifts::{BinaryFunction, UnaryFunction, as_value, in_common_type, on_components};
 use std::alloc::Global;
 use wgsl_ops::VecOperators;
@@ -169,6 +170,9 @@ pub fn clamp(
     ensures value { Gives value_of result (clamped (value_of e.now) (value_of low.now) (value_of high.now)) }
     ensures storable { IfOk result (λ v. IsStorable (value_of v)) }
 {
+    if are_of_one_type(e, low) && are_of_one_type(low, high) {
+        return between(alloc, e, low, high);
+    }
     let types = [e.ty(alloc)?, low.ty(alloc)?, high.ty(alloc)?];
     match convert_all_ty(&types) {
         Some(ty) => clamp_in(alloc, ty, e, low, high),
@@ -233,6 +237,9 @@ pub fn dot(alloc: Global, a: &Instance, b: &Instance, stage: ShaderStage) -> Res
     ensures value { Gives value_of result (dotted stage (value_of a.now) (value_of b.now)) }
     ensures storable { IfOk result (λ v. IsStorable (value_of v)) }
 {
+    if are_of_one_type(a, b) {
+        return dot_of(alloc, a, b, stage);
+    }
     match convert(alloc, a, b)? {
         Some((a, b)) => dot_of(alloc, &a, &b, stage),
         None => Err(Error::Builtin(BuiltinReason::NoCommonType)),

@@ -3,10 +3,11 @@ use Rattle.std.specs.Prelude.{IfSome}
 use Rattle.wgsl_rules.specs.Converted.{converted}
 use Rattle.wgsl_rules.specs.InCommon.{in_common, pair_view}
 use Rattle.wgsl_rules.specs.Values.{IsWellFormed, type_of}
-use Rattle.wgsl_types.proofs.LogicalAnswers.{selected_by-storable}
-use Rattle.wgsl_types.proofs.Picked.{AreBothStorable, common-storable-pair}
+use Rattle.wgsl_types.proofs.LogicalAnswers.{selected_by-storable, selected-storable}
+use Rattle.wgsl_types.proofs.OwnTypes.{selected-own}
+use Rattle.wgsl_types.proofs.Picked.{common-storable-pair}
 use Rattle.wgsl_types.proofs.SoFar.{gives-storable}
-use Rattle.wgsl_types.specs.Logical.{is_known, selected_by}
+use Rattle.wgsl_types.specs.Logical.{is_known, selected, selected_by}
 use Rattle.wgsl_values.specs.View.{value_of}
 use Rattle.wgsl_values.specs.declared.inst.Instance.{Instance}
 use Rattle.wgsl_types.proofs.logical.select.Goals as goal
@@ -37,3 +38,15 @@ returns-in-Some-clause-storable c =
     let s = common-storable-pair (value_of c.args.f.now) (value_of c.args.t.now) (value_of c.in-Some.f) (value_of c.in-Some.t) f t common well.0 well.1 in
     gives-storable c.selected_by.result (selected_by (value_of c.args.cond.now) (value_of c.in-Some.f) (value_of c.in-Some.t))
     (λ x e. selected_by-storable (value_of c.args.cond.now) (value_of c.in-Some.f) (value_of c.in-Some.t) x s.first s.second typed e) c.selected_by.ensures
+
+pub returns-then-are_of_one_type-clause-value : goal.returns-then-are_of_one_type-clause-value
+returns-then-are_of_one_type-clause-value c =
+    let f : is_known (value_of c.args.f.now) ≡ true = first_of (search rules, grind arith) in
+    let t : is_known (value_of c.args.t.now) ≡ true = first_of (search rules, grind arith) in
+    let typed = c.are_of_one_type.ensures c.if-are_of_one_type.true in
+    rw (selected-own (value_of c.args.f.now) (value_of c.args.t.now) (value_of c.args.cond.now) f t c.requires.first c.requires.second typed) c.copied_by.ensures
+
+pub returns-then-are_of_one_type-clause-storable : goal.returns-then-are_of_one_type-clause-storable
+returns-then-are_of_one_type-clause-storable c =
+    gives-storable c.copied_by.result (selected (value_of c.args.f.now) (value_of c.args.t.now) (value_of c.args.cond.now))
+    (λ x e. selected-storable (value_of c.args.f.now) (value_of c.args.t.now) (value_of c.args.cond.now) x c.requires.first c.requires.second c.requires.condition e) (returns-then-are_of_one_type-clause-value c)
