@@ -1,6 +1,5 @@
 pub mod Answered
 pub mod CallSteps
-pub mod Calls
 pub mod Columns
 pub mod ConvertedLists
 pub mod Each
@@ -19,4 +18,6 @@ pub mod Structures
 pub mod Swizzles
 pub mod TakenValues
 pub mod Told
+pub mod WaitingSteps
+pub mod Wholes
 pub mod Walks

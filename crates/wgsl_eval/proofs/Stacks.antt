@@ -1,29 +1,19 @@
 -- The last of the answers, one after the other.
-use Rattle.std.proofs.Common.{◌≡◌, ◌∙◌, ℕ, zero, suc, ◌+◌, ◌-◌, ◌<◌, List, [], ◌∷◌, ◌++◌, length, drop, reverse, ap, arith}
+use Rattle.std.proofs.Common.{◌≡◌, ◌∙◌, ℕ, zero, suc, ◌+◌, ◌-◌, List, [], ◌∷◌, ◌++◌, length, drop, reverse, ap, arith}
 use Rattle.std.proofs.lemmas.Grind.{common_steps}
 use Rattle.std.proofs.lemmas.List.{reverse-append}
 use Rattle.std.proofs.lemmas.Option.{unwrap_or-slice_get}
 use Rattle.wgsl_eval.specs.Answers.{meaning_at}
-use Rattle.wgsl_eval.specs.Given.{below, last_ones, top, without}
+use Rattle.wgsl_eval.specs.Given.{below, top}
 use Rattle.wgsl_eval.specs.declared.answer.Answer.{Answer}
 use Rattle.wgsl_eval.specs.declared.answer.Answer.TheVariants as answers
 
-one_less : (n i : ℕ) → i < n → n - i ≡ suc (n - (i + 1))
-one_less n i h = omega arith
-
-pub without_more : (n i : ℕ) (before : List Answer) → i < n → without (n - i) before ≡ without (n - (i + 1)) (below before)
-without_more n i before h = ap (λ k. without k before) (one_less n i h)
-
-pub last_ones_more : (n i : ℕ) (before : List Answer) → i < n
-    → last_ones (n - i) before ≡ last_ones (n - (i + 1)) (below before) ++ top before ∷ []
-last_ones_more n i before h = ap (λ k. last_ones k before) (one_less n i h)
-
 -- ---- the last of those in another order is the first
 
-top_pushed : (x : Answer) (xs : List Answer) → top (xs ++ x ∷ []) ≡ x
+pub top_pushed : (x : Answer) (xs : List Answer) → top (xs ++ x ∷ []) ≡ x
 top_pushed x xs = unwrap_or-slice_get (xs ++ x ∷ []) (length (xs ++ x ∷ []) - 1) answers.Faulty ∙ grind (arith, common_steps)
 
-below_pushed : (x : Answer) (xs : List Answer) → below (xs ++ x ∷ []) ≡ xs
+pub below_pushed : (x : Answer) (xs : List Answer) → below (xs ++ x ∷ []) ≡ xs
 below_pushed x xs = grind (arith, common_steps)
 
 pub top_dropped : (ms : List Answer) (i : ℕ) → top (reverse (drop i ms)) ≡ meaning_at ms i

@@ -30,7 +30,7 @@ run_none s all now e =
     let P : List Answer → Type 0 = λ answers. IsRunSoFar s all 0 answers in
     subst P (sym e) (record { ran = λ after r. r })
 
-more : (s : Setting) (all : List Step) (i : ℕ) (now : List Answer) (d : Step) (a : Answer)
+pub more : (s : Setting) (all : List Step) (i : ℕ) (now : List Answer) (d : Step) (a : Answer)
     → i < length all → IsRunSoFar s all i now → IsGiven s (get_or all i d) now a → IsRunSoFar s all (i + 1) (rest_of (get_or all i d) now ++ a ∷ [])
 more s all i now d a h so_far given = record {
   ran = λ after r.

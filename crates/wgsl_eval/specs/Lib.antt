@@ -11,3 +11,4 @@ pub mod Parts
 pub mod Runs
 pub mod Structures
 pub mod TypeNames
+pub mod Waitings

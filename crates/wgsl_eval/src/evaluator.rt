@@ -1,6 +1,6 @@
 //! Walks the steps of expressions, whose answers wait on a stack of their own.
 
-ghost use Rattle.std.specs.Prelude.{if◌then◌else◌, [], ◌∷◌, ◌++◌, ◌≡◌, ◌≤◌, ◌+◌, ◌↔◌, ◌&&◌, ℕ, All, IfOk, IsSome, IsTrue, MatchBool, None, OnOk, Some, false, is_some, length, map, replicate, unwrap_or, vec_len};
+ghost use Rattle.std.specs.Prelude.{if◌then◌else◌, [], ◌∷◌, ◌++◌, ◌≡◌, ◌≤◌, ◌+◌, ◌↔◌, ◌&&◌, ℕ, All, IfOk, IfSome, IsSome, IsTrue, MatchBool, None, OnOk, Some, false, is_some, length, map, replicate, unwrap_or, vec_len};
 ghost use Rattle.std.specs.List.Sorted.{IsSortedByKey};
 ghost use Rattle.std.specs.Option.{option_map};
 ghost use Rattle.std.specs.Ordering.{nat_cmp};
@@ -14,7 +14,8 @@ ghost use Rattle.wgsl_eval.specs.Answers.{AreAnswers, IsAnswer, IsFault, IsFault
 ghost use Rattle.wgsl_eval.specs.Evaluated.{AreEvaluated, setting_before, values_of};
 ghost use Rattle.wgsl_eval.specs.Evaluation.{has_value, value_names};
 ghost use Rattle.wgsl_eval.specs.Evaluators.{setting_of};
-ghost use Rattle.wgsl_eval.specs.Given.{IsConverted, IsCopy, IsGiven, IsJudged, IsLanguageType, IsNamed, IsOfNumber, IsOfOne, IsOfTwo, IsOfValue, IsOfValues, UnlessRefused, below, is_decided, last_ones, rest_of, top, without};
+ghost use Rattle.wgsl_eval.specs.Given.{IsConverted, IsCopy, IsGiven, IsJudged, IsLanguageType, IsNamed, IsOfNumber, IsOfOne, IsOfTwo, IsOfValue, IsOfValues, UnlessRefused, below, is_decided, language_value, top};
+ghost use Rattle.wgsl_eval.specs.Waitings.{AreWaiting, IsDone, IsWaiting, Stands};
 ghost use Rattle.wgsl_eval.specs.Meanings.{AreDeclared};
 ghost use Rattle.wgsl_eval.specs.Runs.{IsFound};
 ghost use Rattle.wgsl_eval.specs.TypeNames.{predeclared_type};
@@ -23,6 +24,7 @@ use crate::answer::{Answer, Guard, Need, Size, SizedType, Skip, Value};
 use crate::message::{Message, Messages};
 use crate::opaque::is_opaque;
 use crate::types::predeclared;
+use crate::waiting::{Waiting, popped_waiting};
 use std::alloc::{AllocError, Global};
 use wgsl_apply::{
     Asked, against_operator, automatic, has_rank, is_of_numbers, is_short, refusal_text,
@@ -174,7 +176,6 @@ impl<'a> Evaluator<'a> {
     }
 
     /// What an expression stands for.
-    #[tactic(auto, using(crate::proofs::Walks::run_none, crate::proofs::Walks::run_more, crate::proofs::Walks::run_all))]
     pub(crate) fn expression(&mut self, span: Span) -> Result<Answer, AllocError>
         requires { AreAnswers self.old.meanings.items }
         ensures keeps { setting_of self.new ≡ setting_of self.old }
@@ -182,57 +183,56 @@ impl<'a> Evaluator<'a> {
         ensures answer { IfOk result IsAnswer }
     {
         let steps = self.reading.steps(span);
-        let mut answers = Vec::new(self.alloc);
+        let mut waiting = Vec::new(self.alloc);
         for step in steps {
-            let answer = self.step(*step, &mut answers)?;
-            answers.push(answer)?;
+            let next = self.step(*step, &mut waiting)?;
+            waiting.push(next)?;
         }
-        Ok(popped(&mut answers))
+        self.last(&mut waiting)
     }
 
-    // Does a step, and takes the answers that it needs away.
-    fn step(&mut self, step: Step, answers: &mut Vec<Answer>) -> Result<Answer, AllocError>
+    // Does a step, and takes what it needs of what waits away.
+    fn step(&mut self, step: Step, waiting: &mut Vec<Waiting>) -> Result<Waiting, AllocError>
         requires meanings { AreAnswers self.old.meanings.items }
-        requires answers { AreAnswers answers.old.items }
+        requires waiting { AreWaiting self.old.meanings.items waiting.old.items }
         ensures keeps { setting_of self.new ≡ setting_of self.old }
-        ensures given { IfOk result (IsGiven (setting_of self.old) step answers.old.items) }
-        ensures rest { OnOk result (answers.new.items ≡ rest_of step answers.old.items) }
-        ensures left { OnOk result (AreAnswers answers.new.items) }
-        ensures answer { IfOk result IsAnswer }
+        ensures done { IfOk result (IsDone (setting_of self.old) step waiting.old.items waiting.new.items) }
+        ensures left { OnOk result (AreWaiting self.old.meanings.items waiting.new.items) }
+        ensures next { IfOk result (IsWaiting self.old.meanings.items) }
     {
         match step {
             Step::Name(token) => self.named(token),
-            Step::Number(token) => self.number(token),
+            Step::Number(token) => Ok(Waiting::Made(self.number(token)?)),
             Step::Unary(operator, token) => {
-                let operand = popped(answers);
-                self.unary(operator, token, operand)
+                let operand = self.last(waiting)?;
+                Ok(Waiting::Made(self.unary(operator, token, operand)?))
             }
             Step::Binary(operator, token) => {
-                let right = popped(answers);
-                let left = popped(answers);
-                self.binary(operator, token, left, right)
+                let right = self.last(waiting)?;
+                let left = self.last(waiting)?;
+                Ok(Waiting::Made(self.binary(operator, token, left, right)?))
             }
             Step::Template(token, count) => {
-                let arguments = taken(self.alloc, answers, count)?;
-                self.template(token, arguments)
+                let arguments = self.lasts(waiting, count)?;
+                Ok(Waiting::Made(self.template(token, arguments)?))
             }
             Step::Call(token, Callee::Name, count) => {
-                let arguments = taken(self.alloc, answers, count)?;
-                self.call(token, arguments)
+                let arguments = self.lasts(waiting, count)?;
+                Ok(Waiting::Made(self.call(token, arguments)?))
             }
             Step::Call(token, Callee::Answer, count) => {
-                let arguments = taken(self.alloc, answers, count)?;
-                let callee = popped(answers);
-                self.call_answer(token, callee, arguments)
+                let arguments = self.lasts(waiting, count)?;
+                let callee = self.last(waiting)?;
+                Ok(Waiting::Made(self.call_answer(token, callee, arguments)?))
             }
             Step::Member(token) => {
-                let whole = popped(answers);
-                self.member(token, whole)
+                let whole = popped_waiting(waiting);
+                Ok(Waiting::Made(self.member(token, whole)?))
             }
             Step::Index(token) => {
-                let index = popped(answers);
-                let whole = popped(answers);
-                self.index(token, whole, index)
+                let index = self.last(waiting)?;
+                let whole = popped_waiting(waiting);
+                Ok(Waiting::Made(self.index(token, whole, index)?))
             }
         }
     }
@@ -348,17 +348,25 @@ impl Evaluator<'_> {
     }
 
     // What a name stands for by itself.
-    fn named(&mut self, token: usize) -> Result<Answer, AllocError>
+    fn named(&mut self, token: usize) -> Result<Waiting, AllocError>
         requires { AreAnswers self.old.meanings.items }
         ensures keeps { setting_of self.new ≡ setting_of self.old }
-        ensures named { IfOk result (IsNamed (setting_of self.old) (word_at self.old.reading.now token)) }
-        ensures answer { IfOk result IsAnswer }
+        ensures named { IfOk result (λ w. (a : Answer) → Stands self.old.meanings.items w a → IsNamed (setting_of self.old) (word_at self.old.reading.now token) a) }
+        ensures waiting { IfOk result (IsWaiting self.old.meanings.items) }
     {
         let reading = self.reading;
-        let name = reading.word(token);
-        if let Some(number) = reading.number_of(name) {
-            return self.copied(token, number);
+        match reading.number_of(reading.word(token)) {
+            Some(number) => self.of_declared(token, number),
+            None => Ok(Waiting::Made(self.of_language(token)?)),
         }
+    }
+
+    // What the language has for a name.
+    fn of_language(&self, token: usize) -> Result<Answer, AllocError>
+        ensures value { IfOk result (λ a. value_in a ≡ language_value (word_at self.now.reading.now token)) }
+        ensures answer { IfOk result IsAnswer }
+    {
+        let name = self.reading.word(token);
         match name {
             "true" => return Ok(value_of(LiteralInstance::Bool(true))),
             "false" => return Ok(value_of(LiteralInstance::Bool(false))),
@@ -368,6 +376,37 @@ impl Evaluator<'_> {
             Some(named) => self.language_type(token, named),
             None if is_opaque(name) => Ok(self.skipped(token, Need::NotConstant)),
             None => self.wrong_text(token, "nothing has this name"),
+        }
+    }
+
+    // What a declaration was found to stand for. A value with parts is charged for as it is named, and copied where all
+    // of it is taken.
+    fn of_declared(&mut self, token: usize, number: usize) -> Result<Waiting, AllocError>
+        requires { AreAnswers self.old.meanings.items }
+        ensures keeps { setting_of self.new ≡ setting_of self.old }
+        ensures copy { IfOk result (λ w. (a : Answer) → Stands self.old.meanings.items w a → IsCopy (meaning_at self.old.meanings.items number) a) }
+        ensures waiting { IfOk result (IsWaiting self.old.meanings.items) }
+    {
+        let Some(work) = self.parts_of(number) else {
+            return Ok(Waiting::Made(self.copied(token, number)?));
+        };
+        if self.spend(work) {
+            Ok(Waiting::Named(number))
+        } else {
+            Ok(Waiting::Made(self.too_large(token)?))
+        }
+    }
+
+    // How many values are in that of the declaration of the number, where that is a value with parts.
+    fn parts_of(&self, number: usize) -> Option<usize>
+        requires { AreAnswers self.now.meanings.items }
+        ensures { IfSome result (λ _. IsWaiting self.now.meanings.items (Waiting.Named number)) }
+    {
+        match self.meanings.get(number) {
+            Some(Answer::Value(value)) if !matches!(value.instance, Instance::Literal(_)) => {
+                Some(value.size.parts)
+            }
+            _ => None,
         }
     }
 
@@ -635,23 +674,6 @@ pub(crate) fn popped(answers: &mut Vec<Answer>) -> Answer
     ensures left { AreAnswers answers.new.items }
 {
     answers.pop().unwrap_or(Answer::Faulty)
-}
-
-// So many answers, taken away from the last ones, in their order.
-fn taken(alloc: Global, answers: &mut Vec<Answer>, count: usize) -> Result<Vec<Answer>, AllocError>
-    requires { AreAnswers answers.old.items }
-    ensures taken { IfOk result (λ list. list.items ≡ last_ones count answers.old.items) }
-    ensures without { OnOk result (answers.new.items ≡ without count answers.old.items) }
-    ensures answers { IfOk result (λ list. AreAnswers list.items) }
-    ensures left { OnOk result (AreAnswers answers.new.items) }
-{
-    let mut list = Vec::with_capacity(alloc, count)?;
-    for number in 0..count {
-        let answer = popped(answers);
-        list.push(answer)?;
-    }
-    list.reverse();
-    Ok(list)
 }
 
 // Whether the operator does not evaluate its right operand.

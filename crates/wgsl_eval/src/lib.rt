@@ -16,6 +16,7 @@ mod part;
 mod structure;
 mod types;
 mod variable;
+mod waiting;
 
 pub use answer::{Need, Skip};
 pub use declarations::{Declarations, Item, ItemKind, resolve};

@@ -1,6 +1,6 @@
 //! Parts of values: elements, members and swizzles (WGSL: composite value decomposition expressions).
 
-ghost use Rattle.std.specs.Prelude.{◌≡◌, ◌==◌, IfOk, IfSome, MatchOption, Ok, map, Some, option_map};
+ghost use Rattle.std.specs.Prelude.{◌≡◌, ◌==◌, IfOk, IfSome, IsSomeAnd, MatchOption, Ok, map, Some, option_map};
 ghost use Rattle.std.specs.List.{position};
 ghost use Rattle.wgsl_eval.specs.Answers.{IsAnswer, IsFault, value_in};
 ghost use Rattle.wgsl_eval.specs.Evaluators.{setting_of};
@@ -16,6 +16,7 @@ ghost use Rattle.wgsl_eval.specs.Parts.{
   component_named,
   swizzled,
 };
+ghost use Rattle.wgsl_eval.specs.Waitings.{IsWaiting, IsWhole, answer_of, value_at};
 ghost use Rattle.wgsl_rules.specs.Paths.{parts, viewed};
 ghost use Rattle.wgsl_rules.specs.Values.{IsStorable};
 ghost use Rattle.wgsl_source.specs.Readings.{word_at};
@@ -25,6 +26,7 @@ ghost use Rattle.wgsl_values.specs.View.{steps_of, value_of, vec_view};
 use crate::answer::{Answer, Guard, Size, Value};
 use crate::evaluator::Evaluator;
 use crate::literals::vector_of;
+use crate::waiting::{Waiting, Whole, whole_of};
 use std::alloc::{AllocError, Global};
 use wgsl_apply::{Asked, literal_of};
 use wgsl_types::{Instance, LiteralInstance, MemView, VecInstance};
@@ -34,43 +36,52 @@ impl Evaluator<'_> {
     pub(crate) fn index(
         &mut self,
         token: usize,
-        whole: Answer,
+        whole: Waiting,
         index: Answer,
     ) -> Result<Answer, AllocError>
-        requires whole { IsAnswer whole }
+        requires whole { IsWaiting self.old.meanings.items whole }
         requires index { IsAnswer index }
         ensures keeps { setting_of self.new ≡ setting_of self.old }
-        ensures element { IfOk result (IsElementOf whole index) }
+        ensures element { IfOk result (IsElementOf (answer_of self.old.meanings.items whole) index) }
         ensures answer { IfOk result IsAnswer }
     {
-        let whole = match whole {
-            Answer::Value(whole) => whole,
-            other => return self.unready(token, other),
-        };
-        let index = match index {
-            Answer::Value(index) => index,
-            other => return self.unready(token, other),
-        };
-        self.element(token, &whole, &index.instance)
+        match whole_of(whole) {
+            Ok(whole) => self.index_of(token, &whole, index),
+            Err(other) => self.unready(token, other),
+        }
+    }
+
+    fn index_of(&mut self, token: usize, whole: &Whole, index: Answer) -> Result<Answer, AllocError>
+        requires whole { IsWhole self.old.meanings.items whole.now }
+        requires index { IsAnswer index }
+        ensures keeps { setting_of self.new ≡ setting_of self.old }
+        ensures element { IfOk result (λ answer. IsSomeAnd (value_at self.old.meanings.items whole.now) (λ v. IsElementOf (Answer.Value v) index answer)) }
+        ensures answer { IfOk result IsAnswer }
+    {
+        match index {
+            Answer::Value(index) => self.element(token, whole, &index.instance),
+            other => self.unready(token, other),
+        }
     }
 
     #[tactic(auto, using(crate::proofs::PartLemmas::element_steps))]
     fn element(
         &mut self,
         token: usize,
-        whole: &Value,
+        whole: &Whole,
         index: &Instance,
     ) -> Result<Answer, AllocError>
-        requires { IsStorable (value_of whole.now.instance) }
+        requires { IsWhole self.old.meanings.items whole.now }
         ensures keeps { setting_of self.new ≡ setting_of self.old }
-        ensures element { IfOk result (λ answer. IfSome (value_in answer) (IsElement (value_of whole.now.instance) (value_of index.now))) }
+        ensures element { IfOk result (λ answer. IsSomeAnd (value_at self.old.meanings.items whole.now) (λ v. IfSome (value_in answer) (IsElement (value_of v.instance) (value_of index.now)))) }
         ensures answer { IfOk result IsAnswer }
     {
         match position_of(index) {
             Position::At(at) => {
                 let view = MemView::Index(at, Box::new(self.alloc, MemView::Whole)?);
-                let size = whole.size.part(count_of(&whole.instance));
-                self.viewed(token, &whole.instance, &view, size)
+                let value = self.whole(whole);
+                let size = value.size.part(count_of(&value.instance));
+                self.viewed(token, whole, &view, size)
             }
             Position::Negative => self.negative(token, index),
             Position::None => self.wrong_text(token, "an index is an integer"),
@@ -89,18 +100,33 @@ impl Evaluator<'_> {
     fn viewed(
         &mut self,
         token: usize,
-        whole: &Instance,
+        whole: &Whole,
         view: &MemView,
         size: Size,
     ) -> Result<Answer, AllocError>
-        requires { IsStorable (value_of whole.now) }
+        requires { IsWhole self.old.meanings.items whole.now }
         ensures keeps { setting_of self.new ≡ setting_of self.old }
-        ensures part { IfOk result (λ answer. IfSome (value_in answer) (λ v. viewed (steps_of view.now) (value_of whole.now) ≡ Ok v)) }
+        ensures part { IfOk result (λ answer. IsSomeAnd (value_at self.old.meanings.items whole.now) (λ v. IfSome (value_in answer) (λ w. viewed (steps_of view.now) (value_of v.instance) ≡ Ok w))) }
         ensures answer { IfOk result IsAnswer }
     {
         if !self.spend(size.parts) {
             return self.too_large(token);
         }
+        let value = self.whole(whole);
+        self.part_viewed(token, &value.instance, view, size)
+    }
+
+    fn part_viewed(
+        &self,
+        token: usize,
+        whole: &Instance,
+        view: &MemView,
+        size: Size,
+    ) -> Result<Answer, AllocError>
+        requires { IsStorable (value_of whole.now) }
+        ensures part { IfOk result (λ answer. IfSome (value_in answer) (λ v. viewed (steps_of view.now) (value_of whole.now) ≡ Ok v)) }
+        ensures answer { IfOk result IsAnswer }
+    {
         match whole.view(self.alloc, view) {
             Ok(part) => {
                 let part = part.clone(self.alloc)?;
@@ -111,31 +137,33 @@ impl Evaluator<'_> {
     }
 
     /// A member of a structure, or components of a vector.
-    pub(crate) fn member(&mut self, token: usize, whole: Answer) -> Result<Answer, AllocError>
-        requires { IsAnswer whole }
+    pub(crate) fn member(&mut self, token: usize, whole: Waiting) -> Result<Answer, AllocError>
+        requires { IsWaiting self.old.meanings.items whole }
         ensures keeps { setting_of self.new ≡ setting_of self.old }
-        ensures member { IfOk result (IsMemberOf (word_at self.old.reading.now token) whole) }
+        ensures member { IfOk result (IsMemberOf (word_at self.old.reading.now token) (answer_of self.old.meanings.items whole)) }
         ensures answer { IfOk result IsAnswer }
     {
-        match whole {
-            Answer::Value(whole) => self.member_of(token, &whole),
-            other => self.unready(token, other),
+        match whole_of(whole) {
+            Ok(whole) => self.member_of(token, &whole),
+            Err(other) => self.unready(token, other),
         }
     }
 
     #[tactic(auto, using(crate::proofs::PartLemmas::member_steps))]
-    fn member_of(&mut self, token: usize, whole: &Value) -> Result<Answer, AllocError>
-        requires { IsStorable (value_of whole.now.instance) }
+    fn member_of(&mut self, token: usize, whole: &Whole) -> Result<Answer, AllocError>
+        requires { IsWhole self.old.meanings.items whole.now }
         ensures keeps { setting_of self.new ≡ setting_of self.old }
-        ensures member { IfOk result (λ answer. IfSome (value_in answer) (IsMember (word_at self.old.reading.now token) (value_of whole.now.instance))) }
+        ensures member { IfOk result (λ answer. IsSomeAnd (value_at self.old.meanings.items whole.now) (λ v. IfSome (value_in answer) (IsMember (word_at self.old.reading.now token) (value_of v.instance)))) }
         ensures answer { IfOk result IsAnswer }
     {
-        match &whole.instance {
+        let value = self.whole(whole);
+        let size = value.size.part(1);
+        match &value.instance {
             Instance::Vec(vector) => self.swizzle(token, vector),
             _ => {
                 let name = String::from_str(self.alloc, self.reading.word(token))?;
                 let view = MemView::Member(name, Box::new(self.alloc, MemView::Whole)?);
-                self.viewed(token, &whole.instance, &view, whole.size.part(1))
+                self.viewed(token, whole, &view, size)
             }
         }
     }
