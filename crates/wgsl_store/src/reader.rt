@@ -249,7 +249,7 @@ fn read_struct(
     Ok(StructInstance::of_shared(shared_type(alloc, shared, ty)?, members))
 }
 
-// The structure type as values share it: as the plan has it, else a copy.
+// The structure type: that of the plan, which values share, else a copy.
 fn shared_type(
     alloc: Global,
     shared: &Option<Box<SharedStructType>>,
@@ -263,7 +263,7 @@ fn shared_type(
         }
     }
     let copy = ty.clone(alloc)?;
-    SharedStructType::new(alloc, copy)
+    Ok(SharedStructType::own(copy))
 }
 
 // The members at these places of a structure that begins at `base`.

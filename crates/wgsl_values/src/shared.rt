@@ -53,7 +53,7 @@ impl SharedStructType {
     }
 
     /// The type of one value, which takes no memory.
-    pub(crate) fn own(ty: StructType) -> SharedStructType
+    pub fn own(ty: StructType) -> SharedStructType
         ensures { result ≡ struct_view ty }
     {
         SharedStructType {
