@@ -104,7 +104,7 @@ impl Call {
         }
     }
 
-    /// A copy of the call, in memory of its own.
+    /// A copy of the call, in memory of its own, but for structure types that values share already: it shares them.
     pub fn clone(&self, alloc: Global) -> Result<Call, AllocError>
         ensures { IfOk result (λ c. call_of c ≡ call_of self.now) }
     {
@@ -123,7 +123,7 @@ impl Call {
 }
 
 impl Reply {
-    /// A copy of the reply, in memory of its own.
+    /// A copy of the reply, in memory of its own, but for structure types that values share already: it shares them.
     pub fn clone(&self, alloc: Global) -> Result<Reply, AllocError>
         ensures { IfOk result (λ r. reply_of r ≡ reply_of self.now) }
     {

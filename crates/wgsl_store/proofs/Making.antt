@@ -1,7 +1,7 @@
 -- One step of the walk that makes the plan of a type.
 use Rattle.std.specs.Option.{unwrap_or}
 use Rattle.std.specs.Prelude.{option_map, ◌&&◌, ◌||◌}
-use Rattle.std.proofs.Common.{◌≡◌, ℕ, ◌+◌, ◌<◌, ◌≤◌, List, [], ◌∷◌, ◌++◌, length, get_or, drop, Option, Some, None, Bool, true, false, is_some, Box, Vec, Global, string_bytes, refl, sym, ap, subst, ◌∙◌, add-one, drop-cons, arith}
+use Rattle.std.proofs.Common.{◌≡◌, ℕ, ◌+◌, ◌<◌, ◌≤◌, List, [], ◌∷◌, ◌++◌, length, get_or, drop, Option, Some, None, Bool, true, false, is_some, Vec, Global, string_bytes, refl, sym, ap, subst, ◌∙◌, add-one, drop-cons, arith}
 use Rattle.std.proofs.Math.ListN.{drop_of_length-le}
 use Rattle.wgsl_rules.specs.Types.{Ty, struct, Fields, no_fields, field}
 use Rattle.wgsl_rules.specs.Size.{Extent, extent_in, extent_of, extents, with_both, round_up, struct_size, struct_align, offset_after, end_after, end_of_members, align_after, greatest_align}
@@ -170,19 +170,19 @@ past ms i xs tail so_far le made =
       runtime = ap (ends so_far.end_in_runtime_array so_far.are_fixed so_far.end) (sym none) ∙ made.runtime;
     }
 
-pub all-made : (shared : Option (Box Ty Global)) (name : List ℕ) (ms : List StructMemberType) (ps : Vec CodePlace Global) (last : Option CodeTail) (so_far : MemberMeasures) (m : Measures) (laid : Bool)
+pub all-made : (name : List ℕ) (ms : List StructMemberType) (ps : Vec CodePlace Global) (last : Option CodeTail) (so_far : MemberMeasures) (m : Measures) (laid : Bool)
     → AreAllMade ms ps.items last so_far → m.size ≡ with_both round_up so_far.align so_far.end → m.align ≡ so_far.align
     → m.is_fixed ≡ (so_far.are_fixed && is_some (with_both round_up so_far.align so_far.end)) → m.is_runtime_array ≡ false
     → laid ≡ ((so_far.are_fixed && is_some (with_both round_up so_far.align so_far.end)) || so_far.end_in_runtime_array)
-    → IsPlanOf (struct name (members_view ms)) (record { plan = code.Members shared ps; measures = m; tail = last; has_layout = laid })
-all-made shared name ms ps last so_far m laid all size align fixed runtime layout =
+    → IsPlanOf (struct name (members_view ms)) (record { plan = code.Members ps; measures = m; tail = last; has_layout = laid })
+all-made name ms ps last so_far m laid all size align fixed runtime layout =
     let fs = members_view ms in
     let size_is : with_both round_up so_far.align so_far.end ≡ struct_size (extents fs) =
     ap (λ (a : Option ℕ). with_both round_up a so_far.end) all.align ∙ ap (with_both round_up (struct_align (extents fs))) all.end in
     let fixed_is : (so_far.are_fixed && is_some (with_both round_up so_far.align so_far.end)) ≡ has_fixed_layout (struct name fs) =
     ap (λ (b : Bool). b && is_some (with_both round_up so_far.align so_far.end)) all.fixed ∙ ap (λ (o : Option ℕ). have_fixed_layouts fs && is_some o) size_is in
     record {
-      plan = view-members shared ps ∙ ap members all.places;
+      plan = view-members ps ∙ ap members all.places;
       measures = record { size = size ∙ size_is; align = align ∙ all.align; fixed = fixed ∙ fixed_is; runtime = runtime };
       tail = all.tail;
       layout = layout ∙ ap (λ (b : Bool). b || so_far.end_in_runtime_array) fixed_is ∙ ap (λ (b : Bool). has_fixed_layout (struct name fs) || b) all.runtime;

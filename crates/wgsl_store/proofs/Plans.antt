@@ -1,6 +1,5 @@
 -- What the plans of the code stand for, a case each, and place by place.
-use Rattle.std.proofs.Common.{◌≡◌, ℕ, ◌+◌, ◌<◌, List, Option, length, get_or, drop, refl, sym, ap, ◌∙◌, rules, add-one, drop-cons, Box, Vec, Global}
-use Rattle.wgsl_rules.specs.Types.{Ty}
+use Rattle.std.proofs.Common.{◌≡◌, ℕ, ◌+◌, ◌<◌, List, length, get_or, drop, refl, sym, ap, ◌∙◌, rules, add-one, drop-cons, Box, Vec, Global}
 use Rattle.wgsl_store.specs.Plan.{scalar, components, row, members, Places, place, Placed, plan_view, place_view, places_view}
 use Rattle.wgsl_store.specs.declared.plan.Plan as code
 use Rattle.wgsl_store.specs.declared.plan.Plan.{«Plan» as CodePlan, the_lemmas}
@@ -15,8 +14,8 @@ view-components far = search (rules, the_lemmas)
 pub view-row : (far : ℕ) (p : Box CodePlan Global) → plan_view (code.Row far p) ≡ row far (plan_view p.value)
 view-row far p = search (rules, the_lemmas)
 
-pub view-members : (shared : Option (Box Ty Global)) (ps : Vec CodePlace Global) → plan_view (code.Members shared ps) ≡ members (places_view ps.items)
-view-members shared ps = search (rules, the_lemmas)
+pub view-members : (ps : Vec CodePlace Global) → plan_view (code.Members ps) ≡ members (places_view ps.items)
+view-members ps = search (rules, the_lemmas)
 
 pub place-is : (p : CodePlace) → place_view p ≡ record { offset = p.offset; plan = plan_view p.plan }
 place-is p = search (rules, place_lemmas)

@@ -50,7 +50,7 @@ abbrev pub plan_step : Plan-F Plan Placed → Plan
 plan_step Plan-F.Scalar = scalar
 plan_step (Plan-F.Components far) = components far
 plan_step (Plan-F.Row far part) = row far part.value
-plan_step (Plan-F.Members shared ps) = members (places_from ps.items)
+plan_step (Plan-F.Members ps) = members (places_from ps.items)
 
 abbrev pub place_step : Place-F Plan Placed → Placed
 place_step p = record { offset = p.offset; plan = p.plan }

@@ -5,7 +5,6 @@ use crate::located::Located;
 use crate::make::TypePlan;
 use crate::plan::Plan;
 use crate::reader::read_literal;
-use crate::shares::Shares;
 use crate::writer::{runtime_count, write_whole};
 use std::alloc::{AllocError, Global};
 use std::marker::Model;
@@ -76,7 +75,7 @@ impl FlatCell {
         ensures { let v = value_of value.now in IfOk result (λ o. MatchOption o (has_layout (type_of v) ≡ false) (λ c. c ≡ v)) }
     {
         let ty = value.ty(alloc)?;
-        let of_type = TypePlan::of_type(alloc, &ty, Shares::None)?;
+        let of_type = TypePlan::of_type(alloc, &ty)?;
         if !of_type.has_layout {
             return Ok(None);
         }

@@ -34,7 +34,6 @@ ghost use Rattle.wgsl_values.specs.View.{steps_of, value_of};
 
 use crate::located::Located;
 use crate::make::TypePlan;
-use crate::shares::Shares;
 use std::alloc::{AllocError, Global};
 use std::marker::Model;
 use std::ops::Range;
@@ -92,7 +91,7 @@ impl Layout {
     pub fn of(alloc: Global, ty: &Type) -> Result<Option<Layout>, AllocError>
         ensures { let t = type_view ty.now in IfOk result (λ o. MatchOption o (has_layout t ≡ false) (λ l. (l ≡ t) × HasLayout t)) }
     {
-        let of_type = TypePlan::of_type(alloc, ty, Shares::InArrays)?;
+        let of_type = TypePlan::of_type(alloc, ty)?;
         if !of_type.has_layout {
             return Ok(None);
         }

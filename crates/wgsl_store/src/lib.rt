@@ -17,9 +17,9 @@ mod parts;
 mod plan;
 mod reader;
 mod references;
-mod shares;
 mod show;
 mod store;
+mod types;
 mod writer;
 
 pub use buffers::Buffers;

@@ -12,10 +12,9 @@ ghost use Rattle.wgsl_store.specs.TypePlan.{IsPlanOf, kept};
 ghost use Rattle.wgsl_values.specs.View.{value_of};
 
 use crate::plan::{Place, Plan};
-use crate::shares::Shares;
 use std::alloc::{AllocError, Global};
 use wgsl_rules::{Measures, MemberMeasures, StructMemberType, StructType, Ty, Type};
-use wgsl_values::{Instance, SharedStructType};
+use wgsl_values::Instance;
 
 /// The plan of a type, and what else is known of the type.
 #[derive(Drop)]
@@ -44,17 +43,14 @@ const NO_BYTES: Measures = Measures {
 };
 
 impl TypePlan {
-    /// Of any type, in one walk down it; an offset or a distance that is not known is 0. Structure types are
-    /// shared as asked.
+    /// Of any type, in one walk down it; an offset or a distance that is not known is 0.
     #[cycle(type_plans)]
-    pub(crate) fn of_type(alloc: Global, ty: &Type, shares: Shares) -> Result<TypePlan, AllocError>
+    pub(crate) fn of_type(alloc: Global, ty: &Type) -> Result<TypePlan, AllocError>
         ensures { IfOk result (IsPlanOf (type_view ty.now)) }
     {
         match ty {
-            Type::Struct(s) => TypePlan::of_struct(alloc, s, shares),
-            Type::Array(element, n) => {
-                TypePlan::of_type(alloc, element, shares.element(*n))?.of_array(alloc, *n)
-            }
+            Type::Struct(s) => TypePlan::of_struct(alloc, s),
+            Type::Array(element, n) => TypePlan::of_type(alloc, element)?.of_array(alloc, *n),
             Type::Vec(_, component) => {
                 let far = component.measures().size.unwrap_or(0);
                 Ok(TypePlan::without_tail(Plan::Components(far), ty.measures()))
@@ -76,32 +72,22 @@ impl TypePlan {
 
     /// Of a structure type.
     #[cycle(type_plans)]
-    pub(crate) fn of_struct(
-        alloc: Global,
-        ty: &StructType,
-        shares: Shares,
-    ) -> Result<TypePlan, AllocError>
+    pub(crate) fn of_struct(alloc: Global, ty: &StructType) -> Result<TypePlan, AllocError>
         ensures { IfOk result (IsPlanOf (struct_view ty.now)) }
     {
-        let shared = shares.structure(alloc, ty)?;
-        TypePlan::of_members(alloc, ty.members.as_slice(), shared, shares)
+        TypePlan::of_members(alloc, ty.members.as_slice())
     }
 
     // Of the structure type of these members.
     #[cycle(type_plans)]
-    fn of_members(
-        alloc: Global,
-        members: &[StructMemberType],
-        shared: Option<Box<SharedStructType>>,
-        shares: Shares,
-    ) -> Result<TypePlan, AllocError>
+    fn of_members(alloc: Global, members: &[StructMemberType]) -> Result<TypePlan, AllocError>
         ensures { (name : List ℕ) → IfOk result (IsPlanOf (struct name (members_view members.now))) }
     {
         let mut places = Vec::with_capacity(alloc, members.len())?;
         let mut so_far = MemberMeasures::NONE;
         let mut tail = None;
         for member in members {
-            let part = TypePlan::of_type(alloc, &member.ty, shares.member())?;
+            let part = TypePlan::of_type(alloc, &member.ty)?;
             let measures = part.measures.of_member(member.size, member.align);
             let offset = so_far.offset_of(measures).unwrap_or(0);
             tail = part.tail_at(offset, &member.ty);
@@ -112,7 +98,7 @@ impl TypePlan {
             so_far = so_far.with(measures);
         }
         Ok(TypePlan {
-            plan: Plan::Members(shared, places),
+            plan: Plan::Members(places),
             measures: so_far.of_struct(),
             tail,
             has_layout: so_far.have_layout(),
@@ -198,13 +184,13 @@ impl TypePlan {
         ensures { IfOk result (IsPlanOf (type_of (value_of value.now))) }
     {
         match value {
-            Instance::Struct(s) => TypePlan::of_struct(alloc, s.struct_ty(), Shares::None),
+            Instance::Struct(s) => TypePlan::of_struct(alloc, s.struct_ty()),
             Instance::Array(a) => {
                 let n = if a.runtime_sized() { None } else { Some(a.n()) };
                 TypePlan::of_value(alloc, &a.as_slice()[0])?.of_array(alloc, n)
             }
             Instance::Literal(_) | Instance::Vec(_) | Instance::Mat(_) | Instance::Atomic(_) => {
-                TypePlan::of_type(alloc, &value.ty(alloc)?, Shares::None)
+                TypePlan::of_type(alloc, &value.ty(alloc)?)
             }
             Instance::Ptr(_) | Instance::Ref(_) => {
                 Ok(TypePlan::without_tail(Plan::Scalar, NO_BYTES))

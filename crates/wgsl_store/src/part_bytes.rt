@@ -10,6 +10,7 @@ ghost use Rattle.wgsl_values.specs.View.{vec_view};
 use crate::located::{Located, Shape};
 use crate::plan::Plan;
 use crate::reader::{read_value, read_vector};
+use crate::types::Types;
 use crate::writer::{runtime_count, write_literal, write_value};
 use std::alloc::{AllocError, Global};
 use wgsl_rules::{Ty, Type};
@@ -135,13 +136,23 @@ impl<'a> Located<'a> {
         ensures { IfOk result (λ v. value_of v ≡ decoded bytes.now self.entry.start (part_range self.entry).layout) }
     {
         match self.shape {
-            Shape::Whole(ty, plan) => { read_value(alloc, bytes, self.start, self.count, ty, plan) }
+            Shape::Whole(ty, plan) => {
+                read_value(alloc, bytes, self.start, self.count, ty, plan, Types::Own)
+            }
             Shape::Column(n, component, plan) => {
                 let column = read_vector(alloc, bytes, self.start, n, component, plan)?;
                 Ok(Instance::from(column))
             }
             Shape::Component(ty) => {
-                read_value(alloc, bytes, self.start, self.count, ty, &Plan::Scalar)
+                read_value(
+                    alloc,
+                    bytes,
+                    self.start,
+                    self.count,
+                    ty,
+                    &Plan::Scalar,
+                    Types::Own,
+                )
             }
         }
     }

@@ -5,8 +5,6 @@ ghost use Rattle.std.specs.Prelude.{◌≡◌, ◌<◌, ◌^◌};
 ghost use Rattle.wgsl_store.specs.OpenLengths.{last_end, open_len, row_len};
 ghost use Rattle.wgsl_store.specs.Plan.{places_view, plan_view};
 
-use wgsl_values::SharedStructType;
-
 /// Where the parts of a value stand, in bytes from its start.
 #[cycle(plans)]
 #[derive(Drop)]
@@ -17,9 +15,8 @@ pub(crate) enum Plan {
     Components(u32),
     /// The elements of an array or the columns of a matrix, so far apart, and the plan of each.
     Row(u32, Box<Plan>),
-    /// The members of a structure, in its order; and its type, where values that are read may share it, in a box, since
-    /// most plans have none.
-    Members(Option<Box<SharedStructType>>, Vec<Place>),
+    /// The members of a structure, in its order.
+    Members(Vec<Place>),
 }
 
 /// Where a member stands, and its own plan.
@@ -40,7 +37,7 @@ impl Plan {
         match self {
             Plan::Row(far, _) => count * *far as usize,
             Plan::Scalar | Plan::Components(_) => 0,
-            Plan::Members(_, places) => last_end(places.as_slice(), count),
+            Plan::Members(places) => last_end(places.as_slice(), count),
         }
     }
 
@@ -51,7 +48,7 @@ impl Plan {
     {
         match self {
             Plan::Row(far, _) => count * *far as usize,
-            Plan::Scalar | Plan::Components(_) | Plan::Members(_, _) => 0,
+            Plan::Scalar | Plan::Components(_) | Plan::Members(_) => 0,
         }
     }
 }

@@ -19,13 +19,12 @@ ghost use Rattle.wgsl_store.specs.Reading.{IsThere, AreThere, members_at};
 
 use crate::make::TypePlan;
 use crate::plan::{Place, Plan};
-use crate::shares::Shares;
+use crate::types::Types;
 use std::alloc::{AllocError, Global};
 use wgsl_rules::{StructMemberType, StructType, Type};
 use wgsl_scalar::LiteralInstance;
 use wgsl_values::{
-    ArrayInstance, AtomicInstance, Instance, MatInstance, SharedStructType, StructInstance,
-    VecInstance,
+    ArrayInstance, AtomicInstance, Instance, MatInstance, StructInstance, VecInstance,
 };
 
 // The number in the four bytes at `at`, the lowest byte first.
@@ -62,14 +61,14 @@ pub(crate) fn read_buffer(
 ) -> Result<Option<Instance>, AllocError>
     ensures { IfOk result (λ v. option_map value_of v ≡ decode bytes.now (type_view ty.now)) }
 {
-    let of_type = TypePlan::of_type(alloc, ty, Shares::InArrays)?;
+    let of_type = TypePlan::of_type(alloc, ty)?;
     if !of_type.has_layout {
         return Ok(None);
     }
     let Some(count) = of_type.count_in(bytes.len()) else {
         return Ok(None);
     };
-    let value = read_value(alloc, bytes, 0, count, ty, &of_type.plan)?;
+    let value = read_value(alloc, bytes, 0, count, ty, &of_type.plan, Types::Own)?;
     Ok(Some(value))
 }
 
@@ -148,7 +147,7 @@ fn read_matrix(
 
 /// The value of the type that begins at `base`, by the plan of the type, with `count` elements in the
 /// runtime-sized array that the type is or ends in. The condition: the type has a layout, the bytes hold
-/// the value whole, and such an array has one element at least.
+/// the value whole, and such an array has one element at least. Structures take their types as asked.
 #[cycle(read)]
 pub(crate) fn read_value(
     alloc: Global,
@@ -157,6 +156,7 @@ pub(crate) fn read_value(
     count: usize,
     ty: &Type,
     plan: &Plan,
+    types: Types<'_>,
 ) -> Result<Instance, AllocError>
     requires { IsThere count (type_view ty.now) (plan_view plan.now) base (length bytes.now) }
     ensures { IfOk result (λ v. value_of v ≡ decoded bytes.now base (layout count (type_view ty.now))) }
@@ -179,11 +179,11 @@ pub(crate) fn read_value(
             Ok(Instance::from(matrix))
         }
         Type::Array(element, n) => {
-            let array = read_array(alloc, bytes, base, count, element, *n, plan)?;
+            let array = read_array(alloc, bytes, base, count, element, *n, plan, types)?;
             Ok(Instance::from(array))
         }
         Type::Struct(s) => {
-            let members = read_struct(alloc, bytes, base, count, s, plan)?;
+            let members = read_struct(alloc, bytes, base, count, s, plan, types)?;
             Ok(Instance::from(members))
         }
         // No other type has a layout.
@@ -205,6 +205,7 @@ fn read_array(
     element: &Type,
     n: Option<usize>,
     plan: &Plan,
+    types: Types<'_>,
 ) -> Result<ArrayInstance, AllocError>
     requires { IsThere count (array (type_view element.now) n) (plan_view plan.now) base (length bytes.now) }
     ensures { IfOk result (λ v. array_view v ≡ decoded bytes.now base (layout count (array (type_view element.now) n))) }
@@ -217,7 +218,9 @@ fn read_array(
     let len = n.unwrap_or(count);
     let mut elements = Vec::with_capacity(alloc, len)?;
     for i in 0..len {
-        elements.push(read_value(alloc, bytes, base + i * far, count, element, part)?)?;
+        let types = types.element(elements.as_slice(), len);
+        let value = read_value(alloc, bytes, base + i * far, count, element, part, types)?;
+        elements.push(value)?;
     }
     Ok(ArrayInstance::new(elements, runtime_sized))
 }
@@ -231,11 +234,12 @@ fn read_struct(
     count: usize,
     ty: &StructType,
     plan: &Plan,
+    types: Types<'_>,
 ) -> Result<StructInstance, AllocError>
     requires { IsThere count (struct_type_view ty.now) (plan_view plan.now) base (length bytes.now) }
     ensures { IfOk result (λ v. struct_view v ≡ decoded bytes.now base (layout count (struct_type_view ty.now))) }
 {
-    let Plan::Members(shared, places) = plan else {
+    let Plan::Members(places) = plan else {
         unreachable!()
     };
     let members = read_members(
@@ -245,25 +249,9 @@ fn read_struct(
         count,
         ty.members.as_slice(),
         places.as_slice(),
+        types,
     )?;
-    Ok(StructInstance::of_shared(shared_type(alloc, shared, ty)?, members))
-}
-
-// The structure type: that of the plan, which values share, else a copy.
-fn shared_type(
-    alloc: Global,
-    shared: &Option<Box<SharedStructType>>,
-    ty: &StructType,
-) -> Result<SharedStructType, AllocError>
-    ensures { IfOk result (λ s. s ≡ struct_type_view ty.now) }
-{
-    if let Some(shared) = shared {
-        if shared.is_type(ty) {
-            return (**shared).clone(alloc);
-        }
-    }
-    let copy = ty.clone(alloc)?;
-    Ok(SharedStructType::own(copy))
+    Ok(StructInstance::of_shared(types.structure(alloc, ty)?, members))
 }
 
 // The members at these places of a structure that begins at `base`.
@@ -275,6 +263,7 @@ fn read_members(
     count: usize,
     members: &[StructMemberType],
     places: &[Place],
+    types: Types<'_>,
 ) -> Result<Vec<Instance>, AllocError>
     requires { AreThere count (members_view members.now) (places_view places.now) base (length bytes.now) }
     ensures { IfOk result (λ v. vals_view v.items ≡ members_at bytes.now base count (members_view members.now) (places_view places.now)) }
@@ -283,7 +272,16 @@ fn read_members(
     for (i, member) in members.iter().enumerate() {
         let place = &places[i];
         let at = base + place.offset as usize;
-        values.push(read_value(alloc, bytes, at, count, &member.ty, &place.plan)?)?;
+        let value = read_value(
+            alloc,
+            bytes,
+            at,
+            count,
+            &member.ty,
+            &place.plan,
+            types.part(i),
+        )?;
+        values.push(value)?;
     }
     Ok(values)
 }

@@ -107,7 +107,7 @@ pub(crate) fn write_value(out: &mut [u8], base: usize, value: &Instance, plan: &
             write_row(out, base, *far as usize, a.as_slice(), element)
         }
         Instance::Struct(s) => {
-            let Plan::Members(_, places) = plan else {
+            let Plan::Members(places) = plan else {
                 unreachable!()
             };
             write_members(out, base, s.members(), places.as_slice())

@@ -46,7 +46,7 @@ pub struct CallSignature {
 }
 
 impl TpltParam {
-    /// A copy of the argument, in memory of its own.
+    /// A copy of the argument, in memory of its own, but for structure types that values share already: it shares them.
     pub fn clone(&self, alloc: Global) -> Result<TpltParam, AllocError>
         ensures { IfOk result (λ p. param_view p ≡ param_view self.now) }
     {
@@ -59,7 +59,7 @@ impl TpltParam {
 }
 
 impl CallSignature {
-    /// A copy of the signature, in memory of its own.
+    /// A copy of the signature, in memory of its own, but for structure types that values share already: it shares them.
     pub fn clone(&self, alloc: Global) -> Result<CallSignature, AllocError>
         ensures { IfOk result (λ s. signature_view s ≡ signature_view self.now) }
     {

@@ -23,7 +23,7 @@ use crate::view::MemView;
 use std::alloc::{AllocError, Global};
 
 impl Instance {
-    /// A copy of the value, in memory of its own.
+    /// A copy of the value, in memory of its own, but for structure types that values share already: it shares them.
     #[cycle(clone)]
     pub fn clone(&self, alloc: Global) -> Result<Instance, AllocError>
         ensures { IfOk result (λ v. value_of v ≡ value_of self.now) }
@@ -43,7 +43,7 @@ impl Instance {
 }
 
 impl StructInstance {
-    /// A copy of the structure, in memory of its own.
+    /// A copy of the structure, in memory of its own, but for structure types that values share already: it shares them.
     #[cycle(clone)]
     pub fn clone(&self, alloc: Global) -> Result<StructInstance, AllocError>
         ensures { IfOk result (λ v. struct_view v ≡ struct_view self.now) }
@@ -55,7 +55,7 @@ impl StructInstance {
 }
 
 impl ArrayInstance {
-    /// A copy of the array, in memory of its own.
+    /// A copy of the array, in memory of its own, but for structure types that values share already: it shares them.
     #[cycle(clone)]
     pub fn clone(&self, alloc: Global) -> Result<ArrayInstance, AllocError>
         ensures { IfOk result (λ v. array_view v ≡ array_view self.now) }

@@ -7,8 +7,8 @@ use std::marker::Model;
 use std::sync::Arc;
 use wgsl_rules::StructType;
 
-/// A structure type that any number of values may share, so that a further value of it takes no memory
-/// for its type. Contracts see the type.
+/// The structure type of a value: of that value alone ([`SharedStructType::own`]), or of any number of values that share
+/// it ([`SharedStructType::new`]), so that a further value of it takes no memory for its type. Contracts see the type.
 #[derive(Drop)]
 pub struct SharedStructType {
     owner: Owner,
@@ -62,6 +62,7 @@ impl SharedStructType {
     }
 
     /// The type.
+    #[inline(always)]
     pub fn get(&self) -> &StructType
         ensures { struct_view result.now ≡ self.now }
     {
@@ -71,23 +72,7 @@ impl SharedStructType {
         }
     }
 
-    /// The same type for another value, where the type is shared already. It takes no memory.
-    pub fn shared(&self) -> Option<SharedStructType>
-        ensures { IfSome result (λ s. s ≡ self.now) }
-    {
-        match &self.owner {
-            Owner::Own(_) => None,
-            Owner::Shared(ty) => match Arc::try_clone(ty) {
-                Ok(ty) => Some(SharedStructType {
-                    owner: Owner::Shared(ty),
-                }),
-                // There are as many owners as can be counted.
-                Err(_) => None,
-            },
-        }
-    }
-
-    /// Whether it is this type.
+    /// Whether it is this type. It takes no memory.
     #[tactic(auto, using(wgsl_rules::specs::Equal::same_is))]
     pub fn is_type(&self, ty: &StructType) -> bool
         ensures { IsTrue result ↔ (self.now ≡ struct_view ty.now) }
@@ -96,6 +81,7 @@ impl SharedStructType {
     }
 
     /// Whether it is this type, as `==` of types tells it.
+    #[inline(always)]
     pub(crate) fn equals(&self, ty: &StructType) -> bool
         ensures { result ≡ same self.now (struct_view ty.now) }
     {
@@ -103,6 +89,7 @@ impl SharedStructType {
     }
 
     /// Whether both are one type.
+    #[inline(always)]
     pub(crate) fn is_same(&self, other: &SharedStructType) -> bool
         ensures { result ≡ same self.now other.now }
     {
@@ -110,14 +97,15 @@ impl SharedStructType {
     }
 
     /// The position of the first member of the name.
+    #[inline(always)]
     pub(crate) fn position(&self, name: &str) -> Option<usize>
         ensures { result ≡ index_in name.now self.now }
     {
         position(self.get(), name)
     }
 
-    /// The same type for another value. It takes no memory where the type is shared already; else it is copied, and the
-    /// copy is shared.
+    /// The same type for another value. A type that values share takes no memory, unless it has as many owners as can be
+    /// counted; else the type is copied, and the copy is of that value alone.
     pub fn clone(&self, alloc: Global) -> Result<SharedStructType, AllocError>
         ensures { IfOk result (λ s. s ≡ self.now) }
     {
@@ -125,7 +113,22 @@ impl SharedStructType {
             return Ok(shared);
         }
         let copy = self.get().clone(alloc)?;
-        SharedStructType::new(alloc, copy)
+        Ok(SharedStructType::own(copy))
+    }
+
+    // The same type, where values share it and its owners can be counted.
+    fn shared(&self) -> Option<SharedStructType>
+        ensures { IfSome result (λ s. s ≡ self.now) }
+    {
+        match &self.owner {
+            Owner::Own(_) => None,
+            Owner::Shared(ty) => match Arc::try_clone(ty) {
+                Ok(ty) => Some(SharedStructType {
+                    owner: Owner::Shared(ty),
+                }),
+                Err(_) => None,
+            },
+        }
     }
 }
 

@@ -6,6 +6,7 @@ mod layouts;
 mod literals;
 mod parts;
 mod places;
+mod shared;
 mod texts;
 mod types;
 mod values;

@@ -7,7 +7,9 @@ use crate::tests::asserts::{assert_none, assert_some};
 use crate::tests::fixtures::{
     aligned, array, array_of, bytes_of, member, pair_value, structure, two, vector, vector_of,
 };
-use crate::tests::samples::{array_from, atomic_from, mat2x3, matrix_from, storable, vector_from};
+use crate::tests::samples::{
+    array_from, atomic_from, mat2x3, matrix_from, pair_with, storable, vector_from,
+};
 use std::alloc::Global;
 use std::process::Abort;
 use wgsl_rules::{Ty, Type};
@@ -360,5 +362,69 @@ fn deep_values_go_to_bytes_in_one_walk(rt: HostRuntime) {
     }
     let value = storable(&rt, Instance::from(array_from(&rt, elements, false)));
     assert_words(&rt, alloc, &value, &[7]);
+    drop(value);
+}
+
+/// The elements Pair(first, vec3(2u, 3u, 4u)) and Pair(second, vec3(2u, 3u, 4u)).
+fn pairs(rt: &impl Abort, alloc: Global, first: u32, second: u32) -> Vec<Instance> {
+    let first = Instance::from(pair_with(rt, alloc, first).expect(rt, "memory"));
+    let second = Instance::from(pair_with(rt, alloc, second).expect(rt, "memory"));
+    vec![in alloc; first, second].expect(rt, "memory")
+}
+
+#[test]
+fn elements_are_structures(rt: HostRuntime) {
+    let alloc = rt.alloc();
+    let words = [1, 0, 0, 0, 2, 3, 4, 0, 9, 0, 0, 0, 2, 3, 4, 0];
+    let two = Instance::from(array_from(&rt, pairs(&rt, alloc, 1, 9), false));
+    let two = storable(&rt, two);
+    assert_words(&rt, alloc, &two, &words);
+    let open = Instance::from(array_from(&rt, pairs(&rt, alloc, 1, 9), true));
+    let open = storable(&rt, open);
+    assert_words(&rt, alloc, &open, &words);
+    drop((two, open));
+}
+
+#[test]
+fn elements_are_arrays_of_structures(rt: HostRuntime) {
+    let alloc = rt.alloc();
+    let first = Instance::from(array_from(&rt, pairs(&rt, alloc, 1, 5), false));
+    let second = Instance::from(array_from(&rt, pairs(&rt, alloc, 6, 7), false));
+    let rows = vec![in alloc; first, second].expect(&rt, "memory");
+    let rows = Instance::from(array_from(&rt, rows, false));
+    let rows = storable(&rt, rows);
+    let mut words = [0; 32];
+    for (i, a) in [1, 5, 6, 7].iter().enumerate() {
+        words[8 * i..8 * i + 8].copy_from_slice(&[*a, 0, 0, 0, 2, 3, 4, 0]);
+    }
+    assert_words(&rt, alloc, &rows, &words);
+    drop(rows);
+}
+
+/// S(S(n, n), Pair(n, vec3(2u, 3u, 4u))): the types of the structure and of its first member have one name.
+fn two_kinds(rt: &impl Abort, alloc: Global, n: u32) -> Instance {
+    let first = (member(rt, alloc, "a", Type::U32), Instance::from(n));
+    let second = (member(rt, alloc, "b", Type::U32), Instance::from(n));
+    let inner = two(rt, alloc, first, second);
+    let ty = inner.ty(alloc).expect(rt, "memory");
+    let first = (member(rt, alloc, "c", ty), inner);
+    let pair = Instance::from(pair_with(rt, alloc, n).expect(rt, "memory"));
+    let ty = types::pair(alloc).expect(rt, "memory");
+    let second = (member(rt, alloc, "d", ty), pair);
+    two(rt, alloc, first, second)
+}
+
+#[test]
+fn elements_have_structures_of_two_types(rt: HostRuntime) {
+    let alloc = rt.alloc();
+    let elements = vec![in alloc; two_kinds(&rt, alloc, 1), two_kinds(&rt, alloc, 7)];
+    let value = Instance::from(array_from(&rt, elements.expect(&rt, "memory"), false));
+    let value = storable(&rt, value);
+    let mut words = [0; 24];
+    for (i, n) in [1, 7].iter().enumerate() {
+        words[12 * i..12 * i + 2].copy_from_slice(&[*n, *n]);
+        words[12 * i + 4..12 * i + 12].copy_from_slice(&[*n, 0, 0, 0, 2, 3, 4, 0]);
+    }
+    assert_words(&rt, alloc, &value, &words);
     drop(value);
 }

@@ -1,5 +1,8 @@
 //! Values: when they can be made, what they are made from, when they are equal and may be stored.
 
+ghost use Rattle.wgsl_rules.specs.Values.{IsStorable};
+ghost use Rattle.wgsl_values.specs.View.{struct_view};
+
 use crate::tests::asserts::{assert_gives, assert_is, assert_is_not, assert_same};
 use crate::tests::fixtures::{
     array_of, atomic_from, integers, mat2x3, mat3x2, member_then_index, numbers, one_of_each_kind,
@@ -14,7 +17,7 @@ use wgsl_samples::types::{pair_type, struct_type};
 use wgsl_scalar::LiteralInstance::{AbstractInt, Bool, I32, I64, U32, U64};
 use wgsl_values::{
     ArrayInstance, AtomicInstance, Instance, MatInstance, MemView, PtrInstance, RefInstance,
-    StructInstance, VecInstance,
+    SharedStructType, StructInstance, VecInstance,
 };
 
 fn assert_makes_vector(rt: &impl Abort, components: Vec<Instance>, makes: bool) {
@@ -206,6 +209,62 @@ fn a_structure_has_the_members_of_its_type(rt: HostRuntime) {
     let none = struct_type(alloc, "None", Vec::new(alloc)).expect(&rt, "memory");
     assert!(rt; StructInstance::can_make(&none, &[]));
     drop(none);
+}
+
+/// Pair(a, vec3(2u, 3u, 4u)), of the type.
+fn pair_of(rt: &impl Abort, alloc: Global, ty: SharedStructType, a: u32) -> StructInstance
+    ensures { IsStorable (struct_view result) }
+{
+    let b = Instance::from(vector_of(rt, alloc, &[2, 3, 4]));
+    let members = vec![in alloc; Instance::from(a), b].expect(rt, "memory");
+    assert!(rt; StructInstance::can_make(ty.get(), &members));
+    StructInstance::of_shared(ty, members)
+}
+
+/// The type of pairs, to be shared.
+fn shared_pair_type(rt: &impl Abort, alloc: Global) -> SharedStructType {
+    let ty = pair_type(alloc).expect(rt, "memory");
+    SharedStructType::new(alloc, ty).expect(rt, "memory")
+}
+
+/// The same type for another value.
+fn again(rt: &impl Abort, alloc: Global, ty: &SharedStructType) -> SharedStructType {
+    ty.clone(alloc).expect(rt, "memory")
+}
+
+#[test]
+fn structures_share_their_type_alone(rt: HostRuntime) {
+    let alloc = rt.alloc();
+    let shared = shared_pair_type(&rt, alloc);
+    let first = pair_of(&rt, alloc, again(&rt, alloc, &shared), 1);
+    let mut second = pair_of(&rt, alloc, again(&rt, alloc, first.shared_ty()), 1);
+    assert!(rt; first == second);
+    if let Some(a) = second.member_mut("a") {
+        drop(mem::replace(a, Instance::from(9u32)));
+    }
+    assert_is(&rt, &first, pair_value(&rt, alloc));
+    drop((first, shared));
+    let own = SharedStructType::own(pair_type(alloc).expect(&rt, "memory"));
+    assert_same(&rt, second, pair_of(&rt, alloc, own, 9));
+}
+
+#[test]
+fn a_copy_of_a_structure_type_is_that_type(rt: HostRuntime) {
+    let alloc = rt.alloc();
+    let ty = pair_type(alloc).expect(&rt, "memory");
+    let other = struct_type(alloc, "Pair", Vec::new(alloc)).expect(&rt, "memory");
+    let own = SharedStructType::own(pair_type(alloc).expect(&rt, "memory"));
+    for shared in [own, shared_pair_type(&rt, alloc)] {
+        let copy = again(&rt, alloc, &shared);
+        drop(shared);
+        assert!(rt; copy.get() == &ty);
+        assert!(rt; copy.is_type(&ty));
+        assert!(rt; !copy.is_type(&other));
+        let text = format!(in alloc; "{copy:?}").expect(&rt, "memory");
+        assert_same(&rt, text, format!(in alloc; "{ty:?}").expect(&rt, "memory"));
+        drop(copy);
+    }
+    drop((ty, other));
 }
 
 #[test]

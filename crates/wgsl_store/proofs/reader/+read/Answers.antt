@@ -18,7 +18,7 @@ read_array-loop-i-init t c =
 pub read_array-loop-i-preserved : goal.read_array-loop-i-preserved
 read_array-loop-i-preserved t c = record {
   inside = c.loop-i.invariant.inside;
-  rest = rw c.in_ok-push.ensures.items (row-step c.loop-i.elements.items c.in_ok-read_value.field-0 c.args.bytes.now c.args.base c.in-Row.far c.loop-i.i c.unwrap_or-len.result _ _ c.loop-i-test.true c.in_ok-read_value.ensures c.loop-i.invariant.rest);
+  rest = rw c.in_ok-push.ensures.items (row-step c.loop-i.elements.items c.in_ok-value.value c.args.bytes.now c.args.base c.in-Row.far c.loop-i.i c.unwrap_or-len.result _ _ c.loop-i-test.true c.in_ok-value.ensures c.loop-i.invariant.rest);
 }
 
 pub read_array-new-requires : goal.read_array-new-requires
@@ -54,8 +54,8 @@ read_members-loop-i-preserved t c =
     let next = next-member ms ps l.i c.args.count m p c.args.base (length c.args.bytes.now) c.loop-i-test.true c.index-members-i.is below c.index-places-i.is l.invariant.there in
     record {
       there = next.rest;
-      rest = rw c.in_ok-push.ensures.items (member-step ms ps l.i c.args.count m p l.values.items c.in_ok-read_value.field-0 c.args.bytes.now c.args.base _ c.loop-i-test.true c.index-members-i.is below c.index-places-i.is
-          c.in_ok-read_value.ensures l.invariant.rest);
+      rest = rw c.in_ok-push.ensures.items (member-step ms ps l.i c.args.count m p l.values.items c.in_ok-value.value c.args.bytes.now c.args.base _ c.loop-i-test.true c.index-members-i.is below c.index-places-i.is
+          c.in_ok-value.ensures l.invariant.rest);
     }
 
 pub read_members-returns : goal.read_members-returns
@@ -70,10 +70,10 @@ read_struct-read_members-requires t c =
 pub read_struct-of_shared-requires : goal.read_struct-of_shared-requires
 read_struct-of_shared-requires t c =
     let there = rw (c.in-Members.is, view-members, ← c.as_slice-2.ensures.value) at c.requires in
-    (struct-made c.args.ty.now c.in_ok-shared_type.field-0 c.as_slice.result.now c.args.count (places_view c.as_slice-2.result.now) c.args.base _ c.args.bytes.now _ there c.as_slice.ensures.value c.in_ok-shared_type.ensures c.in_ok-members.ensures).storable
+    (struct-made c.args.ty.now c.in_ok-structure.field-0 c.as_slice.result.now c.args.count (places_view c.as_slice-2.result.now) c.args.base _ c.args.bytes.now _ there c.as_slice.ensures.value c.in_ok-structure.ensures c.in_ok-members.ensures).storable
 
 pub read_struct-returns : goal.read_struct-returns
 read_struct-returns t c =
     let there = rw (c.in-Members.is, view-members, ← c.as_slice-2.ensures.value) at c.requires in
     c.of_shared.ensures
-    ∙ (struct-made c.args.ty.now c.in_ok-shared_type.field-0 c.as_slice.result.now c.args.count (places_view c.as_slice-2.result.now) c.args.base _ c.args.bytes.now _ there c.as_slice.ensures.value c.in_ok-shared_type.ensures c.in_ok-members.ensures).is
+    ∙ (struct-made c.args.ty.now c.in_ok-structure.field-0 c.as_slice.result.now c.args.count (places_view c.as_slice-2.result.now) c.args.base _ c.args.bytes.now _ there c.as_slice.ensures.value c.in_ok-structure.ensures c.in_ok-members.ensures).is

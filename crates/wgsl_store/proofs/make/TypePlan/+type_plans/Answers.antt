@@ -33,4 +33,4 @@ of_members-returns t c name =
     let l = c.loop-member in
     let all = past c.args.members.now l.member-index l.places.items l.tail l.so_far c.loop-member-test.false l.invariant in
     let m = c.of_struct.ensures in
-    all-made _ name c.args.members.now l.places l.tail l.so_far c.of_struct.result c.have_layout.result all m.size m.align m.fixed m.runtime c.have_layout.ensures
+    all-made name c.args.members.now l.places l.tail l.so_far c.of_struct.result c.have_layout.result all m.size m.align m.fixed m.runtime c.have_layout.ensures

@@ -1,0 +1,67 @@
+//! Where the structures of a value that is read take their types from (WGSL: structure types).
+
+ghost use Rattle.std.specs.Prelude.{◌≡◌, IfOk};
+ghost use Rattle.wgsl_rules.specs.View.{struct_view};
+
+use std::alloc::{AllocError, Global};
+use wgsl_rules::StructType;
+use wgsl_values::{Instance, SharedStructType};
+
+/// Where the structures of a value that is read take their types from: those in the first element of an array get copies,
+/// which those in the other elements share. The value is the same whatever this is, since what is shared is compared
+/// with the type.
+#[derive(Clone, Copy)]
+pub(crate) enum Types<'a> {
+    /// Each owns a copy: the value stands in no array of several elements.
+    Own,
+    /// Each gets a copy that others may share: the value stands in the first element.
+    New,
+    /// Each shares the type of the structure at the same place in this value, which is the first element.
+    Of(&'a Instance),
+}
+
+impl<'a> Types<'a> {
+    /// Of the next of so many elements of an array, behind those that were read.
+    pub(crate) fn element(self, read: &'a [Instance], len: usize) -> Types<'a> {
+        match self {
+            Types::Of(_) => self.part(0),
+            Types::Own | Types::New => match read.first() {
+                Some(first) => Types::Of(first),
+                None if len > 1 => Types::New,
+                None => self,
+            },
+        }
+    }
+
+    /// Of the member or element at the position.
+    pub(crate) fn part(self, i: usize) -> Types<'a> {
+        match self {
+            Types::Of(value) => match value.parts().get(i) {
+                Some(part) => Types::Of(part),
+                None => Types::Own,
+            },
+            Types::Own | Types::New => self,
+        }
+    }
+
+    /// The type of a structure, which is this one.
+    pub(crate) fn structure(
+        self,
+        alloc: Global,
+        ty: &StructType,
+    ) -> Result<SharedStructType, AllocError>
+        ensures { IfOk result (λ s. s ≡ struct_view ty.now) }
+    {
+        if let Types::Of(Instance::Struct(first)) = self {
+            let shared = first.shared_ty();
+            if shared.is_type(ty) {
+                return shared.clone(alloc);
+            }
+        }
+        let copy = ty.clone(alloc)?;
+        match self {
+            Types::New => SharedStructType::new(alloc, copy),
+            Types::Own | Types::Of(_) => Ok(SharedStructType::own(copy)),
+        }
+    }
+}
