@@ -1,3 +1,4 @@
+pub mod Bytes
 pub mod Cursors
 pub mod Cuts
 pub mod Declarations
