@@ -1,3 +1,4 @@
+pub mod Brackets
 pub mod Bytes
 pub mod Cursors
 pub mod Cuts
