@@ -9,3 +9,4 @@ pub mod Numerals
 pub mod Positions
 pub mod ReadingLemmas
 pub mod Suffixes
+pub mod Words

@@ -7,7 +7,17 @@ use Rattle.std.proofs.lemmas.Bool.Decides.{eqb_tells}
 use Rattle.std.proofs.lemmas.List.{length-set}
 use Rattle.std.specs.Prelude.{option_and_then, slice_get}
 use Rattle.std.specs.Str.{bytes_eq}
-use Rattle.wgsl_source.specs.NameTables.{map_of}
+use Rattle.std.specs.BTreeMap.{get_by_text}
+use Rattle.wgsl_source.specs.NameTables.{map_of, named_in}
+use Rattle.wgsl_source.specs.declared.name_table.NameTable.{NameTable}
+
+slice_get-none : {X : Type 0} (xs : List X) (i : ℕ) → length xs ≡ 0 → slice_get xs i ≡ None
+slice_get-none [] i e = refl
+slice_get-none (x ∷ xs) i e = absurd (omega arith)
+
+-- without maps no name is known
+pub named-none : (t : NameTable) → length t.maps.items ≡ 0 → (name : List ℕ) → named_in t name ≡ None
+named-none t e name = ap (option_and_then (λ m. get_by_text m name)) (slice_get-none t.maps.items (map_of name (length t.maps.items)) e)
 
 get-set_same : {X : Type 0} (xs : List X) (i : ℕ) (y : X) → i < length xs → slice_get (set xs i y) i ≡ Some y
 get-set_same [] i y h = absurd (omega arith)

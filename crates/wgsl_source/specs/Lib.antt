@@ -1,3 +1,5 @@
+pub mod Brackets
+pub mod Bytes
 pub mod Cursors
 pub mod Cuts
 pub mod Declarations

@@ -1,5 +1,8 @@
 //! What the bytes of a source may be of.
 
+ghost use Rattle.std.specs.Prelude.{◌≡◌, false, All};
+ghost use Rattle.wgsl_source.specs.Bytes.{class_of, may_begin_line_break};
+
 /// What a byte begins or goes on with.
 #[derive(Clone, Copy)]
 pub(crate) enum Class {
@@ -56,7 +59,9 @@ static CLASSES: [Class; 256] = [
 ];
 
 /// What this byte may be of.
-pub(crate) fn class_of(byte: u8) -> Class {
+pub(crate) fn class_of(byte: u8) -> Class
+    ensures { result ≡ class_of byte }
+{
     CLASSES[byte as usize]
 }
 
@@ -64,7 +69,10 @@ pub(crate) fn class_of(byte: u8) -> Class {
 const HIGH: u64 = 0x8080_8080_8080_8080;
 
 /// Whether one of eight bytes may be of a line break: one below 0x0e, or one that is no ASCII.
-pub(crate) fn may_break(word: u64) -> bool {
+pub(crate) fn may_break(bytes: [u8; 8]) -> bool
+    ensures { result ≡ false → All (λ byte. may_begin_line_break byte ≡ false) bytes }
+{
+    let word = u64::from_le_bytes(bytes);
     // The difference borrows the highest bit of a byte only where one before it is below, too.
     (word.wrapping_sub(0x0e0e_0e0e_0e0e_0e0e) | word) & HIGH != 0
 }

@@ -1,6 +1,7 @@
 //! A place among the tokens of a source, from which on it is read.
 
-ghost use Rattle.std.specs.Prelude.{◌≡◌, ◌↔◌, length, IsTrue, IfOk, IfErr, OnOk, if◌then◌else◌};
+ghost use Rattle.std.specs.Prelude.{◌≡◌, ◌<◌, ◌≤◌, ◌↔◌, length, IsTrue, IfOk, IfErr, OnOk, if◌then◌else◌};
+ghost use Rattle.wgsl_source.specs.Brackets.{brackets_behind, wanting_end};
 ghost use Rattle.wgsl_source.specs.Cursors.{token_of, text_of, next_token, advanced, fault_of};
 ghost use Rattle.wgsl_source.specs.Cuts.{is_boundary, cut_of};
 ghost use Rattle.std.specs.Str.{IsCharBoundary};
@@ -240,7 +241,9 @@ impl Brackets {
     };
 
     // What they are behind a character.
-    fn behind(self, symbol: u8) -> Brackets {
+    fn behind(self, symbol: u8) -> Brackets
+        ensures { result ≡ brackets_behind self symbol }
+    {
         let Brackets {
             mut braces,
             mut round,
@@ -263,7 +266,9 @@ impl Brackets {
     }
 
     // The end that is wanting.
-    fn open_end(self) -> Option<char> {
+    fn open_end(self) -> Option<char>
+        ensures { result ≡ wanting_end self }
+    {
         if self.braces > 0 {
             Some('}')
         } else if self.round > 0 {
@@ -278,7 +283,10 @@ impl Brackets {
 
 // How many tokens the group has that a bracket begins, to the bracket of any sort that closes it; all
 // where none does. Also counts the brackets beside those before it.
-fn group_len(tokens: &[Token], before: Brackets) -> (usize, Brackets) {
+fn group_len(tokens: &[Token], before: Brackets) -> (usize, Brackets)
+    ensures some { 0 < length tokens.now → 0 < result.0 }
+    ensures within { result.0 ≤ length tokens.now }
+{
     let mut brackets = before;
     let mut depth = 0usize;
     for (at, token) in tokens.iter().enumerate() {

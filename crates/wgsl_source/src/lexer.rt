@@ -189,7 +189,7 @@ fn behind_line(rest: &[u8]) -> &[u8]
 {
     let mut left = rest;
     while let Some((word, behind)) = left.split_first_chunk::<8>() {
-        if may_break(u64::from_le_bytes(*word)) {
+        if may_break(*word) {
             break;
         }
         left = behind;

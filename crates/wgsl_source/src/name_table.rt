@@ -12,8 +12,12 @@ use std::hash::{FoldHasher, Hasher};
 /// How many names are meant to share a map.
 const SHARED: usize = 4;
 
-/// The numbers of declarations by their names, in maps of few names: a hash of the name says in which map it is. However
-/// the names are chosen, one is found in time in the logarithm of their number.
+/// How many bytes of a name are hashed, from its first on: nearly all names have fewer, and one that is asked for may have
+/// any number of them.
+const HASHED: usize = 64;
+
+/// The numbers of declarations by their names, in maps of few names: a hash of how the name begins says in which map it is.
+/// However the names are chosen, one is found in time in the logarithm of their number.
 #[derive(Drop)]
 pub(crate) struct NameTable {
     maps: Vec<BTreeMap<String, usize>>,
@@ -25,8 +29,9 @@ fn map_of(name: &str, maps: usize) -> usize
     ensures within { result < maps }
     ensures map { result ≡ map_of name.now maps }
 {
+    let bytes = name.as_bytes();
     let mut hasher = FoldHasher::default();
-    hasher.write(name.as_bytes());
+    hasher.write(&bytes[..bytes.len().min(HASHED)]);
     (hasher.finish() % maps as u64) as usize
 }
 
@@ -42,8 +47,12 @@ impl NameTable {
 
     /// Without a name, for about so many.
     pub(crate) fn for_names(alloc: Global, names: usize) -> Result<NameTable, AllocError>
-        ensures { IfOk result (λ t. ((name : List ℕ) → named_in t name ≡ None) × (0 < length t.maps.items)) }
+        ensures none { IfOk result (λ t. (name : List ℕ) → named_in t name ≡ None) }
+        ensures room { IfOk result (λ t. 0 < names → 0 < length t.maps.items) }
     {
+        if names == 0 {
+            return Ok(NameTable::empty(alloc));
+        }
         let count = names / SHARED + 1;
         let mut maps = Vec::with_capacity(alloc, count)?;
         for _ in 0..count {

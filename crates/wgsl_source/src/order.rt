@@ -1,7 +1,7 @@
 //! An order of the declarations, in which each stands behind those that it names (WGSL: declaration
 //! and scope).
 
-ghost use Rattle.std.specs.Prelude.{◌≡◌, ◌<◌, ℕ, List, length, IfOk};
+ghost use Rattle.std.specs.Prelude.{◌≡◌, ℕ, List, IfOk};
 ghost use Rattle.wgsl_source.specs.Declarations.{number_named};
 ghost use Rattle.wgsl_source.specs.NameTables.{named_in};
 
@@ -46,8 +46,7 @@ pub(crate) fn names_of(
     cursor: Cursor<'_>,
     faults: &mut Faults,
 ) -> Result<NameTable, AllocError>
-    ensures found { IfOk result (λ names. (name : List ℕ) → named_in names name ≡ number_named cursor.entry «module».now.declarations.items name) }
-    ensures filled { IfOk result (λ names. 0 < length names.maps.items) }
+    ensures { IfOk result (λ names. (name : List ℕ) → named_in names name ≡ number_named cursor.entry «module».now.declarations.items name) }
 {
     let mut names = NameTable::for_names(alloc, module.declarations.len())?;
     for (number, declaration) in module.declarations.iter().enumerate() {

@@ -22,7 +22,7 @@ loop-number-preserved c =
         λ name.
             ap (λ m. named_in m name) w.names-is
             ∙ names-kept c.args.cursor ds items k d get text c.deref-declaration-items.ensures.value c.text_at-name.ensures c.loop-number-test.true c.loop-number.invariant.0 (sym tested ∙ w.if-is_some.true) name,
-        subst (λ (m : NameTable). 0 < length m.maps.items) (sym w.names-is) c.loop-number.invariant.1,
+        λ some. subst (λ (m : NameTable). 0 < length m.maps.items) (sym w.names-is) (c.loop-number.invariant.1 some),
       )
       | else-is_some+in_ok-from_str+in_ok-insert w ↦
           let after : (q : List ℕ) → named_in w.insert.new.self q ≡ cond (bytes_eq text q) (Some k) (get q) = λ q.
@@ -31,6 +31,6 @@ loop-number-preserved c =
             λ name.
                 ap (λ m. named_in m name) w.names-is
                 ∙ names-added c.args.cursor ds items k d get (named_in w.insert.new.self) text c.deref-declaration-items.ensures.value c.text_at-name.ensures c.loop-number-test.true c.loop-number.invariant.0 (none_of _ (sym tested ∙ w.if-is_some.false)) after name,
-            subst (λ (m : NameTable). 0 < length m.maps.items) (sym w.names-is) w.in_ok-insert.ensures.0,
+            λ _. subst (λ (m : NameTable). 0 < length m.maps.items) (sym w.names-is) w.in_ok-insert.ensures.0,
           )
     ]

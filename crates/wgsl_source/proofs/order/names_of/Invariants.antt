@@ -6,4 +6,4 @@ use Rattle.wgsl_source.proofs.order.names_of.Given as goal
 abbrev pub invariant-loop-number : goal.invariant-loop-number
 invariant-loop-number l =
     ((name : List ℕ) → named_in l.names name ≡ number_named l.cursor (take l.number l.module.declarations.items) name)
-    × (0 < length l.names.maps.items)
+    × (0 < length l.module.declarations.items → 0 < length l.names.maps.items)
