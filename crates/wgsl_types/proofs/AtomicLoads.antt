@@ -12,7 +12,7 @@ use Rattle.wgsl_store.proofs.lemmas.Held.{kept-is}
 use Rattle.wgsl_types.specs.Atomics.{KeepsPointer, atomic_loaded, content_of, pointed}
 
 -- what a pointer points to is kept
-pub pointed_kept : (cells : List Val) (p : Val) (r : Reference) → pointed p ≡ Ok r → KeepsPointer cells p → IsKept cells r
+pointed_kept : (cells : List Val) (p : Val) (r : Reference) → pointed p ≡ Ok r → KeepsPointer cells p → IsKept cells r
 pointed_kept cells (pointer q) r w k = let same : q ≡ r = cc in subst (IsKept cells) same k
 pointed_kept cells p r w k = absurd (cc)
 

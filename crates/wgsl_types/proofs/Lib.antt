@@ -1,6 +1,5 @@
 pub mod Answers
 pub mod Arguments
-pub mod ArrayLengths
 pub mod AtomicLoads
 pub mod AtomicRows
 pub mod Atoms

@@ -10,7 +10,8 @@ mod plain;
 mod sorts;
 mod steps;
 
-pub(super) use steps::{Step, assert_call, assert_refused, assert_steps};
+pub(super) use calls::length;
+pub(super) use steps::{Step, assert_call, assert_refused, assert_steps, view};
 
 /// A change of an atomic.
 #[derive(Clone, Copy, Debug, PartialEq, Eq)]

@@ -100,7 +100,12 @@ pub(super) enum Two {
 }
 
 /// What the function gives for the two values.
-fn of_two(alloc: Global, function: Two, a: &Instance, b: &Instance) -> Result<Instance, Error>
+pub(super) fn of_two(
+    alloc: Global,
+    function: Two,
+    a: &Instance,
+    b: &Instance,
+) -> Result<Instance, Error>
     requires first { IsWellFormed (value_of a.now) }
     requires second { IsWellFormed (value_of b.now) }
 {
@@ -148,7 +153,7 @@ pub(super) enum Three {
 }
 
 /// What the function gives for the three values.
-fn of_three(
+pub(super) fn of_three(
     alloc: Global,
     function: Three,
     a: &Instance,

@@ -17,6 +17,9 @@ macro_rules! made {
     };
 }
 
+mod lengths;
+mod literals;
+
 /// A value, and whether all and any of its bools are true, where it has some.
 type Row = (Instance, Option<bool>, Option<bool>);
 

@@ -90,7 +90,12 @@ pub(super) fn loaded(
     atomicLoad(alloc, store, p)
 }
 
-fn length(rt: &impl Abort, alloc: Global, store: &Store, p: &Instance) -> Result<Instance, Error> {
+pub(crate) fn length(
+    rt: &impl Abort,
+    alloc: Global,
+    store: &Store,
+    p: &Instance,
+) -> Result<Instance, Error> {
     keep(rt, store, p);
     arrayLength(alloc, store, p)
 }

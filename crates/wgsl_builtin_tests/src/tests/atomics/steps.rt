@@ -28,7 +28,7 @@ fn new_cell(
 }
 
 /// The steps of the view: the member of the name, where it is not empty, and then the indices.
-fn view(alloc: Global, name: &str, indices: &[usize]) -> Result<MemView, AllocError> {
+pub(crate) fn view(alloc: Global, name: &str, indices: &[usize]) -> Result<MemView, AllocError> {
     let mut view = MemView::Whole;
     if !name.is_empty() {
         view.append_member(alloc, String::from_str(alloc, name)?)?;

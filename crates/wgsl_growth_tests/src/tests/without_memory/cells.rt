@@ -4,18 +4,20 @@ ghost use Rattle.wgsl_session.specs.Calls.{IsSoundCall};
 ghost use Rattle.wgsl_session.specs.View.{call_of};
 
 use crate::tests::asserts::{assert_memory, assert_same};
-use crate::tests::samples::{array_of, atomic_of, pair_with, reference_of, text, vector_of};
+use crate::tests::samples::{
+    array, array_from, array_of, atomic_of, pair_with, reference_of, text, vector_of,
+};
 use std::alloc::Global;
 use std::process::Abort;
-use wgsl_rules::AccessMode::ReadWrite;
+use wgsl_rules::AccessMode::{ReadWrite, Write};
 use wgsl_rules::AddressSpace::Storage;
 use wgsl_rules::Type;
-use wgsl_samples::atomics::flagged;
+use wgsl_samples::atomics::{counters, flagged};
 use wgsl_scalar::LiteralInstance::U32;
 use wgsl_scalar::{Error, LiteralInstance};
 use wgsl_session::{Call, Fault, Reply, Session};
 use wgsl_store::{References, Store};
-use wgsl_values::{AtomicInstance, Instance, RefInstance};
+use wgsl_values::{AtomicInstance, Instance, MemView, RefInstance};
 
 /// The reference to a new cell with the value.
 fn cell_with(rt: &impl Abort, alloc: Global, store: &mut Store, value: Instance) -> RefInstance {
@@ -33,6 +35,17 @@ fn view_index(
 ) -> RefInstance {
     assert!(rt; store.holds(whole));
     made!(rt; whole.view_index(alloc, store, i))
+}
+
+fn view_member(
+    rt: &impl Abort,
+    alloc: Global,
+    store: &Store,
+    whole: &RefInstance,
+    name: &str,
+) -> RefInstance {
+    assert!(rt; store.holds(whole));
+    made!(rt; whole.view_member(alloc, store, text(rt, alloc, name)))
 }
 
 /// Asserts that the reference is written.
@@ -158,6 +171,76 @@ fn the_number_of_an_atomic_in_a_cell_that_is_no_bytes(rt: HostRuntime) {
     put_number(&rt, &mut store, &count, 8);
     assert_number(&rt, &store, &count, Some(U32(8)));
     drop((store, whole, count));
+}
+
+/// Asserts how many elements the array has that the reference names; none where it names no array.
+fn assert_counts(rt: &impl Abort, store: &Store, reference: &RefInstance, wanted: Option<usize>) {
+    assert!(rt; store.holds(reference));
+    assert_eq!(rt; store.element_count(reference), wanted);
+}
+
+#[test]
+fn counts_of_elements(rt: HostRuntime) {
+    let alloc = rt.alloc();
+    let mut store = Store::new(alloc);
+    let endless = Instance::from(array_of(&rt, alloc, &[10, 11, 12], true));
+    let endless = cell_with(&rt, alloc, &mut store, endless);
+    let element = view_index(&rt, alloc, &store, &endless, 2);
+    let fixed = Instance::from(array_of(&rt, alloc, &[10, 11], false));
+    let fixed = cell_with(&rt, alloc, &mut store, fixed);
+    let vector = Instance::from(vector_of(&rt, alloc, &[1, 2, 3]));
+    let vector = cell_with(&rt, alloc, &mut store, vector);
+    let component = view_index(&rt, alloc, &store, &vector, 1);
+    // read access is not asked
+    let ty = array(&rt, alloc, Type::U32, None);
+    let unread = RefInstance::from_parts(endless.cell(), MemView::Whole, ty, Storage, Write);
+    assert_counts(&rt, &store, &endless, Some(3));
+    assert_counts(&rt, &store, &unread, Some(3));
+    assert_counts(&rt, &store, &element, None);
+    assert_counts(&rt, &store, &fixed, Some(2));
+    assert_counts(&rt, &store, &vector, None);
+    assert_counts(&rt, &store, &component, None);
+    drop((store, endless, unread));
+    drop((element, fixed));
+    drop((vector, component));
+}
+
+#[test]
+fn counts_of_arrays_in_arrays(rt: HostRuntime) {
+    let alloc = rt.alloc();
+    let mut store = Store::new(alloc);
+    let pair = Instance::from(array_of(&rt, alloc, &[1, 2], false));
+    let other = Instance::from(array_of(&rt, alloc, &[3, 4], false));
+    let last = Instance::from(array_of(&rt, alloc, &[5, 6], false));
+    let pairs = made!(&rt; vec![in alloc; pair, other, last]);
+    let pairs = Instance::from(array_from(&rt, pairs, true));
+    let pairs = cell_with(&rt, alloc, &mut store, pairs);
+    let last = view_index(&rt, alloc, &store, &pairs, 2);
+    let number = view_index(&rt, alloc, &store, &last, 0);
+    assert_counts(&rt, &store, &pairs, Some(3));
+    assert_counts(&rt, &store, &last, Some(2));
+    assert_counts(&rt, &store, &number, None);
+    drop((store, pairs));
+    drop((last, number));
+}
+
+#[test]
+fn counts_in_structures(rt: HostRuntime) {
+    let alloc = rt.alloc();
+    let mut store = Store::new(alloc);
+    let counters = made!(&rt; counters(alloc, 7, &[1, -2, 3, 4])).expect(&rt, "a value");
+    let counters = cell_with(&rt, alloc, &mut store, counters);
+    let flagged = made!(&rt; flagged(alloc, 7, &[1, -2, 3])).expect(&rt, "a value");
+    let flagged = cell_with(&rt, alloc, &mut store, flagged);
+    for (whole, wanted) in [(&counters, 4), (&flagged, 3)] {
+        let count = view_member(&rt, alloc, &store, whole, "count");
+        let totals = view_member(&rt, alloc, &store, whole, "totals");
+        assert_counts(&rt, &store, whole, None);
+        assert_counts(&rt, &store, &count, None);
+        assert_counts(&rt, &store, &totals, Some(wanted));
+        drop((count, totals));
+    }
+    drop((store, counters, flagged));
 }
 
 /// Asserts the bytes of the part that the reference names; none where its cell is no bytes.
