@@ -63,28 +63,39 @@ pub(crate) fn run(
 ) -> Result<(), Error> {
     for number in 0..scale {
         let size = 20_000usize.saturating_add((number % 15) as usize * 20_000);
-        let text = module(alloc, random, size)?;
+        let text = module(alloc, random, number, size)?;
         lay_out(alloc, text.as_str(), digest)?;
     }
-    let bundle = module(alloc, random, 10_000usize.saturating_mul(scale as usize))?;
+    let size = 10_000usize.saturating_mul(scale as usize);
+    let bundle = module(alloc, random, scale, size)?;
     lay_out(alloc, bundle.as_str(), digest)?;
     Ok(())
 }
 
-// A module of so many bytes, or a few more.
-fn module(alloc: Global, random: &mut Random, size: usize) -> Result<String, AllocError> {
+// The module of the number, of so many bytes or a few more. Its structures have names of their own, and each has a
+// variable at most.
+fn module(
+    alloc: Global,
+    random: &mut Random,
+    module: u32,
+    size: usize,
+) -> Result<String, AllocError> {
     let mut text = String::from_str(alloc, "const COUNT = 3 + 5;\n")?;
     let mut structures = 0u32;
+    let mut variables = 0u32;
     for number in 0..u32::MAX {
         if text.len() >= size {
             break;
         }
         match random.below(8) {
             0 => {
-                add_structure(&mut text, random, structures)?;
+                add_structure(&mut text, random, module, structures)?;
                 structures = structures.wrapping_add(1);
             }
-            1 if structures > 0 => add_variable(&mut text, random, number, structures)?,
+            1 if variables < structures => {
+                add_variable(&mut text, random, module, variables)?;
+                variables = variables.wrapping_add(1);
+            }
             2 => write!(
                 text,
                 "const LIMIT_{number} = COUNT * {}u;\n",
@@ -96,12 +107,17 @@ fn module(alloc: Global, random: &mut Random, size: usize) -> Result<String, All
     Ok(text)
 }
 
-fn add_structure(text: &mut String, random: &mut Random, number: u32) -> Result<(), AllocError> {
-    write!(text, "struct Block{number} {{\n")?;
+fn add_structure(
+    text: &mut String,
+    random: &mut Random,
+    module: u32,
+    number: u32,
+) -> Result<(), AllocError> {
+    write!(text, "struct Block{number}_{module} {{\n")?;
     for member in 0..random.below(8).wrapping_add(2) {
         if random.below(9) == 0 && number > 0 {
             let inner = random.below(number);
-            write!(text, "    member_{member}: Block{inner},\n")?;
+            write!(text, "    member_{member}: Block{inner}_{module},\n")?;
         } else {
             let ty = picked(&TYPES, random);
             write!(text, "    member_{member}: {ty},\n")?;
@@ -110,24 +126,25 @@ fn add_structure(text: &mut String, random: &mut Random, number: u32) -> Result<
     text.push_str("}\n")
 }
 
+// The variable of the structure of the number.
 fn add_variable(
     text: &mut String,
     random: &mut Random,
+    module: u32,
     number: u32,
-    structures: u32,
 ) -> Result<(), AllocError> {
-    let block = random.below(structures);
     let binding = random.below(1000);
     if random.below(2) == 0 {
+        let declared = "var<uniform>";
         write!(
             text,
-            "@group(0) @binding({binding}) var<uniform> uniform_{number}: Block{block};\n"
+            "@group(0) @binding({binding}) {declared} uniform_{number}: Block{number}_{module};\n"
         )
     } else {
         let declared = "var<storage, read_write>";
         write!(
             text,
-            "@group(1) @binding({binding}) {declared} buffer_{number}: array<Block{block}>;\n"
+            "@group(1) @binding({binding}) {declared} buffer_{number}: array<Block{number}_{module}>;\n"
         )
     }
 }
