@@ -54,7 +54,10 @@ fn picked(texts: &[&'static str], random: &mut Random) -> &'static str {
     }
 }
 
-/// Modules of 20 to 300 kB, and a bundle of 1 MB.
+/// How many modules there are to a bundle.
+const MODULES: u32 = 320;
+
+/// So many modules of 20 to 300 kB, and bundles of 3 MB.
 pub(crate) fn run(
     alloc: Global,
     random: &mut Random,
@@ -66,9 +69,11 @@ pub(crate) fn run(
         let text = module(alloc, random, number, size)?;
         lay_out(alloc, text.as_str(), digest)?;
     }
-    let size = 10_000usize.saturating_mul(scale as usize);
-    let bundle = module(alloc, random, scale, size)?;
-    lay_out(alloc, bundle.as_str(), digest)?;
+    for bundle in 0..scale.div_ceil(MODULES) {
+        let size = 10_000usize.saturating_mul(scale.min(MODULES) as usize);
+        let text = module(alloc, random, scale.saturating_add(bundle), size)?;
+        lay_out(alloc, text.as_str(), digest)?;
+    }
     Ok(())
 }
 
