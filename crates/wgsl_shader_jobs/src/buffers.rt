@@ -4,7 +4,10 @@ use crate::digest::Digest;
 use crate::forms::{Form, Member, array, members, structure, structure_with};
 use crate::random::Random;
 use std::alloc::{AllocError, Global};
-use wgsl_types::{Buffers, Error, Instance, Layout, MemView, StructMemberType, Type};
+use std::ops::Range;
+use wgsl_types::{
+    Buffers, Error, Instance, Layout, LayoutRefusal, MemView, StructMemberType, Type,
+};
 
 const SHADOW: [Member; 3] = [
     ("cascade", Form::U32, None),
@@ -126,12 +129,12 @@ fn change_parts(
         for path in paths {
             change_part(alloc, &layout, path, &from, &mut to, digest)?;
         }
+        digest.add_bytes(&to);
     }
-    digest.add_bytes(&to);
     Ok(())
 }
 
-// Writes the part of the bytes into others, and adds where it stands.
+// Writes the part of the bytes into others, and adds whether that was refused, and where it stands.
 fn change_part(
     alloc: Global,
     layout: &Layout,
@@ -146,11 +149,31 @@ fn change_part(
     if !value.is_storable() {
         return Err(Error::NotRead);
     }
-    digest.add(u64::from(layout.write(to, path, &value).is_ok()));
-    if let Ok(range) = layout.range(to.len(), path) {
-        digest.add_count(range.start);
+    match layout.write(to, path, &value) {
+        Ok(()) => digest.add(0),
+        Err(refusal) => digest.add(number_of(refusal)),
     }
+    add_range(layout.range(to.len(), path), digest);
     Ok(())
+}
+
+fn add_range(range: Result<Range<usize>, LayoutRefusal>, digest: &mut Digest) {
+    match range {
+        Ok(range) => {
+            digest.add_count(range.start);
+            digest.add_count(range.end);
+        }
+        Err(refusal) => digest.add(number_of(refusal)),
+    }
+}
+
+fn number_of(refusal: LayoutRefusal) -> u64 {
+    match refusal {
+        LayoutRefusal::TooFewBytes => 1,
+        LayoutRefusal::NoPart => 2,
+        LayoutRefusal::OtherType => 3,
+        LayoutRefusal::OtherLength => 4,
+    }
 }
 
 // A structure of so many members.

@@ -4,8 +4,8 @@ use crate::digest::Digest;
 use crate::forms::{Form, Member, array, members, structure, structure_with};
 use crate::machine::Machine;
 use crate::programs::{
-    BINS, BOUNDS, HASH, HASHES, HISTOGRAM, INVOCATION, KEYS, PARTICLE, PARTICLES, RANDOM, SET_UP,
-    SHIFTS, SORT, SUMS, TOTAL,
+    BINS, BOUNDS, HASH, HASHES, HISTOGRAM, INVOCATION, PARTICLE, PARTICLES, RANDOM, SET_UP, SHIFTS,
+    SORT, TOTAL,
 };
 use crate::random::Random;
 use std::alloc::{AllocError, Global};
@@ -44,7 +44,7 @@ pub(crate) fn run(
         machine.run(&SORT)?;
         machine.run(&PARTICLE)?;
     }
-    for handle in [HASHES, BINS, TOTAL, KEYS, SUMS, PARTICLES] {
+    for handle in HASHES..=BOUNDS {
         machine.add_bytes(handle, digest)?;
     }
     Ok(())
