@@ -50,10 +50,13 @@ pub(crate) fn run(
     Ok(())
 }
 
-// Fills what an invocation finds.
+// Fills what an invocation finds: its number, and one that names another element.
 fn invoke(machine: &mut Machine, random: &mut Random, number: u32) -> Result<(), Error> {
+    let drawn = random.number();
+    let is_own = drawn as usize % ELEMENTS == number as usize % ELEMENTS;
+    let other = if is_own { drawn ^ 1 } else { drawn };
     machine.set(INVOCATION, Instance::from(number))?;
-    machine.set(RANDOM, Instance::from(random.number()))
+    machine.set(RANDOM, Instance::from(other))
 }
 
 // The buffers, in the order of their handles.
