@@ -1,4 +1,4 @@
-"""Writes the scripts that are measured into a folder: generate.py FOLDER [CHAIN]."""
+"""Writes the scripts that are measured into a folder: generate.py FOLDER [CHAIN [COUNT]]."""
 import random
 import sys
 from pathlib import Path
@@ -93,19 +93,23 @@ def types(rng):
         handles += 9
 
 
-def chain(depth):
+def chain(depth, number):
     """Structs, each with the one before as its only member: one made, read, written and dumped."""
-    lines = ["struct T0 a:u32"]
-    lines += [f"struct T{i} a:T{i - 1}" for i in range(1, depth)]
-    last = depth - 1
-    lines += [f"new T{last} storage read_write 07000000", "read &0", "write &0 08000000", "dump &0"]
+    name = "TUVWXYZ"[number]
+    lines = [f"struct {name}0 a:u32"]
+    lines += [f"struct {name}{i} a:{name}{i - 1}" for i in range(1, depth)]
+    made, written = bytes([7 + 2 * number, 0, 0, 0]).hex(), bytes([8 + 2 * number, 0, 0, 0]).hex()
+    lines += [f"new {name}{depth - 1} storage read_write {made}", f"read &{number}"]
+    lines += [f"write &{number} {written}", f"dump &{number}"]
     return "\n".join(lines) + "\n"
 
 
 def main():
     folder = Path(sys.argv[1])
     if len(sys.argv) > 2:
-        (folder / "chain.script").write_text(chain(int(sys.argv[2])))
+        depth, *counts = map(int, sys.argv[2:])
+        chains = "".join(chain(depth, number) for number in range(*counts or [1]))
+        (folder / "chain.script").write_text(chains)
         return
     for seed, make in enumerate((handles, cells, structs, types)):
         text = script(make(random.Random(seed)))

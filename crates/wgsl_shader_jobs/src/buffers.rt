@@ -4,7 +4,10 @@ use crate::digest::Digest;
 use crate::forms::{Form, Member, array, members, structure, structure_with};
 use crate::random::Random;
 use std::alloc::{AllocError, Global};
-use wgsl_types::{Buffers, Error, Instance, Layout, MemView, StructMemberType, Type};
+use std::ops::Range;
+use wgsl_types::{
+    Buffers, Error, Instance, Layout, LayoutRefusal, MemView, StructMemberType, Type,
+};
 
 const SHADOW: [Member; 3] = [
     ("cascade", Form::U32, None),
@@ -37,14 +40,29 @@ const UNIFORMS: [Form; 7] = [
     Form::Vec3U32,
 ];
 
-/// How many words of eight bytes parts are read from and written to: a uniform block has room there, or sixteen lights.
-const WORDS: usize = 500;
+/// How many words of eight bytes the parts of a uniform block are read from and written to.
+const BLOCK_WORDS: usize = 500;
 
-/// How often each part is written.
+/// How often each part of a uniform block is written, each time from other bytes.
 const ROUNDS: u32 = 200;
 
+/// How many lights there are whose members are read and written, each once.
+const LIGHTS: usize = 640;
+
+/// How many words of eight bytes a light takes.
+const LIGHT_WORDS: usize = 28;
+
+/// Paths to the parts of values of a layout, how many words of eight bytes these lie in, and how often each is written.
+#[derive(Drop)]
+struct Parts {
+    layout: Layout,
+    paths: Vec<MemView>,
+    words: usize,
+    rounds: u32,
+}
+
 /// So many times an array of 1,000 to 3,000 lights, a structure that ends in one, and the parts of a uniform block and of
-/// a few lights.
+/// many lights. The types have other names each time.
 pub(crate) fn run(
     alloc: Global,
     random: &mut Random,
@@ -53,29 +71,30 @@ pub(crate) fn run(
 ) -> Result<(), Error> {
     for number in 0..scale {
         let size = 28_000usize.saturating_add((number % 5) as usize * 14_000);
-        copy_buffer(alloc, &lights(alloc)?, size, random, digest)?;
-        copy_buffer(alloc, &scene(alloc)?, size, random, digest)?;
-        let count = 20u32.saturating_add(number % 5 * 10);
-        change_parts(
-            alloc,
-            &block(alloc, count)?,
-            &block_paths(alloc, count)?,
-            random,
-            digest,
-        )?;
-        change_parts(alloc, &lights(alloc)?, &light_paths(alloc)?, random, digest)?;
+        copy_buffer(alloc, &lights(alloc, number)?, size, random, digest)?;
+        copy_buffer(alloc, &scene(alloc, number)?, size, random, digest)?;
+        change_parts(alloc, &block_parts(alloc, number)?, random, digest)?;
+        change_parts(alloc, &light_parts(alloc, number)?, random, digest)?;
     }
     Ok(())
 }
 
-fn lights(alloc: Global) -> Result<Type, AllocError> {
-    let shadow = structure(alloc, "Shadow", members(alloc, &SHADOW)?)?;
-    let light = structure_with(alloc, "Light", &LIGHT, ("shadow", shadow))?;
+fn lights(alloc: Global, number: u32) -> Result<Type, AllocError> {
+    let name = format!(in alloc; "Shadow_{number}")?;
+    let shadow = structure(alloc, name.as_str(), members(alloc, &SHADOW)?)?;
+    let name = format!(in alloc; "Light_{number}")?;
+    let light = structure_with(alloc, name.as_str(), &LIGHT, ("shadow", shadow))?;
     array(alloc, light)
 }
 
-fn scene(alloc: Global) -> Result<Type, AllocError> {
-    structure_with(alloc, "Scene", &SCENE, ("lights", lights(alloc)?))
+fn scene(alloc: Global, number: u32) -> Result<Type, AllocError> {
+    let name = format!(in alloc; "Scene_{number}")?;
+    structure_with(
+        alloc,
+        name.as_str(),
+        &SCENE,
+        ("lights", lights(alloc, number)?),
+    )
 }
 
 // Reads the value of a buffer of so many words of eight bytes, and writes a copy of it.
@@ -109,29 +128,66 @@ fn add_buffer(alloc: Global, value: &Instance, digest: &mut Digest) -> Result<()
     Ok(())
 }
 
-// Writes parts of values of the type, which lie in bytes, into others.
+// The parts of a uniform block of 20 to 60 members.
+fn block_parts(alloc: Global, number: u32) -> Result<Parts, Error> {
+    let count = 20u32.saturating_add(number % 5 * 10);
+    Ok(Parts {
+        layout: layout_of(alloc, &block(alloc, number, count)?)?,
+        paths: block_paths(alloc, count)?,
+        words: BLOCK_WORDS,
+        rounds: ROUNDS,
+    })
+}
+
+// The members of lights.
+fn light_parts(alloc: Global, number: u32) -> Result<Parts, Error> {
+    Ok(Parts {
+        layout: layout_of(alloc, &lights(alloc, number)?)?,
+        paths: light_paths(alloc)?,
+        words: LIGHTS * LIGHT_WORDS,
+        rounds: 1,
+    })
+}
+
+fn layout_of(alloc: Global, ty: &Type) -> Result<Layout, Error> {
+    match Layout::of(alloc, ty)? {
+        Some(layout) => Ok(layout),
+        None => Err(Error::NotRead),
+    }
+}
+
+// Writes parts of values, which lie in bytes, into others, and adds where the parts stand, and all bytes each time.
 fn change_parts(
     alloc: Global,
-    ty: &Type,
-    paths: &[MemView],
+    parts: &Parts,
     random: &mut Random,
     digest: &mut Digest,
 ) -> Result<(), Error> {
-    let Some(layout) = Layout::of(alloc, ty)? else {
-        return Err(Error::NotRead);
-    };
-    let mut to = random.bytes(alloc, WORDS)?;
-    for _ in 0..ROUNDS {
-        let from = random.bytes(alloc, WORDS)?;
-        for path in paths {
-            change_part(alloc, &layout, path, &from, &mut to, digest)?;
-        }
+    let mut to = random.bytes(alloc, parts.words)?;
+    for path in &parts.paths {
+        add_range(parts.layout.range(to.len(), path), digest);
     }
-    digest.add_bytes(&to);
+    for _ in 0..parts.rounds {
+        let from = random.bytes(alloc, parts.words)?;
+        for path in &parts.paths {
+            change_part(alloc, &parts.layout, path, &from, &mut to, digest)?;
+        }
+        digest.add_bytes(&to);
+    }
     Ok(())
 }
 
-// Writes the part of the bytes into others, and adds where it stands.
+fn add_range(range: Result<Range<usize>, LayoutRefusal>, digest: &mut Digest) {
+    match range {
+        Ok(range) => {
+            digest.add_count(range.start);
+            digest.add_count(range.end);
+        }
+        Err(refusal) => digest.add(number_of(refusal)),
+    }
+}
+
+// Writes the part of the bytes into others, and adds whether that was refused.
 fn change_part(
     alloc: Global,
     layout: &Layout,
@@ -146,29 +202,39 @@ fn change_part(
     if !value.is_storable() {
         return Err(Error::NotRead);
     }
-    digest.add(u64::from(layout.write(to, path, &value).is_ok()));
-    if let Ok(range) = layout.range(to.len(), path) {
-        digest.add_count(range.start);
+    match layout.write(to, path, &value) {
+        Ok(()) => digest.add(0),
+        Err(refusal) => digest.add(number_of(refusal)),
     }
     Ok(())
 }
 
+fn number_of(refusal: LayoutRefusal) -> u64 {
+    match refusal {
+        LayoutRefusal::TooFewBytes => 1,
+        LayoutRefusal::NoPart => 2,
+        LayoutRefusal::OtherType => 3,
+        LayoutRefusal::OtherLength => 4,
+    }
+}
+
 // A structure of so many members.
-fn block(alloc: Global, count: u32) -> Result<Type, AllocError> {
+fn block(alloc: Global, number: u32, count: u32) -> Result<Type, AllocError> {
     let mut members = Vec::new(alloc);
-    for number in 0..count {
-        let form = UNIFORMS[number as usize % UNIFORMS.len()];
+    for member in 0..count {
+        let form = UNIFORMS[member as usize % UNIFORMS.len()];
         members.push(StructMemberType {
-            name: member_name(alloc, number)?,
+            name: member_name(alloc, member)?,
             ty: form.ty(alloc)?,
-            size: match number % 4 {
+            size: match member % 4 {
                 3 => Some(64),
                 _ => None,
             },
             align: Some(16),
         })?;
     }
-    structure(alloc, "Block", members)
+    let name = format!(in alloc; "Block_{number}")?;
+    structure(alloc, name.as_str(), members)
 }
 
 fn member_name(alloc: Global, number: u32) -> Result<String, AllocError> {
@@ -194,14 +260,15 @@ fn path(alloc: Global, number: u32, inner: MemView) -> Result<MemView, AllocErro
     Ok(MemView::Member(name, Box::new(alloc, inner)?))
 }
 
-// The path to a member of each light.
+// The paths to the members of the lights.
 fn light_paths(alloc: Global) -> Result<Vec<MemView>, AllocError> {
     let mut paths = Vec::new(alloc);
-    for number in 0..16usize {
-        let (name, _, _) = LIGHT[number % LIGHT.len()];
-        let name = String::from_str(alloc, name)?;
-        let member = MemView::Member(name, Box::new(alloc, MemView::Whole)?);
-        paths.push(MemView::Index(number, Box::new(alloc, member)?))?;
+    for number in 0..LIGHTS {
+        for (name, _, _) in LIGHT {
+            let name = String::from_str(alloc, name)?;
+            let member = MemView::Member(name, Box::new(alloc, MemView::Whole)?);
+            paths.push(MemView::Index(number, Box::new(alloc, member)?))?;
+        }
     }
     Ok(paths)
 }

@@ -24,8 +24,15 @@ impl Digest {
         self.add(n as u64);
     }
 
+    /// How many bytes there are, and these, eight at once.
     pub(crate) fn add_bytes(&mut self, bytes: &[u8]) {
-        for byte in bytes {
+        self.add_count(bytes.len());
+        let mut rest = bytes;
+        while let Some((word, behind)) = rest.split_first_chunk::<8>() {
+            self.add(u64::from_le_bytes(*word));
+            rest = behind;
+        }
+        for byte in rest {
             self.add(u64::from(*byte));
         }
     }

@@ -28,6 +28,8 @@ pub(crate) enum Instruction {
     Copy(usize, usize),
     /// A pointer to what a handle names into a register.
     Pointer(usize, usize),
+    /// A pointer to the part of a handle that a register counts into a register.
+    PartPointer(usize, usize, usize),
     /// The operator on two registers.
     Operator(usize, BinaryOperator, usize, usize),
     /// The function of two registers.

@@ -77,6 +77,7 @@ impl Machine {
             Instruction::Write(to, from) => self.write(to, from),
             Instruction::Copy(to, from) => self.copy(to, from),
             Instruction::Pointer(to, from) => self.point(to, from),
+            Instruction::PartPointer(to, of, by) => self.point_to_part(to, of, by),
             Instruction::Operator(to, operator, a, b) => self.operate(to, operator, a, b),
             Instruction::Function(to, function, a, b) => self.call(to, function, a, b),
             Instruction::Clamp(to, a, low, high) => self.clamp(to, a, low, high),
@@ -143,6 +144,13 @@ impl Machine {
         let reference = kept(&self.store, &self.handles, from)?;
         let pointer = PtrInstance::from(reference.clone(self.alloc)?);
         self.set(to, Instance::from(pointer))
+    }
+
+    fn point_to_part(&mut self, to: usize, of: usize, by: usize) -> Result<(), Error> {
+        let number = number(&self.registers, by)?;
+        let reference = kept(&self.store, &self.handles, of)?;
+        let made = reference.view_index(self.alloc, &self.store, number)?;
+        self.set(to, Instance::from(PtrInstance::from(made)))
     }
 
     fn operate(

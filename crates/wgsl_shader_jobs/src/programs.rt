@@ -3,8 +3,8 @@
 use crate::instruction::Function::{Dot, Max, Min};
 use crate::instruction::Instruction;
 use crate::instruction::Instruction::{
-    ArrayLength, AtomicAdd, Clamp, Copy, Index, Literal, Member, Operator, Pointer, Read, Select,
-    Write,
+    ArrayLength, AtomicAdd, Clamp, Copy, Index, Literal, Member, Operator, PartPointer, Pointer,
+    Read, Select, Write,
 };
 use wgsl_types::BinaryOperator::{
     Addition, BitwiseXor, LessThan, Multiplication, Remainder, ShiftRight, Subtraction,
@@ -37,7 +37,7 @@ const PART: usize = 10;
 
 const INNER: usize = 11;
 
-/// The registers that each invocation finds.
+/// The registers that each invocation finds: its number, and any number that names another element.
 pub(crate) const INVOCATION: usize = 0;
 
 pub(crate) const RANDOM: usize = 1;
@@ -55,64 +55,68 @@ const FACTOR: usize = 6;
 
 const EIGHT: usize = 7;
 
-const LOW: usize = 8;
+const TOTAL_POINTER: usize = 8;
 
-const HIGH: usize = 9;
+const BINS_POINTER: usize = 9;
 
-const TOTAL_POINTER: usize = 10;
+const KEYS_LENGTH: usize = 10;
 
-const KEYS_LENGTH: usize = 11;
+// Registers that are filled anew, but for the bounds.
+const A: usize = 11;
 
-// Registers that are filled anew.
-const A: usize = 12;
+const B: usize = 12;
 
-const B: usize = 13;
+const LOW: usize = 13;
 
-const C: usize = 14;
+const HIGH: usize = 14;
 
-const AT: usize = 15;
+const OWN: usize = 15;
 
-const POINTER: usize = 16;
+const FURTHER: usize = 16;
+
+const C: usize = 17;
+
+const AT: usize = 18;
+
+const POINTER: usize = 19;
 
 /// Fills the registers and buffers that all invocations read.
-pub(crate) const SET_UP: [Instruction; 24] = [
+pub(crate) const SET_UP: [Instruction; 18] = [
     Literal(ZERO, U32(0)),
     Literal(ONE, U32(1)),
     Literal(NOTHING, I32(0)),
     Literal(BITS, U32(31)),
     Literal(FACTOR, U32(1_664_525)),
     Literal(EIGHT, U32(8)),
-    Index(PLACE, BOUNDS, ZERO),
-    Index(OTHER, BOUNDS, ONE),
-    Read(LOW, PLACE),
-    Read(HIGH, OTHER),
     Pointer(TOTAL_POINTER, TOTAL),
+    Pointer(BINS_POINTER, BINS),
     Pointer(KEYS_LENGTH, KEYS),
     ArrayLength(KEYS_LENGTH, KEYS_LENGTH),
-    Index(PART, PLACE, ZERO),
-    Index(INNER, PLACE, ONE),
-    Instruction::Function(A, Min, LOW, HIGH),
-    Instruction::Function(B, Max, LOW, HIGH),
-    Write(PLACE, A),
-    Write(OTHER, B),
-    Read(LOW, PLACE),
-    Read(HIGH, OTHER),
-    Read(C, SHIFTS),
-    Operator(C, Remainder, C, BITS),
-    Write(SHIFTS, C),
+    Index(PLACE, BOUNDS, ZERO),
+    Index(OTHER, BOUNDS, ONE),
+    Read(A, PLACE),
+    Read(B, OTHER),
+    Instruction::Function(LOW, Min, A, B),
+    Instruction::Function(HIGH, Max, A, B),
+    Write(PLACE, LOW),
+    Write(OTHER, HIGH),
 ];
 
-/// Hashes a vector, and leaves a number in `A`.
-pub(crate) const HASH: [Instruction; 16] = [
-    Operator(AT, Remainder, INVOCATION, KEYS_LENGTH),
-    Index(PLACE, HASHES, AT),
+/// Counts the elements of an invocation, hashes a vector by shifts that change with each, and leaves a number in `A`.
+pub(crate) const HASH: [Instruction; 20] = [
+    Operator(OWN, Remainder, INVOCATION, KEYS_LENGTH),
+    Operator(FURTHER, Remainder, RANDOM, KEYS_LENGTH),
+    Index(PLACE, HASHES, OWN),
     Read(A, PLACE),
     Operator(A, Multiplication, A, FACTOR),
     Operator(A, Addition, A, RANDOM),
     Read(B, SHIFTS),
-    Operator(C, ShiftRight, A, B),
+    Operator(C, Remainder, B, BITS),
+    Operator(C, ShiftRight, A, C),
     Operator(A, BitwiseXor, A, C),
     Write(PLACE, A),
+    Operator(B, BitwiseXor, B, A),
+    Write(SHIFTS, B),
     Index(PART, PLACE, ZERO),
     Index(INNER, PLACE, ONE),
     Read(B, PART),
@@ -122,40 +126,36 @@ pub(crate) const HASH: [Instruction; 16] = [
     Instruction::Function(A, Dot, A, A),
 ];
 
-/// Counts the number in `A`.
-pub(crate) const HISTOGRAM: [Instruction; 7] = [
-    Pointer(POINTER, BINS),
-    ArrayLength(B, POINTER),
+/// Counts the number in `A`, and leaves what was counted before in `B`.
+pub(crate) const HISTOGRAM: [Instruction; 5] = [
+    ArrayLength(B, BINS_POINTER),
     Operator(AT, Remainder, A, B),
-    Index(PLACE, BINS, AT),
-    Pointer(POINTER, PLACE),
+    PartPointer(POINTER, BINS, AT),
     AtomicAdd(B, POINTER, ONE),
     AtomicAdd(B, TOTAL_POINTER, B),
 ];
 
-/// Puts two keys in their order, and adds one sum to another.
-pub(crate) const SORT: [Instruction; 15] = [
-    Operator(AT, Remainder, INVOCATION, KEYS_LENGTH),
-    Operator(C, Remainder, RANDOM, KEYS_LENGTH),
-    Index(PLACE, KEYS, AT),
-    Index(OTHER, KEYS, C),
+/// Changes a key by `B`, puts it and another in their order, and adds one of them to a sum.
+pub(crate) const SORT: [Instruction; 14] = [
+    Index(PLACE, KEYS, OWN),
+    Index(OTHER, KEYS, FURTHER),
     Read(A, PLACE),
+    Operator(A, BitwiseXor, A, B),
     Read(B, OTHER),
-    Index(PART, SUMS, AT),
-    Index(INNER, SUMS, C),
     Instruction::Function(C, Min, A, B),
     Instruction::Function(B, Max, A, B),
     Write(PLACE, C),
     Write(OTHER, B),
+    Index(PART, SUMS, OWN),
+    Index(INNER, SUMS, FURTHER),
     Read(A, INNER),
     Operator(A, Addition, A, B),
     Write(PART, A),
 ];
 
-/// Moves a particle, and keeps where it has been.
+/// Moves a particle, which is drawn back to where it came from, and keeps where it has been.
 pub(crate) const PARTICLE: [Instruction; 25] = [
-    Operator(AT, Remainder, INVOCATION, KEYS_LENGTH),
-    Index(PLACE, PARTICLES, AT),
+    Index(PLACE, PARTICLES, OWN),
     Member(PART, PLACE, "position"),
     Member(INNER, PLACE, "velocity"),
     Read(A, PART),
@@ -164,6 +164,8 @@ pub(crate) const PARTICLE: [Instruction; 25] = [
     Clamp(A, A, LOW, HIGH),
     Write(PART, A),
     Instruction::Function(C, Dot, A, B),
+    Operator(B, Subtraction, B, A),
+    Write(INNER, B),
     Member(INNER, PLACE, "state"),
     Member(OTHER, INNER, "energy"),
     Read(B, OTHER),
@@ -175,8 +177,7 @@ pub(crate) const PARTICLE: [Instruction; 25] = [
     Operator(AT, Remainder, RANDOM, EIGHT),
     Index(OTHER, OTHER, AT),
     Write(OTHER, RANDOM),
-    Operator(AT, Remainder, RANDOM, KEYS_LENGTH),
-    Index(OTHER, PARTICLES, AT),
+    Index(OTHER, PARTICLES, FURTHER),
     Member(OTHER, OTHER, "state"),
     Copy(OTHER, INNER),
 ];

@@ -4,8 +4,8 @@ use crate::digest::Digest;
 use crate::forms::{Form, Member, array, members, structure, structure_with};
 use crate::machine::Machine;
 use crate::programs::{
-    BINS, BOUNDS, HASH, HASHES, HISTOGRAM, INVOCATION, KEYS, PARTICLE, PARTICLES, RANDOM, SET_UP,
-    SHIFTS, SORT, SUMS, TOTAL,
+    BINS, BOUNDS, HASH, HASHES, HISTOGRAM, INVOCATION, PARTICLE, PARTICLES, RANDOM, SET_UP, SHIFTS,
+    SORT, TOTAL,
 };
 use crate::random::Random;
 use std::alloc::{AllocError, Global};
@@ -44,16 +44,19 @@ pub(crate) fn run(
         machine.run(&SORT)?;
         machine.run(&PARTICLE)?;
     }
-    for handle in [HASHES, BINS, TOTAL, KEYS, SUMS, PARTICLES] {
+    for handle in HASHES..=BOUNDS {
         machine.add_bytes(handle, digest)?;
     }
     Ok(())
 }
 
-// Fills what an invocation finds.
+// Fills what an invocation finds: its number, and one that names another element.
 fn invoke(machine: &mut Machine, random: &mut Random, number: u32) -> Result<(), Error> {
+    let drawn = random.number();
+    let is_own = drawn as usize % ELEMENTS == number as usize % ELEMENTS;
+    let other = if is_own { drawn ^ 1 } else { drawn };
     machine.set(INVOCATION, Instance::from(number))?;
-    machine.set(RANDOM, Instance::from(random.number()))
+    machine.set(RANDOM, Instance::from(other))
 }
 
 // The buffers, in the order of their handles.

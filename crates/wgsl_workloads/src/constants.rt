@@ -3,7 +3,7 @@
 use crate::digest::Digest;
 use crate::random::Random;
 use std::alloc::{AllocError, Global};
-use wgsl_eval::{Outcome, evaluate};
+use wgsl_eval::{Need, Outcome, evaluate};
 use wgsl_source::Reading;
 use wgsl_types::{Error, ShaderStage};
 
@@ -101,15 +101,32 @@ fn add_link(text: &mut String, random: &mut Random, number: u32) -> Result<(), A
 // The values of a module.
 fn add_values(alloc: Global, text: &str, digest: &mut Digest) -> Result<(), AllocError> {
     let reading = Reading::of_module(alloc, text)?;
-    digest.add_count(reading.faults().len());
+    digest.add_faults(alloc, reading.faults())?;
     let evaluation = evaluate(alloc, &reading, ShaderStage::Const, false)?;
-    digest.add_count(evaluation.messages.len());
+    digest.add_messages(&evaluation.messages);
+    digest.add_count(evaluation.values.len());
     for value in &evaluation.values {
-        match &value.outcome {
-            Outcome::Value(instance) => digest.add_value(alloc, instance)?,
-            Outcome::Skipped(_) => digest.add(98),
-            Outcome::Faulty => digest.add(99),
+        digest.add_count(value.token);
+        add_outcome(alloc, &value.outcome, digest)?;
+    }
+    Ok(())
+}
+
+// The value, or what of the source is not evaluated, and why.
+fn add_outcome(alloc: Global, outcome: &Outcome, digest: &mut Digest) -> Result<(), AllocError> {
+    match outcome {
+        Outcome::Value(instance) => {
+            digest.add(0);
+            digest.add_value(alloc, instance)?;
         }
+        Outcome::Skipped(skip) => {
+            digest.add(match skip.need {
+                Need::Float => 1,
+                Need::NotConstant => 2,
+            });
+            digest.add_extent(skip.start, skip.end);
+        }
+        Outcome::Faulty => digest.add(3),
     }
     Ok(())
 }
