@@ -2,6 +2,7 @@
 //! looked at as often as a rule speaks of it. What the library finds is compared with it.
 
 use std::alloc::{AllocError, Global};
+use wgsl_source::{Fault, Reason};
 
 /// What a token is.
 #[derive(Clone, Copy, PartialEq, Eq)]
@@ -24,12 +25,11 @@ pub(super) struct Token {
     pub(super) end: usize,
 }
 
-/// The tokens of a source, and the byte where the comment begins that has no end, if there is one: the rest of the
-/// source is then in it.
+/// The tokens of a source, and the comment that has no end, if there is one: the rest of the source is then in it.
 #[derive(Drop)]
 pub(super) struct Lexed {
     pub(super) tokens: Vec<Token>,
-    pub(super) open_comment: Option<usize>,
+    pub(super) fault: Option<Fault>,
 }
 
 /// What begins a text: so many bytes, and the token that they are, if they are one.
@@ -61,18 +61,16 @@ pub(super) fn tokens_of(alloc: Global, text: &str) -> Result<Lexed, AllocError> 
             PieceKind::Token(kind) => tokens.push(Token { kind, start, end })?,
             PieceKind::Blank => {}
             PieceKind::OpenComment => {
-                let open_comment = Some(start);
-                return Ok(Lexed {
-                    tokens,
-                    open_comment,
-                });
+                let reason = Reason::OpenComment;
+                let fault = Some(Fault { start, end, reason });
+                return Ok(Lexed { tokens, fault });
             }
         }
         next = end;
     }
     Ok(Lexed {
         tokens,
-        open_comment: None,
+        fault: None,
     })
 }
 
