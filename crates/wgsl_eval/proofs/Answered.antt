@@ -14,9 +14,13 @@ use Rattle.wgsl_eval.specs.declared.answer.Answer.TheVariants as answers
 pub none-maybe : (p : Option Val) (a : Answer) → value_in a ≡ None → MayBe p a
 none-maybe p a h = rw h tt
 
-pub none-answer : (a : Answer) → value_in a ≡ None → IsAnswer a
-none-answer (answers.Value v) h = cc
-none-answer a h = tt
+pub fault-answer : (a : Answer) → IsFault a → IsAnswer a
+fault-answer (answers.Wrong m g) h = tt
+fault-answer a h = absurd h
+
+pub skipped-answer : (a : Answer) → IsSkipped a → IsAnswer a
+skipped-answer (answers.Skipped s) h = tt
+skipped-answer a h = absurd h
 
 pub fault-none : (a : Answer) → IsFault a → value_in a ≡ None
 fault-none (answers.Wrong m g) h = refl
@@ -34,7 +38,7 @@ faults-maybe p (Ok a) h = fault-maybe p a h
 faults-maybe p (Err e) h = tt
 
 pub faults-answer : (r : Result Answer AllocError) → IfOk r IsFault → IfOk r IsAnswer
-faults-answer (Ok a) h = none-answer a (fault-none a h)
+faults-answer (Ok a) h = fault-answer a h
 faults-answer (Err e) h = tt
 
 -- a value that was made, or none
@@ -50,7 +54,7 @@ pub maybes-same : (p q : Option Val) (r : Result Answer AllocError) → p ≡ q 
 maybes-same p q (Ok a) h k = maybe-same p q a h k
 maybes-same p q (Err e) h k = tt
 
-pub ruleset answered_steps = (faults-maybe, faults-answer, fault-maybe, none-maybe, none-answer, made-maybe, fault-none, skipped-none)
+pub ruleset answered_steps = (faults-maybe, faults-answer, fault-maybe, fault-answer, skipped-answer, none-maybe, made-maybe, fault-none, skipped-none)
 
 pub not_value-none : (a : Answer) → ((v : Value) → a ≡ answers.Value v → ⊥) → value_in a ≡ None
 not_value-none (answers.Value v) h = absurd (h v refl)

@@ -41,6 +41,7 @@ none-call_of : (callee : Answer) (given : List Answer) (a : Answer) → value_in
 none-call_of (answers.Type t) given a h = none-values (constructed (type_view t.ty)) given a h
 none-call_of (answers.Bitcast t) given a h = none-values (bitcast_alone (type_view t.ty)) given a h
 none-call_of (answers.Value v) given a h = h
+none-call_of (answers.Named n) given a h = h
 none-call_of (answers.Variable v) given a h = h
 none-call_of (answers.Skipped s) given a h = h
 none-call_of (answers.Wrong m g) given a h = h
@@ -63,6 +64,7 @@ copied-call (answers.Skipped s) c given a h k = absurd h
 copied-call (answers.Variable v) c given a h k = absurd h
 copied-call (answers.Bitcast t) c given a h k = let P : Answer → Type 0 = λ x. IsCallOf x given a in none-call_of (answers.Bitcast t) given a (subst P h k)
 copied-call (answers.Wrong m g) c given a h k = let P : Answer → Type 0 = λ x. IsCallOf x given a in subst P h k
+copied-call (answers.Named n) c given a h k = let P : Answer → Type 0 = λ x. IsCallOf x given a in subst P h k
 copied-call answers.Faulty c given a h k = let P : Answer → Type 0 = λ x. IsCallOf x given a in subst P h k
 
 pub copies-call : (m c : Answer) (given : List Answer) (r : Result Answer AllocError) → IsCopy m c → IfOk r (IsCallOf c given) → IfOk r (IsCallOf m given)

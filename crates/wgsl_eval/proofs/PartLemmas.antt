@@ -1,17 +1,23 @@
 -- What indexes and members give.
 use Rattle.std.specs.declared.alloc.AllocError.{AllocError}
-use Rattle.std.proofs.Common.{◌≡◌, ◌∙◌, ℕ, List, [], ◌∷◌, Option, Some, None, Result, Ok, Err, IfOk, IfSome, sym, ap, subst, rules, Box, Global, String, string_bytes}
-use Rattle.wgsl_rules.specs.Paths.{parts, viewed}
-use Rattle.wgsl_rules.specs.Values.{Step, Val, vector, index, member, IsStorable}
-use Rattle.wgsl_values.proofs.lemmas.Steps.{viewed-storable}
-use Rattle.wgsl_values.proofs.lemmas.Views.{steps_of-Index, steps_of-Member, value_of-Vec, vec_view-is}
-use Rattle.wgsl_values.specs.View.{steps_of, value_of, vec_view}
-use Rattle.wgsl_values.specs.declared.inst.Instance.{Instance, Vec}
+use Rattle.std.proofs.Common.{◌≡◌, ◌∙◌, ℕ, List, [], ◌∷◌, Option, Some, None, Result, Ok, Err, IfOk, IfSome, refl, sym, ap, subst, rules, Box, Global, String, string_bytes}
+use Rattle.std.specs.Prelude.{Bool, IsSomeAnd}
+use Rattle.std.specs.Option.{option_map}
+use Rattle.wgsl_rules.specs.Paths.{member_named, parts, viewed}
+use Rattle.wgsl_rules.specs.Values.{Step, Val, Vals, array_of, vector, matrix, index, item, member}
+use Rattle.wgsl_values.proofs.lemmas.Steps.{viewed-member, viewed-storable}
+use Rattle.wgsl_values.proofs.lemmas.Views.{array_view-is, mat_view-is, steps_of-Index, steps_of-Member, value_of-Array, value_of-Mat, value_of-Struct, value_of-Vec, vec_view-is}
+use Rattle.wgsl_values.specs.View.{array_view, mat_view, steps_of, struct_view, vals_view, value_of, vec_view}
+use Rattle.wgsl_values.specs.declared.inst.ArrayInstance.{ArrayInstance}
+use Rattle.wgsl_values.specs.declared.inst.Instance.{Instance, Array, Mat, Struct, Vec}
+use Rattle.wgsl_values.specs.declared.inst.MatInstance.{MatInstance}
+use Rattle.wgsl_values.specs.declared.inst.StructInstance.{StructInstance}
 use Rattle.wgsl_values.specs.declared.inst.VecInstance.{VecInstance}
 use Rattle.wgsl_values.specs.declared.view.MemView.{MemView, Whole, Member, Index, the_lemmas as view_lemmas}
 use Rattle.wgsl_eval.specs.Answers.{value_in}
 use Rattle.wgsl_eval.specs.Parts.{IsElement, IsMember, IsSwizzle, position_in}
 use Rattle.wgsl_eval.specs.declared.answer.Answer.{Answer}
+use Rattle.wgsl_eval.specs.declared.answer.Value.{Value}
 
 -- ---- views of one step
 
@@ -33,12 +39,18 @@ maybe-element : (v i : Val) (at : ℕ) (o : Option Val) → position_in i ≡ So
 maybe-element v i at None h k = tt
 maybe-element v i at (Some w) h k = element-is v i w at h k
 
-pub elements-viewed : (v i : Val) (at : ℕ) (view : MemView) (r : Result Answer AllocError) → position_in i ≡ Some at → steps_of view ≡ index at ∷ []
-    → IfOk r (λ a. IfSome (value_in a) (λ w. viewed (steps_of view) v ≡ Ok w)) → IfOk r (λ a. IfSome (value_in a) (IsElement v i))
-elements-viewed v i at view (Ok a) h s k = maybe-element v i at (value_in a) h (rw s at k)
-elements-viewed v i at view (Err e) h s k = tt
+whole-element : (o : Option Value) (i : Val) (at : ℕ) (a : Answer) → position_in i ≡ Some at
+    → IsSomeAnd o (λ v. IfSome (value_in a) (λ w. viewed (index at ∷ []) (value_of v.instance) ≡ Ok w)) → IsSomeAnd o (λ v. IfSome (value_in a) (IsElement (value_of v.instance) i))
+whole-element (Some v) i at a h k = maybe-element (value_of v.instance) i at (value_in a) h k
+whole-element None i at a h k = k
 
-pub ruleset element_steps = (elements-viewed, one_index)
+pub whole-elements : (o : Option Value) (i : Val) (at : ℕ) (r : Result Answer AllocError) → position_in i ≡ Some at
+    → IfOk r (λ a. IsSomeAnd o (λ v. IfSome (value_in a) (λ w. viewed (index at ∷ []) (value_of v.instance) ≡ Ok w)))
+    → IfOk r (λ a. IsSomeAnd o (λ v. IfSome (value_in a) (IsElement (value_of v.instance) i)))
+whole-elements o i at (Ok a) h k = whole-element o i at a h k
+whole-elements o i at (Err e) h k = tt
+
+pub ruleset element_steps = (whole-elements)
 
 -- ---- members
 
@@ -51,10 +63,16 @@ maybe-member : (name : List ℕ) (v : Val) (o : Option Val) → IfSome o (λ w. 
 maybe-member name v None k = tt
 maybe-member name v (Some w) k = member-is name v w k
 
-pub members-viewed : (name : List ℕ) (v : Val) (view : MemView) (r : Result Answer AllocError) → steps_of view ≡ member name ∷ []
-    → IfOk r (λ a. IfSome (value_in a) (λ w. viewed (steps_of view) v ≡ Ok w)) → IfOk r (λ a. IfSome (value_in a) (IsMember name v))
-members-viewed name v view (Ok a) s k = maybe-member name v (value_in a) (rw s at k)
-members-viewed name v view (Err e) s k = tt
+whole-member : (name : List ℕ) (o : Option Value) (a : Answer)
+    → IsSomeAnd o (λ v. IfSome (value_in a) (λ w. viewed (member name ∷ []) (value_of v.instance) ≡ Ok w)) → IsSomeAnd o (λ v. IfSome (value_in a) (IsMember name (value_of v.instance)))
+whole-member name (Some v) a k = maybe-member name (value_of v.instance) (value_in a) k
+whole-member name None a k = k
+
+pub whole-members : (name : List ℕ) (o : Option Value) (r : Result Answer AllocError)
+    → IfOk r (λ a. IsSomeAnd o (λ v. IfSome (value_in a) (λ w. viewed (member name ∷ []) (value_of v.instance) ≡ Ok w)))
+    → IfOk r (λ a. IsSomeAnd o (λ v. IfSome (value_in a) (IsMember name (value_of v.instance))))
+whole-members name o (Ok a) k = whole-member name o a k
+whole-members name o (Err e) k = tt
 
 pub members-swizzled : (name : List ℕ) (v : Instance) (x : VecInstance) (r : Result Answer AllocError) → v ≡ Vec x
     → IfOk r (λ a. IfSome (value_in a) (IsSwizzle name (parts (vec_view x)))) → IfOk r (λ a. IfSome (value_in a) (IsMember name (value_of v)))
@@ -62,10 +80,84 @@ members-swizzled name v x r is k =
     let whole : vector (parts (vec_view x)) ≡ value_of v = ap (λ y. vector (parts y)) (vec_view-is x) ∙ sym (vec_view-is x) ∙ sym (value_of-Vec x) ∙ sym (ap value_of is) in
     subst (λ (y : Val). IfOk r (λ a. IfSome (value_in a) (IsMember name y))) whole k
 
-pub ruleset member_steps = (members-viewed, members-swizzled, one_member)
+pub ruleset member_steps = (whole-members, members-swizzled)
 
--- a part of what may be stored may be, and so may its copy
-pub copy-storable : (steps : List Step) (w : Val) (x y z : Instance) → IsStorable w → viewed steps w ≡ Ok (value_of x) → value_of y ≡ value_of x → z ≡ y → IsStorable (value_of z)
-copy-storable steps w x y z h k e f =
-    let same : value_of x ≡ value_of z = sym (ap value_of f ∙ e) in
-    subst IsStorable same (viewed-storable steps w (value_of x) h k)
+-- ---- parts that are lent
+
+-- what is lent of a value is what a step leads to, where that is so of each
+lent : {A : Type 0} (o : Option A) (f : A → Val) (steps : List Step) (v : Val) (given : Option Val) → ((x : Val) → given ≡ Some x → viewed steps v ≡ Ok x)
+    → option_map f o ≡ given → IfSome o (λ x. viewed steps v ≡ Ok (f x))
+lent None f steps v given leads h = tt
+lent (Some x) f steps v given leads h = leads (f x) (sym h)
+
+-- an item is what an index leads to
+LeadsToItems : ℕ → Val → Type 0
+LeadsToItems i v = (x : Val) → item i (parts v) ≡ Some x → viewed (index i ∷ []) v ≡ Ok x
+
+array-leads : (i : ℕ) (runtime : Bool) (vs : Vals) → LeadsToItems i (array_of runtime vs)
+unfolding LeadsToItems
+array-leads i runtime vs = λ x h. rw h refl
+
+vector-leads : (i : ℕ) (vs : Vals) → LeadsToItems i (vector vs)
+unfolding LeadsToItems
+vector-leads i vs = λ x h. rw h refl
+
+matrix-leads : (i : ℕ) (vs : Vals) → LeadsToItems i (matrix vs)
+unfolding LeadsToItems
+matrix-leads i vs = λ x h. rw h refl
+
+lent-item : {A : Type 0} (o : Option A) (f : A → Val) (i : ℕ) (v w : Val) → v ≡ w → LeadsToItems i v
+    → option_map f o ≡ item i (parts v) → IfSome o (λ x. viewed (index i ∷ []) w ≡ Ok (f x))
+unfolding LeadsToItems
+lent-item o f i v w is leads h =
+    let P : Val → Type 0 = λ y. IfSome o (λ x. viewed (index i ∷ []) y ≡ Ok (f x)) in
+    subst P is (lent o f (index i ∷ []) v (item i (parts v)) leads h)
+
+pub lent-array : {A : Type 0} (o : Option A) (f : A → Val) (i : ℕ) (v : Instance) (a : ArrayInstance) → v ≡ Array a
+    → option_map f o ≡ item i (parts (array_view a)) → IfSome o (λ x. viewed (index i ∷ []) (value_of v) ≡ Ok (f x))
+lent-array o f i v a is h =
+    let P : Val → Type 0 = λ y. LeadsToItems i y in
+    lent-item o f i (array_view a) (value_of v) (sym (ap value_of is ∙ value_of-Array a))
+    (subst P (sym (array_view-is a)) (array-leads i a.runtime_sized (vals_view a.components.items))) h
+
+pub lent-vector : {A : Type 0} (o : Option A) (f : A → Val) (i : ℕ) (v : Instance) (a : VecInstance) → v ≡ Vec a
+    → option_map f o ≡ item i (parts (vec_view a)) → IfSome o (λ x. viewed (index i ∷ []) (value_of v) ≡ Ok (f x))
+lent-vector o f i v a is h =
+    let P : Val → Type 0 = λ y. LeadsToItems i y in
+    lent-item o f i (vec_view a) (value_of v) (sym (ap value_of is ∙ value_of-Vec a))
+    (subst P (sym (vec_view-is a)) (vector-leads i (vals_view a.components.items))) h
+
+pub lent-matrix : {A : Type 0} (o : Option A) (f : A → Val) (i : ℕ) (v : Instance) (a : MatInstance) → v ≡ Mat a
+    → option_map f o ≡ item i (parts (mat_view a)) → IfSome o (λ x. viewed (index i ∷ []) (value_of v) ≡ Ok (f x))
+lent-matrix o f i v a is h =
+    let P : Val → Type 0 = λ y. LeadsToItems i y in
+    lent-item o f i (mat_view a) (value_of v) (sym (ap value_of is ∙ value_of-Mat a))
+    (subst P (sym (mat_view-is a)) (matrix-leads i (vals_view a.columns.items))) h
+
+pub lent-structure : {A : Type 0} (o : Option A) (f : A → Val) (name : List ℕ) (v : Instance) (a : StructInstance) → v ≡ Struct a
+    → option_map f o ≡ option_map (λ p. p.1) (member_named name (struct_view a)) → IfSome o (λ x. viewed (member name ∷ []) (value_of v) ≡ Ok (f x))
+lent-structure o f name v a is h =
+    let P : Val → Type 0 = λ y. IfSome o (λ x. viewed (member name ∷ []) y ≡ Ok (f x)) in
+    let given : Option Val = option_map (λ (p : ℕ × Val). p.1) (member_named name (struct_view a)) in
+    let leads : (x : Val) → given ≡ Some x → viewed (member name ∷ []) (struct_view a) ≡ Ok x = λ x k. viewed-member name [] (struct_view a) x (sym k) in
+    subst P (sym (ap value_of is ∙ value_of-Struct a)) (lent o f (member name ∷ []) (struct_view a) given leads h)
+
+-- ---- answers of parts
+
+part-is : (steps : List Step) (v x : Val) (o : Option Val) → viewed steps v ≡ Ok x → o ≡ Some x → IfSome o (λ w. viewed steps v ≡ Ok w)
+part-is steps v x o h k =
+    let P : Option Val → Type 0 = λ q. IfSome q (λ w. viewed steps v ≡ Ok w) in
+    subst P (sym k) h
+
+pub parts-are : (steps : List Step) (v x : Val) (r : Result Answer AllocError) → viewed steps v ≡ Ok x → IfOk r (λ a. value_in a ≡ Some x)
+    → IfOk r (λ a. IfSome (value_in a) (λ w. viewed steps v ≡ Ok w))
+parts-are steps v x (Ok a) h k = part-is steps v x (value_in a) h k
+parts-are steps v x (Err e) h k = tt
+
+pub parts-along : (steps : List Step) (v : Val) (view : MemView) (r : Result Answer AllocError) → steps_of view ≡ steps
+    → IfOk r (λ a. IfSome (value_in a) (λ w. viewed (steps_of view) v ≡ Ok w)) → IfOk r (λ a. IfSome (value_in a) (λ w. viewed steps v ≡ Ok w))
+parts-along steps v view r e h =
+    let P : List Step → Type 0 = λ ss. IfOk r (λ a. IfSome (value_in a) (λ w. viewed ss v ≡ Ok w)) in
+    subst P e h
+
+pub ruleset part_steps = (viewed-storable, parts-are, parts-along, one_index, one_member)

@@ -45,6 +45,7 @@ no_type-nothing (answers.Bitcast t) b n h = fault-nothing b h
 no_type-nothing (answers.Variable v) b n h = fault-nothing b h
 no_type-nothing (answers.Skipped s) b n h = let P : Answer → Type 0 = λ x. IsNone x in subst P (sym h) tt
 no_type-nothing (answers.Wrong m g) b n h = let P : Answer → Type 0 = λ x. IsNone x in subst P (sym h) tt
+no_type-nothing (answers.Named k) b n h = let P : Answer → Type 0 = λ x. IsNone x in subst P (sym h) tt
 no_type-nothing answers.Faulty b n h = let P : Answer → Type 0 = λ x. IsNone x in subst P (sym h) tt
 
 pub no_types-nothing : (a : Answer) (r : Result Answer AllocError) → ((t : SizedType) → a ≡ answers.Type t → ⊥) → IfOk r (IsNoType a) → IfOk r IsNone

@@ -25,11 +25,6 @@ dropped xs i x h e = rw add-one (drop-cons xs i x h ∙ ap (λ y. y ∷ drop (su
 pub record IsRunSoFar (s : Setting) (all : List Step) (i : ℕ) (now : List Answer) : Type 0 where
   pub ran : (after : List Answer) → IsRun s (drop i all) now after → IsRun s all [] after
 
-pub run_none : (s : Setting) (all : List Step) (now : List Answer) → now ≡ [] → IsRunSoFar s all 0 now
-run_none s all now e =
-    let P : List Answer → Type 0 = λ answers. IsRunSoFar s all 0 answers in
-    subst P (sym e) (record { ran = λ after r. r })
-
 pub more : (s : Setting) (all : List Step) (i : ℕ) (now : List Answer) (d : Step) (a : Answer)
     → i < length all → IsRunSoFar s all i now → IsGiven s (get_or all i d) now a → IsRunSoFar s all (i + 1) (rest_of (get_or all i d) now ++ a ∷ [])
 more s all i now d a h so_far given = record {
@@ -37,14 +32,6 @@ more s all i now d a h so_far given = record {
       let P : List Step → Type 0 = λ ss. IsRun s ss now after in
       so_far.ran after (subst P (sym (dropped_at all i d h)) (a, given, r));
 }
-
-pub run_more : (s t : Setting) (all : List Step) (i : ℕ) (now next : List Answer) (d : Step) (a : Answer)
-    → i < length all → t ≡ s → next ≡ rest_of (get_or all i d) now ++ a ∷ []
-    → IsRunSoFar s all i now → IsGiven t (get_or all i d) now a → IsRunSoFar s all (i + 1) next
-run_more s t all i now next d a h same added so_far given =
-    let G : Setting → Type 0 = λ u. IsGiven u (get_or all i d) now a in
-    let P : List Answer → Type 0 = λ answers. IsRunSoFar s all (i + 1) answers in
-    subst P (sym added) (more s all i now d a h so_far (subst G same given))
 
 pub run_all : (s : Setting) (all : List Step) (now : List Answer) → IsRunSoFar s all (length all) now → IsRun s all [] now
 run_all s all now so_far =

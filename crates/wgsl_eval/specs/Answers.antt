@@ -24,9 +24,10 @@ value_in a = None
 abbrev pub IsSoundValue : Value → Type 0
 IsSoundValue v = IsStorable (value_of v.instance)
 
--- an answer whose value, if it has one, may be stored
+-- an answer whose value, if it has one, may be stored; what names a value is none
 abbrev pub IsAnswer : Answer → Type 0
 IsAnswer (answers.Value v) = IsStorable (value_of v.instance)
+IsAnswer (answers.Named n) = ⊥
 IsAnswer a = ⊤
 
 abbrev pub AreAnswers : List Answer → Type 0

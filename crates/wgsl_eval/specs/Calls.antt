@@ -17,7 +17,7 @@ use Rattle.wgsl_source.specs.declared.names.Generator.TheVariants as generators
 use Rattle.wgsl_source.specs.declared.names.Predeclared.{Predeclared}
 use Rattle.wgsl_source.specs.declared.names.Predeclared.TheVariants as named
 use Rattle.wgsl_values.specs.View.{value_of}
-use Rattle.wgsl_eval.specs.Answers.{AreSound, meaning_at, value_in}
+use Rattle.wgsl_eval.specs.Answers.{AreSound, IsAnswer, meaning_at, value_in}
 use Rattle.wgsl_eval.specs.Constructors.{MayBe, constructed, inferred_of}
 use Rattle.wgsl_eval.specs.Evaluators.{Setting}
 use Rattle.wgsl_eval.specs.Lists.{each_of}
@@ -36,7 +36,7 @@ values_of = each_of value_in
 -- these are the values, and may be stored; or there is an answer in their place that is no value
 abbrev pub AreValues : Option (List Val) → Arguments → Type 0
 AreValues vs (arguments.Values is size) = (vs ≡ Some (map value_of is.items)) × AreSound is.items
-AreValues vs (arguments.Other answer) = value_in answer ≡ None
+AreValues vs (arguments.Other answer) = (value_in answer ≡ None) × IsAnswer answer
 
 -- an answer that is a value is what this gives for the values of the arguments
 abbrev pub IsOfValuesOf : (List Val → Option Val) → List Answer → Answer → Type 0

@@ -5,6 +5,7 @@ ghost use Rattle.wgsl_rules.specs.View.{type_view};
 ghost use Rattle.wgsl_values.specs.View.{value_of};
 ghost use Rattle.wgsl_eval.specs.Answers.{at_most_largest};
 ghost use Rattle.wgsl_eval.specs.TypeNames.{IsFloatType};
+ghost use Rattle.wgsl_eval.specs.Waitings.{work_of};
 
 use crate::message::Message;
 use crate::types::is_float;
@@ -57,6 +58,9 @@ pub(crate) struct SizedType {
 #[derive(Drop)]
 pub(crate) enum Answer {
     Value(Value),
+    /// The value of the declaration of this number. It waits so for the step that takes it, and is copied where a step
+    /// takes all of it: no declaration is found to be this.
+    Named(usize),
     Type(SizedType),
     /// The function `bitcast` with its type.
     Bitcast(SizedType),
@@ -230,8 +234,10 @@ impl Skip {
 }
 
 impl Answer {
-    /// How much work a copy is.
-    pub(crate) fn work(&self) -> usize {
+    /// How much work a name of it is.
+    pub(crate) fn work(&self) -> usize
+        ensures { result ≡ work_of self.now }
+    {
         match self {
             Answer::Value(value) => value.size.parts,
             Answer::Type(ty) => ty.nodes.saturating_mul(NODE),

@@ -3,7 +3,7 @@
 ghost use Rattle.std.specs.Prelude.{◌≡◌, IfOk, None, is_none};
 ghost use Rattle.wgsl_rules.specs.Layout.{is_at_least};
 ghost use Rattle.wgsl_values.specs.View.{value_of};
-ghost use Rattle.wgsl_eval.specs.Answers.{AreAnswers, value_in};
+ghost use Rattle.wgsl_eval.specs.Answers.{AreAnswers, IsAnswer, value_in};
 ghost use Rattle.wgsl_eval.specs.Evaluators.{setting_of};
 ghost use Rattle.wgsl_eval.specs.Structures.{IsAttribute, IsNone, IsNumberOf, is_valid_for};
 
@@ -78,7 +78,9 @@ impl Evaluator<'_> {
     // What is left where no value is found: an attribute is a constant.
     fn no_number(&self, token: usize, answer: Answer) -> Result<Answer, AllocError>
         requires none { value_in answer ≡ None }
+        requires answer { IsAnswer answer }
         ensures none { IfOk result IsNone }
+        ensures answer { IfOk result IsAnswer }
     {
         match answer {
             Answer::Skipped(

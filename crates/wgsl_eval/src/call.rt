@@ -84,6 +84,7 @@ impl Evaluator<'_> {
         generator: Generator,
         mut arguments: Vec<Answer>,
     ) -> Result<Answer, AllocError>
+        requires { AreAnswers arguments.items }
         ensures generated { IfOk result (IsGenerated generator arguments.items) }
         ensures answer { IfOk result IsAnswer }
     {
@@ -101,6 +102,8 @@ impl Evaluator<'_> {
 
     // An array of as many elements as the second argument says.
     fn counted(&self, token: usize, inner: Answer, count: Answer) -> Result<Answer, AllocError>
+        requires inner { IsAnswer inner }
+        requires count { IsAnswer count }
         ensures generated { IfOk result (IsGenerated Generator.Array (inner ∷ count ∷ [])) }
         ensures answer { IfOk result IsAnswer }
     {
@@ -123,6 +126,7 @@ impl Evaluator<'_> {
         inner: Answer,
         count: Option<u32>,
     ) -> Result<Answer, AllocError>
+        requires { IsAnswer inner }
         ensures generated { IfOk result (IsGeneratedOf generator inner count) }
         ensures answer { IfOk result IsAnswer }
     {

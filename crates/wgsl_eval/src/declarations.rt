@@ -119,6 +119,8 @@ fn kind_of(declared: Option<Declared>, meaning: Answer) -> ItemKind
         Answer::Value(value) => ItemKind::Value(value.instance),
         Answer::Variable(variable) => ItemKind::Variable(variable),
         Answer::Skipped(_) => ItemKind::Skipped,
-        Answer::Bitcast(_) | Answer::Wrong(_, _) | Answer::Faulty => ItemKind::Faulty,
+        Answer::Named(_) | Answer::Bitcast(_) | Answer::Wrong(_, _) | Answer::Faulty => {
+            ItemKind::Faulty
+        }
     }
 }

@@ -181,6 +181,7 @@ impl Evaluator<'_> {
 
     /// What an answer that is no type leaves where a type belongs.
     pub(crate) fn no_type(&self, token: usize, answer: Answer) -> Result<Answer, AllocError>
+        requires { IsAnswer answer }
         ensures none { IfOk result (IsNoType answer) }
         ensures answer { IfOk result IsAnswer }
     {

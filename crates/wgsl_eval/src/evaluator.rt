@@ -1,6 +1,7 @@
 //! Walks the steps of expressions, whose answers wait on a stack of their own.
 
-ghost use Rattle.std.specs.Prelude.{if◌then◌else◌, [], ◌∷◌, ◌++◌, ◌≡◌, ◌≤◌, ◌+◌, ◌↔◌, ◌&&◌, ℕ, All, IfOk, IfSome, IsSome, IsTrue, MatchBool, None, OnOk, Some, false, is_some, length, map, replicate, unwrap_or, vec_len};
+ghost use Rattle.std.specs.Prelude.{if◌then◌else◌, [], ◌∷◌, ◌++◌, ◌≡◌, ◌<◌, ◌≤◌, ◌+◌, ◌↔◌, ◌&&◌, ℕ, All, IfOk, IfSome, IsSome, IsTrue, MatchBool, None, OnOk, Some, false, is_some, length, map, replicate, unwrap_or, vec_len};
+ghost use Rattle.std.specs.Bool.{OnTrue};
 ghost use Rattle.std.specs.List.Sorted.{IsSortedByKey};
 ghost use Rattle.std.specs.Option.{option_map};
 ghost use Rattle.std.specs.Ordering.{nat_cmp};
@@ -15,7 +16,7 @@ ghost use Rattle.wgsl_eval.specs.Evaluated.{AreEvaluated, setting_before, values
 ghost use Rattle.wgsl_eval.specs.Evaluation.{has_value, value_names};
 ghost use Rattle.wgsl_eval.specs.Evaluators.{setting_of};
 ghost use Rattle.wgsl_eval.specs.Given.{IsConverted, IsCopy, IsGiven, IsJudged, IsLanguageType, IsNamed, IsOfNumber, IsOfOne, IsOfTwo, IsOfValue, IsOfValues, UnlessRefused, below, is_decided, language_value, top};
-ghost use Rattle.wgsl_eval.specs.Waitings.{AreWaiting, IsDone, IsWaiting, Stands};
+ghost use Rattle.wgsl_eval.specs.Waitings.{AreWaiting, IsCharged, IsDone, IsWaiting, Stands, work_of};
 ghost use Rattle.wgsl_eval.specs.Meanings.{AreDeclared};
 ghost use Rattle.wgsl_eval.specs.Runs.{IsFound};
 ghost use Rattle.wgsl_eval.specs.TypeNames.{predeclared_type};
@@ -24,7 +25,7 @@ use crate::answer::{Answer, Guard, Need, Size, SizedType, Skip, Value};
 use crate::message::{Message, Messages};
 use crate::opaque::is_opaque;
 use crate::types::predeclared;
-use crate::waiting::{Waiting, popped_waiting};
+use crate::waiting::popped_waiting;
 use std::alloc::{AllocError, Global};
 use wgsl_apply::{
     Asked, against_operator, automatic, has_rank, is_of_numbers, is_short, refusal_text,
@@ -36,7 +37,7 @@ use wgsl_types::{
     BinaryOperator, Error, Instance, LiteralInstance, ShaderStage, Type, UnaryOperator,
 };
 
-/// The most parts of values that are made and copied in all.
+/// The most parts of values that are made and named in all.
 const WORK: usize = 1 << 22;
 
 /// The values of a source and what is told of them, in its order; of many messages the first that
@@ -183,56 +184,62 @@ impl<'a> Evaluator<'a> {
         ensures answer { IfOk result IsAnswer }
     {
         let steps = self.reading.steps(span);
-        let mut waiting = Vec::new(self.alloc);
+        let mut answers = Vec::new(self.alloc);
         for step in steps {
-            let next = self.step(*step, &mut waiting)?;
-            waiting.push(next)?;
+            let answer = self.step(*step, &mut answers)?;
+            answers.push(answer)?;
         }
-        self.last(&mut waiting)
+        self.keep_last(&mut answers)?;
+        Ok(popped_waiting(&mut answers))
     }
 
-    // Does a step, and takes what it needs of what waits away.
-    fn step(&mut self, step: Step, waiting: &mut Vec<Waiting>) -> Result<Waiting, AllocError>
+    // Does a step, and takes the answers that it needs away. Those of which it takes all are copied where they name a value.
+    fn step(&mut self, step: Step, answers: &mut Vec<Answer>) -> Result<Answer, AllocError>
         requires meanings { AreAnswers self.old.meanings.items }
-        requires waiting { AreWaiting self.old.meanings.items waiting.old.items }
+        requires answers { AreWaiting self.old.meanings.items answers.old.items }
         ensures keeps { setting_of self.new ≡ setting_of self.old }
-        ensures done { IfOk result (IsDone (setting_of self.old) step waiting.old.items waiting.new.items) }
-        ensures left { OnOk result (AreWaiting self.old.meanings.items waiting.new.items) }
+        ensures done { IfOk result (IsDone (setting_of self.old) step answers.old.items answers.new.items) }
+        ensures left { OnOk result (AreWaiting self.old.meanings.items answers.new.items) }
         ensures next { IfOk result (IsWaiting self.old.meanings.items) }
     {
         match step {
             Step::Name(token) => self.named(token),
-            Step::Number(token) => Ok(Waiting::Made(self.number(token)?)),
+            Step::Number(token) => self.number(token),
             Step::Unary(operator, token) => {
-                let operand = self.last(waiting)?;
-                Ok(Waiting::Made(self.unary(operator, token, operand)?))
+                self.keep_last(answers)?;
+                let operand = popped_waiting(answers);
+                self.unary(operator, token, operand)
             }
             Step::Binary(operator, token) => {
-                let right = self.last(waiting)?;
-                let left = self.last(waiting)?;
-                Ok(Waiting::Made(self.binary(operator, token, left, right)?))
+                self.keep_last(answers)?;
+                let right = popped_waiting(answers);
+                self.keep_last(answers)?;
+                let left = popped_waiting(answers);
+                self.binary(operator, token, left, right)
             }
             Step::Template(token, count) => {
-                let arguments = self.lasts(waiting, count)?;
-                Ok(Waiting::Made(self.template(token, arguments)?))
+                let arguments = self.taken(answers, count)?;
+                self.template(token, arguments)
             }
             Step::Call(token, Callee::Name, count) => {
-                let arguments = self.lasts(waiting, count)?;
-                Ok(Waiting::Made(self.call(token, arguments)?))
+                let arguments = self.taken(answers, count)?;
+                self.call(token, arguments)
             }
             Step::Call(token, Callee::Answer, count) => {
-                let arguments = self.lasts(waiting, count)?;
-                let callee = self.last(waiting)?;
-                Ok(Waiting::Made(self.call_answer(token, callee, arguments)?))
+                let arguments = self.taken(answers, count)?;
+                self.keep_last(answers)?;
+                let callee = popped_waiting(answers);
+                self.call_answer(token, callee, arguments)
             }
             Step::Member(token) => {
-                let whole = popped_waiting(waiting);
-                Ok(Waiting::Made(self.member(token, whole)?))
+                let whole = popped_waiting(answers);
+                self.member(token, whole)
             }
             Step::Index(token) => {
-                let index = self.last(waiting)?;
-                let whole = popped_waiting(waiting);
-                Ok(Waiting::Made(self.index(token, whole, index)?))
+                self.keep_last(answers)?;
+                let index = popped_waiting(answers);
+                let whole = popped_waiting(answers);
+                self.index(token, whole, index)
             }
         }
     }
@@ -317,7 +324,7 @@ impl Evaluator<'_> {
     /// Whether so much more may be made.
     pub(crate) fn spend(&mut self, parts: usize) -> bool
         ensures keeps { setting_of self.new ≡ setting_of self.old }
-        ensures work { MatchBool result (self.new.work + parts ≡ self.old.work) (self.new.work ≡ self.old.work) }
+        ensures work { MatchBool result (self.new.work + parts ≡ self.old.work) ((self.new.work ≡ self.old.work) × (self.old.work < parts)) }
     {
         match self.work.checked_sub(parts) {
             Some(left) => {
@@ -348,7 +355,7 @@ impl Evaluator<'_> {
     }
 
     // What a name stands for by itself.
-    fn named(&mut self, token: usize) -> Result<Waiting, AllocError>
+    fn named(&mut self, token: usize) -> Result<Answer, AllocError>
         requires { AreAnswers self.old.meanings.items }
         ensures keeps { setting_of self.new ≡ setting_of self.old }
         ensures named { IfOk result (λ w. (a : Answer) → Stands self.old.meanings.items w a → IsNamed (setting_of self.old) (word_at self.old.reading.now token) a) }
@@ -357,7 +364,7 @@ impl Evaluator<'_> {
         let reading = self.reading;
         match reading.number_of(reading.word(token)) {
             Some(number) => self.of_declared(token, number),
-            None => Ok(Waiting::Made(self.of_language(token)?)),
+            None => self.of_language(token),
         }
     }
 
@@ -379,34 +386,46 @@ impl Evaluator<'_> {
         }
     }
 
-    // What a declaration was found to stand for. A value with parts is charged for as it is named, and copied where all
-    // of it is taken.
-    fn of_declared(&mut self, token: usize, number: usize) -> Result<Waiting, AllocError>
+    // What a declaration was found to stand for. A value with parts is named by it, and copied where all of it is taken.
+    fn of_declared(&mut self, token: usize, number: usize) -> Result<Answer, AllocError>
         requires { AreAnswers self.old.meanings.items }
         ensures keeps { setting_of self.new ≡ setting_of self.old }
         ensures copy { IfOk result (λ w. (a : Answer) → Stands self.old.meanings.items w a → IsCopy (meaning_at self.old.meanings.items number) a) }
         ensures waiting { IfOk result (IsWaiting self.old.meanings.items) }
+        ensures work { IfOk result (IsCharged (work_of (meaning_at self.old.meanings.items number)) self.old.work self.new.work) }
     {
-        let Some(work) = self.parts_of(number) else {
-            return Ok(Waiting::Made(self.copied(token, number)?));
-        };
-        if self.spend(work) {
-            Ok(Waiting::Named(number))
+        if !self.is_charged(number) {
+            return self.too_large(token);
+        }
+        if self.has_parts(number) {
+            Ok(Answer::Named(number))
         } else {
-            Ok(Waiting::Made(self.too_large(token)?))
+            self.copy(token, number)
         }
     }
 
-    // How many values are in that of the declaration of the number, where that is a value with parts.
-    fn parts_of(&self, number: usize) -> Option<usize>
+    // Whether a name of the declaration may be charged for, which it is then: a value counts each time it is named.
+    fn is_charged(&mut self, number: usize) -> bool
+        ensures keeps { setting_of self.new ≡ setting_of self.old }
+        ensures work { MatchBool result
+            (self.new.work + work_of (meaning_at self.old.meanings.items number) ≡ self.old.work)
+            ((self.new.work ≡ self.old.work) × (self.old.work < work_of (meaning_at self.old.meanings.items number))) }
+    {
+        let work = match self.meanings.get(number) {
+            Some(meaning) => meaning.work(),
+            None => 1,
+        };
+        self.spend(work)
+    }
+
+    // Whether the declaration was found to be a value with parts.
+    fn has_parts(&self, number: usize) -> bool
         requires { AreAnswers self.now.meanings.items }
-        ensures { IfSome result (λ _. IsWaiting self.now.meanings.items (Waiting.Named number)) }
+        ensures { OnTrue result (IsWaiting self.now.meanings.items (Answer.Named number)) }
     {
         match self.meanings.get(number) {
-            Some(Answer::Value(value)) if !matches!(value.instance, Instance::Literal(_)) => {
-                Some(value.size.parts)
-            }
-            _ => None,
+            Some(Answer::Value(value)) => !matches!(value.instance, Instance::Literal(_)),
+            _ => false,
         }
     }
 
@@ -431,14 +450,19 @@ impl Evaluator<'_> {
         ensures keeps { setting_of self.new ≡ setting_of self.old }
         ensures copy { IfOk result (IsCopy (meaning_at self.old.meanings.items number)) }
         ensures answer { IfOk result IsAnswer }
+        ensures work { IfOk result (IsCharged (work_of (meaning_at self.old.meanings.items number)) self.old.work self.new.work) }
     {
-        let work = match self.meanings.get(number) {
-            Some(meaning) => meaning.work(),
-            None => 1,
-        };
-        if !self.spend(work) {
+        if !self.is_charged(number) {
             return self.too_large(token);
         }
+        self.copy(token, number)
+    }
+
+    fn copy(&self, token: usize, number: usize) -> Result<Answer, AllocError>
+        requires { AreAnswers self.now.meanings.items }
+        ensures copy { IfOk result (IsCopy (meaning_at self.now.meanings.items number)) }
+        ensures answer { IfOk result IsAnswer }
+    {
         match self.meanings.get(number) {
             Some(Answer::Value(value)) => Ok(Answer::Value(value.copy(self.alloc)?)),
             Some(Answer::Type(ty)) => Ok(Answer::Type(ty.copy(self.alloc)?)),

@@ -1,6 +1,6 @@
 //! Parts of values: elements, members and swizzles (WGSL: composite value decomposition expressions).
 
-ghost use Rattle.std.specs.Prelude.{◌≡◌, ◌==◌, IfOk, IfSome, IsSomeAnd, MatchOption, Ok, map, Some, option_map};
+ghost use Rattle.std.specs.Prelude.{[], ◌∷◌, ◌≡◌, ◌==◌, IfOk, IfSome, IsSomeAnd, MatchOption, Ok, map, Some, option_map};
 ghost use Rattle.std.specs.List.{position};
 ghost use Rattle.wgsl_eval.specs.Answers.{IsAnswer, IsFault, value_in};
 ghost use Rattle.wgsl_eval.specs.Evaluators.{setting_of};
@@ -18,7 +18,7 @@ ghost use Rattle.wgsl_eval.specs.Parts.{
 };
 ghost use Rattle.wgsl_eval.specs.Waitings.{IsWaiting, IsWhole, answer_of, value_at};
 ghost use Rattle.wgsl_rules.specs.Paths.{parts, viewed};
-ghost use Rattle.wgsl_rules.specs.Values.{IsStorable};
+ghost use Rattle.wgsl_rules.specs.Values.{IsStorable, index, member};
 ghost use Rattle.wgsl_source.specs.Readings.{word_at};
 ghost use Rattle.wgsl_scalar.specs.Literals.{literal_of as value_of_literal};
 ghost use Rattle.wgsl_values.specs.View.{steps_of, value_of, vec_view};
@@ -26,7 +26,7 @@ ghost use Rattle.wgsl_values.specs.View.{steps_of, value_of, vec_view};
 use crate::answer::{Answer, Guard, Size, Value};
 use crate::evaluator::Evaluator;
 use crate::literals::vector_of;
-use crate::waiting::{Waiting, Whole, whole_of};
+use crate::waiting::has_value;
 use std::alloc::{AllocError, Global};
 use wgsl_apply::{Asked, literal_of};
 use wgsl_types::{Instance, LiteralInstance, MemView, VecInstance};
@@ -36,7 +36,7 @@ impl Evaluator<'_> {
     pub(crate) fn index(
         &mut self,
         token: usize,
-        whole: Waiting,
+        whole: Answer,
         index: Answer,
     ) -> Result<Answer, AllocError>
         requires whole { IsWaiting self.old.meanings.items whole }
@@ -45,13 +45,19 @@ impl Evaluator<'_> {
         ensures element { IfOk result (IsElementOf (answer_of self.old.meanings.items whole) index) }
         ensures answer { IfOk result IsAnswer }
     {
-        match whole_of(whole) {
-            Ok(whole) => self.index_of(token, &whole, index),
-            Err(other) => self.unready(token, other),
+        if has_value(&whole) {
+            self.index_of(token, &whole, index)
+        } else {
+            self.unready(token, whole)
         }
     }
 
-    fn index_of(&mut self, token: usize, whole: &Whole, index: Answer) -> Result<Answer, AllocError>
+    fn index_of(
+        &mut self,
+        token: usize,
+        whole: &Answer,
+        index: Answer,
+    ) -> Result<Answer, AllocError>
         requires whole { IsWhole self.old.meanings.items whole.now }
         requires index { IsAnswer index }
         ensures keeps { setting_of self.new ≡ setting_of self.old }
@@ -68,7 +74,7 @@ impl Evaluator<'_> {
     fn element(
         &mut self,
         token: usize,
-        whole: &Whole,
+        whole: &Answer,
         index: &Instance,
     ) -> Result<Answer, AllocError>
         requires { IsWhole self.old.meanings.items whole.now }
@@ -77,14 +83,46 @@ impl Evaluator<'_> {
         ensures answer { IfOk result IsAnswer }
     {
         match position_of(index) {
-            Position::At(at) => {
-                let view = MemView::Index(at, Box::new(self.alloc, MemView::Whole)?);
-                let value = self.whole(whole);
-                let size = value.size.part(count_of(&value.instance));
-                self.viewed(token, whole, &view, size)
-            }
+            Position::At(at) => self.element_at(token, whole, at),
             Position::Negative => self.negative(token, index),
             Position::None => self.wrong_text(token, "an index is an integer"),
+        }
+    }
+
+    fn element_at(&mut self, token: usize, whole: &Answer, at: usize) -> Result<Answer, AllocError>
+        requires { IsWhole self.old.meanings.items whole.now }
+        ensures keeps { setting_of self.new ≡ setting_of self.old }
+        ensures part { IfOk result (λ answer. IsSomeAnd (value_at self.old.meanings.items whole.now) (λ v. IfSome (value_in answer) (λ w. viewed (index at ∷ []) (value_of v.instance) ≡ Ok w))) }
+        ensures answer { IfOk result IsAnswer }
+    {
+        let value = self.whole(whole);
+        let size = value.size.part(count_of(&value.instance));
+        if !self.spend(size.parts) {
+            return self.too_large(token);
+        }
+        let value = self.whole(whole);
+        self.element_of(token, &value.instance, at, size)
+    }
+
+    // An element of this size; what is refused needs memory for its view.
+    #[tactic(auto, using(crate::proofs::PartLemmas::part_steps))]
+    fn element_of(
+        &self,
+        token: usize,
+        whole: &Instance,
+        at: usize,
+        size: Size,
+    ) -> Result<Answer, AllocError>
+        requires { IsStorable (value_of whole.now) }
+        ensures part { IfOk result (λ answer. IfSome (value_in answer) (λ v. viewed (index at ∷ []) (value_of whole.now) ≡ Ok v)) }
+        ensures answer { IfOk result IsAnswer }
+    {
+        match indexed(whole, at) {
+            Some(element) => part_answer(self.alloc, element, size),
+            None => {
+                let view = MemView::Index(at, Box::new(self.alloc, MemView::Whole)?);
+                self.part_viewed(token, whole, &view, size)
+            }
         }
     }
 
@@ -97,25 +135,7 @@ impl Evaluator<'_> {
         Ok(self.wrong(token, Guard::Guarded, text))
     }
 
-    fn viewed(
-        &mut self,
-        token: usize,
-        whole: &Whole,
-        view: &MemView,
-        size: Size,
-    ) -> Result<Answer, AllocError>
-        requires { IsWhole self.old.meanings.items whole.now }
-        ensures keeps { setting_of self.new ≡ setting_of self.old }
-        ensures part { IfOk result (λ answer. IsSomeAnd (value_at self.old.meanings.items whole.now) (λ v. IfSome (value_in answer) (λ w. viewed (steps_of view.now) (value_of v.instance) ≡ Ok w))) }
-        ensures answer { IfOk result IsAnswer }
-    {
-        if !self.spend(size.parts) {
-            return self.too_large(token);
-        }
-        let value = self.whole(whole);
-        self.part_viewed(token, &value.instance, view, size)
-    }
-
+    #[tactic(auto, using(crate::proofs::PartLemmas::part_steps))]
     fn part_viewed(
         &self,
         token: usize,
@@ -128,29 +148,27 @@ impl Evaluator<'_> {
         ensures answer { IfOk result IsAnswer }
     {
         match whole.view(self.alloc, view) {
-            Ok(part) => {
-                let part = part.clone(self.alloc)?;
-                Ok(Answer::Value(Value::answered(part, size)))
-            }
+            Ok(part) => part_answer(self.alloc, part, size),
             Err(error) => self.refused(token, &error, Asked::Part),
         }
     }
 
     /// A member of a structure, or components of a vector.
-    pub(crate) fn member(&mut self, token: usize, whole: Waiting) -> Result<Answer, AllocError>
+    pub(crate) fn member(&mut self, token: usize, whole: Answer) -> Result<Answer, AllocError>
         requires { IsWaiting self.old.meanings.items whole }
         ensures keeps { setting_of self.new ≡ setting_of self.old }
         ensures member { IfOk result (IsMemberOf (word_at self.old.reading.now token) (answer_of self.old.meanings.items whole)) }
         ensures answer { IfOk result IsAnswer }
     {
-        match whole_of(whole) {
-            Ok(whole) => self.member_of(token, &whole),
-            Err(other) => self.unready(token, other),
+        if has_value(&whole) {
+            self.member_of(token, &whole)
+        } else {
+            self.unready(token, whole)
         }
     }
 
     #[tactic(auto, using(crate::proofs::PartLemmas::member_steps))]
-    fn member_of(&mut self, token: usize, whole: &Whole) -> Result<Answer, AllocError>
+    fn member_of(&mut self, token: usize, whole: &Answer) -> Result<Answer, AllocError>
         requires { IsWhole self.old.meanings.items whole.now }
         ensures keeps { setting_of self.new ≡ setting_of self.old }
         ensures member { IfOk result (λ answer. IsSomeAnd (value_at self.old.meanings.items whole.now) (λ v. IfSome (value_in answer) (IsMember (word_at self.old.reading.now token) (value_of v.instance)))) }
@@ -160,10 +178,37 @@ impl Evaluator<'_> {
         let size = value.size.part(1);
         match &value.instance {
             Instance::Vec(vector) => self.swizzle(token, vector),
-            _ => {
-                let name = String::from_str(self.alloc, self.reading.word(token))?;
+            _ => self.member_at(token, whole, size),
+        }
+    }
+
+    fn member_at(&mut self, token: usize, whole: &Answer, size: Size) -> Result<Answer, AllocError>
+        requires { IsWhole self.old.meanings.items whole.now }
+        ensures keeps { setting_of self.new ≡ setting_of self.old }
+        ensures part { IfOk result (λ answer. IsSomeAnd (value_at self.old.meanings.items whole.now) (λ v. IfSome (value_in answer) (λ w. viewed (member (word_at self.old.reading.now token) ∷ []) (value_of v.instance) ≡ Ok w))) }
+        ensures answer { IfOk result IsAnswer }
+    {
+        if !self.spend(size.parts) {
+            return self.too_large(token);
+        }
+        let value = self.whole(whole);
+        self.member_named(token, &value.instance, size)
+    }
+
+    // The member of the name that the token is, of this size; what is refused needs memory for its view.
+    #[tactic(auto, using(crate::proofs::PartLemmas::part_steps))]
+    fn member_named(&self, token: usize, whole: &Instance, size: Size) -> Result<Answer, AllocError>
+        requires { IsStorable (value_of whole.now) }
+        ensures part { IfOk result (λ answer. IfSome (value_in answer) (λ v. viewed (member (word_at self.now.reading.now token) ∷ []) (value_of whole.now) ≡ Ok v)) }
+        ensures answer { IfOk result IsAnswer }
+    {
+        let word = self.reading.word(token);
+        match named(whole, word) {
+            Some(member) => part_answer(self.alloc, member, size),
+            None => {
+                let name = String::from_str(self.alloc, word)?;
                 let view = MemView::Member(name, Box::new(self.alloc, MemView::Whole)?);
-                self.viewed(token, whole, &view, size)
+                self.part_viewed(token, whole, &view, size)
             }
         }
     }
@@ -191,6 +236,38 @@ impl Evaluator<'_> {
         write!(text, "no {word} of a vector of {count} components")?;
         Ok(self.wrong(token, Guard::Never, text))
     }
+}
+
+// The element at the index.
+fn indexed(value: &Instance, at: usize) -> Option<&Instance>
+    ensures { IfSome result (λ v. viewed (index at ∷ []) (value_of value.now) ≡ Ok (value_of v.now)) }
+{
+    match value {
+        Instance::Array(array) => array.get(at),
+        Instance::Vec(vector) => vector.get(at),
+        Instance::Mat(matrix) => matrix.col(at),
+        _ => None,
+    }
+}
+
+// The member of the name.
+fn named<'a>(value: &'a Instance, name: &str) -> Option<&'a Instance>
+    ensures { IfSome result (λ v. viewed (member name.now ∷ []) (value_of value.now) ≡ Ok (value_of v.now)) }
+{
+    match value {
+        Instance::Struct(structure) => structure.member(name),
+        _ => None,
+    }
+}
+
+// A part of this size, as an answer of its own.
+fn part_answer(alloc: Global, part: &Instance, size: Size) -> Result<Answer, AllocError>
+    requires { IsStorable (value_of part.now) }
+    ensures value { IfOk result (λ answer. value_in answer ≡ Some (value_of part.now)) }
+    ensures answer { IfOk result IsAnswer }
+{
+    let part = part.clone(alloc)?;
+    Ok(Answer::Value(Value::answered(part, size)))
 }
 
 /// Which element is asked for.

@@ -1,83 +1,55 @@
-//! What waits for the steps that take it.
+//! What waits for the steps that take it: answers, and values that are named.
 
-ghost use Rattle.std.specs.Prelude.{◌≡◌, [], ◌∷◌, IfErr, IfOk, None, OnOk, Some};
-ghost use Rattle.wgsl_eval.specs.Answers.{AreAnswers, IsAnswer};
-ghost use Rattle.wgsl_eval.specs.Waitings.{AreWaiting, IsTaken, IsWaiting, IsWhole, IsWholeOf, Stands, all_but_last, answer_of, last_waiting, value_at, value_of_answer};
+ghost use Rattle.std.specs.Prelude.{◌≡◌, [], ◌∷◌, IfOk, IsTrue, OnOk, Some, ◌↔◌};
+ghost use Rattle.wgsl_eval.specs.Answers.{AreAnswers, meaning_at};
+ghost use Rattle.wgsl_eval.specs.Given.{below, top};
+ghost use Rattle.wgsl_eval.specs.Waitings.{AreWaiting, HasValue, IsKept, IsTaken, IsWaiting, IsWhole, name_in, value_at};
 
 use crate::answer::{Answer, Value};
 use crate::evaluator::Evaluator;
 use std::alloc::AllocError;
 
-/// What waits for the step that takes it.
-#[derive(Drop)]
-pub(crate) enum Waiting {
-    /// What a step left.
-    Made(Answer),
-    /// The value of the declaration of this number, which is copied where a step takes all of it.
-    Named(usize),
-}
-
-/// A value of which a part is taken.
-#[derive(Drop)]
-pub(crate) enum Whole {
-    Own(Value),
-    /// That of the declaration of this number.
-    Named(usize),
-}
-
 impl Evaluator<'_> {
-    /// The last of what waits, to be kept.
-    pub(crate) fn last(&self, waiting: &mut Vec<Waiting>) -> Result<Answer, AllocError>
-        requires meanings { AreAnswers self.now.meanings.items }
-        requires waiting { AreWaiting self.now.meanings.items waiting.old.items }
-        ensures taken { IfOk result (λ a. IsTaken self.now.meanings.items 1 waiting.old.items (a ∷ []) waiting.new.items) }
-        ensures left { OnOk result (AreWaiting self.now.meanings.items waiting.new.items) }
-        ensures answer { IfOk result IsAnswer }
+    /// Copies the value that the last answer names, if it names one: a step takes all of it.
+    pub(crate) fn keep_last(&self, answers: &mut Vec<Answer>) -> Result<(), AllocError>
+        requires { AreWaiting self.now.meanings.items answers.old.items }
+        ensures kept { OnOk result (IsKept self.now.meanings.items answers.old.items answers.new.items) }
+        ensures left { OnOk result (AreWaiting self.now.meanings.items answers.new.items) }
     {
-        let last = popped_waiting(waiting);
-        self.kept(last)
+        let Some(number) = last_name(answers.as_slice()) else {
+            return Ok(());
+        };
+        let value = self.named_value(number).copy(self.alloc)?;
+        let _name = popped_waiting(answers);
+        answers.push(Answer::Value(value))?;
+        Ok(())
     }
 
-    /// So many of the last ones, to be kept, in their order.
-    pub(crate) fn lasts(
+    /// So many of the last answers, taken away, in their order; the values that they name are copied.
+    pub(crate) fn taken(
         &self,
-        waiting: &mut Vec<Waiting>,
+        answers: &mut Vec<Answer>,
         count: usize,
     ) -> Result<Vec<Answer>, AllocError>
-        requires meanings { AreAnswers self.now.meanings.items }
-        requires waiting { AreWaiting self.now.meanings.items waiting.old.items }
-        ensures taken { IfOk result (λ list. IsTaken self.now.meanings.items count waiting.old.items list.items waiting.new.items) }
-        ensures left { OnOk result (AreWaiting self.now.meanings.items waiting.new.items) }
+        requires { AreWaiting self.now.meanings.items answers.old.items }
+        ensures taken { IfOk result (λ list. IsTaken self.now.meanings.items count answers.old.items list.items answers.new.items) }
+        ensures left { OnOk result (AreWaiting self.now.meanings.items answers.new.items) }
         ensures answers { IfOk result (λ list. AreAnswers list.items) }
     {
         let mut list = Vec::with_capacity(self.alloc, count)?;
         for number in 0..count {
-            let answer = self.last(waiting)?;
+            self.keep_last(answers)?;
+            let answer = popped_waiting(answers);
             list.push(answer)?;
         }
         list.reverse();
         Ok(list)
     }
 
-    // What waits, to be kept: a named value is copied.
-    fn kept(&self, waiting: Waiting) -> Result<Answer, AllocError>
-        requires { IsWaiting self.now.meanings.items waiting }
-        ensures stands { IfOk result (Stands self.now.meanings.items waiting) }
-        ensures answer { IfOk result IsAnswer }
-    {
-        match waiting {
-            Waiting::Made(answer) => Ok(answer),
-            Waiting::Named(number) => {
-                let copy = self.named_value(number).copy(self.alloc)?;
-                Ok(Answer::Value(copy))
-            }
-        }
-    }
-
-    /// The value that the declaration of the number was found to be. The condition: it is one.
+    // The value that the declaration of the number was found to be. The condition: it is one.
     fn named_value(&self, number: usize) -> &Value
-        requires { IsWaiting self.now.meanings.items (Waiting.Named number) }
-        ensures { answer_of self.now.meanings.items (Waiting.Named number) ≡ Answer.Value result.now }
+        requires { IsWaiting self.now.meanings.items (Answer.Named number) }
+        ensures { meaning_at self.now.meanings.items number ≡ Answer.Value result.now }
     {
         match self.meanings.get(number) {
             Some(Answer::Value(value)) => value,
@@ -85,34 +57,49 @@ impl Evaluator<'_> {
         }
     }
 
-    /// The value of which a part is taken, lent.
-    pub(crate) fn whole<'a>(&'a self, whole: &'a Whole) -> &'a Value
-        requires { IsWhole self.now.meanings.items whole.now }
-        ensures { value_at self.now.meanings.items whole.now ≡ Some result.now }
+    /// The value that an answer has or names, lent. The condition: it has or names one.
+    pub(crate) fn whole<'a>(&'a self, answer: &'a Answer) -> &'a Value
+        requires { IsWhole self.now.meanings.items answer.now }
+        ensures { value_at self.now.meanings.items answer.now ≡ Some result.now }
     {
-        match whole {
-            Whole::Own(value) => value,
-            Whole::Named(number) => self.named_value(*number),
+        match answer {
+            Answer::Value(value) => value,
+            Answer::Named(number) => self.named_value(*number),
+            _ => unreachable!(),
         }
     }
 }
 
 /// The last of what waits, taken away; a fault that was told where nothing waits.
-pub(crate) fn popped_waiting(waiting: &mut Vec<Waiting>) -> Waiting
-    ensures last { result ≡ last_waiting waiting.old.items }
-    ensures left { waiting.new.items ≡ all_but_last waiting.old.items }
+pub(crate) fn popped_waiting(answers: &mut Vec<Answer>) -> Answer
+    ensures last { result ≡ top answers.old.items }
+    ensures left { answers.new.items ≡ below answers.old.items }
 {
-    waiting.pop().unwrap_or(Waiting::Made(Answer::Faulty))
+    answers.pop().unwrap_or(Answer::Faulty)
 }
 
-/// The value of which a part is taken, or the answer that is none.
-pub(crate) fn whole_of(waiting: Waiting) -> Result<Whole, Answer>
-    ensures whole { IfOk result (IsWholeOf waiting) }
-    ensures other { IfErr result (λ a. (waiting ≡ Waiting.Made a) × (value_of_answer a ≡ None)) }
+/// Whether an answer has or names a value.
+pub(crate) fn has_value(answer: &Answer) -> bool
+    ensures { IsTrue result ↔ HasValue answer.now }
 {
-    match waiting {
-        Waiting::Made(Answer::Value(value)) => Ok(Whole::Own(value)),
-        Waiting::Made(other) => Err(other),
-        Waiting::Named(number) => Ok(Whole::Named(number)),
+    matches!(answer, Answer::Value(_) | Answer::Named(_))
+}
+
+// The number of the declaration whose value the last answer names, if it names one.
+fn last_name(answers: &[Answer]) -> Option<usize>
+    ensures { result ≡ name_in (top answers.now) }
+{
+    match answers.last() {
+        Some(last) => name_in(last),
+        None => None,
+    }
+}
+
+fn name_in(answer: &Answer) -> Option<usize>
+    ensures { result ≡ name_in answer.now }
+{
+    match answer {
+        Answer::Named(number) => Some(*number),
+        _ => None,
     }
 }

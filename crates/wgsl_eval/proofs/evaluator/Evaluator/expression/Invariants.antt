@@ -7,6 +7,6 @@ use Rattle.wgsl_eval.proofs.evaluator.Evaluator.expression.Given as goal
 abbrev pub invariant-loop-step : goal.invariant-loop-step
 invariant-loop-step l = record {
   keeps : setting_of l.self ≡ setting_of l.fn.self;
-  waiting : AreWaiting l.self.meanings.items l.waiting.items;
-  so_far : AreRunSoFar (setting_of l.fn.self) l.steps l.step-index l.waiting.items;
+  waiting : AreWaiting l.self.meanings.items l.answers.items;
+  so_far : AreRunSoFar (setting_of l.fn.self) l.steps l.step-index l.answers.items;
 }

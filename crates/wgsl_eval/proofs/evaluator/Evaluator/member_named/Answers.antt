@@ -1,0 +1,9 @@
+use Rattle.std.proofs.Common.{[], ◌∷◌}
+use Rattle.wgsl_rules.specs.Values.{member}
+use Rattle.wgsl_values.proofs.lemmas.Steps.{viewed-storable}
+use Rattle.wgsl_values.specs.View.{value_of}
+use Rattle.wgsl_eval.proofs.evaluator.Evaluator.member_named.Goals as goal
+
+pub part_answer-requires : goal.part_answer-requires
+part_answer-requires c =
+    viewed-storable (member c.word-word.result.now ∷ []) (value_of c.args.whole.now) (value_of c.in-Some.member.now) c.requires c.in-Some.ensures
