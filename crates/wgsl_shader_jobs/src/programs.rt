@@ -113,7 +113,7 @@ pub(crate) const HASH: [Instruction; 20] = [
     Read(B, SHIFTS),
     Operator(C, Remainder, B, BITS),
     Operator(C, ShiftRight, A, C),
-    Operator(A, BitwiseXor, A, C),
+    Operator(A, Addition, A, C),
     Write(PLACE, A),
     Operator(B, BitwiseXor, B, A),
     Write(SHIFTS, B),
@@ -135,7 +135,7 @@ pub(crate) const HISTOGRAM: [Instruction; 5] = [
     AtomicAdd(B, TOTAL_POINTER, B),
 ];
 
-/// Changes a key by `B`, puts it and another in their order, and adds one of them to a sum.
+/// Changes a key by `B`, puts it and another in their order, and adds the first to a sum.
 pub(crate) const SORT: [Instruction; 14] = [
     Index(PLACE, KEYS, OWN),
     Index(OTHER, KEYS, FURTHER),
@@ -149,12 +149,12 @@ pub(crate) const SORT: [Instruction; 14] = [
     Index(PART, SUMS, OWN),
     Index(INNER, SUMS, FURTHER),
     Read(A, INNER),
-    Operator(A, Addition, A, B),
+    Operator(A, Addition, A, C),
     Write(PART, A),
 ];
 
 /// Moves a particle, which is drawn back to where it came from, and keeps where it has been.
-pub(crate) const PARTICLE: [Instruction; 25] = [
+pub(crate) const PARTICLE: [Instruction; 26] = [
     Index(PLACE, PARTICLES, OWN),
     Member(PART, PLACE, "position"),
     Member(INNER, PLACE, "velocity"),
@@ -165,6 +165,7 @@ pub(crate) const PARTICLE: [Instruction; 25] = [
     Write(PART, A),
     Instruction::Function(C, Dot, A, B),
     Operator(B, Subtraction, B, A),
+    Operator(B, Subtraction, B, C),
     Write(INNER, B),
     Member(INNER, PLACE, "state"),
     Member(OTHER, INNER, "energy"),
