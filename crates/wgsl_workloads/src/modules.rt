@@ -8,14 +8,12 @@ use wgsl_source::Reading;
 use wgsl_types::{AccessMode, AddressSpace, Error, StructType, Type, UniformRule};
 
 /// What most of a module is: the lines of functions, and comments.
-const LINES: [&str; 20] = [
+const LINES: [&str; 18] = [
     "    let position = vec3<f32>(in.position.xy * scale.xy, 0.5);\n",
     "    // The light comes from above, and is cut where the surface turns away from it.\n",
     "    var color = textureSample(albedo, linear_sampler, in.uv * 2.0 + offset);\n",
     "    if (dot(normal, light.direction) <= 0.0 || distance > light.range) { discard; }\n",
-    "    for (var i = 0u; i < arrayLength(&lights.items) && i < 64u; i++) {\n",
-    "        sum += lights.items[i].color.rgb * attenuation(distance, lights.items[i].range);\n",
-    "    }\n",
+    "    for (var i = 0u; i < arrayLength(&lights.items) && i < 64u; i++) {\n        sum += lights.items[i].color.rgb * attenuation(distance, lights.items[i].range);\n    }\n",
     "    let index = (cell.z * GRID.y + cell.y) * GRID.x + cell.x;\n",
     "    let hashed = (index ^ (index >> 16u)) * 0x45d9f3bu;\n",
     "    /* Shadows are looked up four times,\n       and mixed. */\n",
