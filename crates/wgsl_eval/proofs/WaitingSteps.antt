@@ -9,7 +9,6 @@ use Rattle.wgsl_rules.specs.declared.syntax.UnaryOperator.{UnaryOperator}
 use Rattle.wgsl_rules.specs.Values.{Val, IsStorable}
 use Rattle.wgsl_values.specs.View.{value_of}
 use Rattle.wgsl_source.specs.Readings.{steps_in, word_at}
-use Rattle.wgsl_source.specs.declared.expression.Callee.{Callee}
 use Rattle.wgsl_source.specs.declared.expression.Callee.TheVariants as callees
 use Rattle.wgsl_source.specs.declared.expression.Span.{Span}
 use Rattle.wgsl_source.specs.declared.expression.Step.{Step}
@@ -240,48 +239,36 @@ done_call s step n old mid new list o a G gives rest taken one given sound = λ 
 
 -- a step of each kind
 
-pub done_unary : (s : Setting) (step : Step) (old new : List Answer) (op : UnaryOperator) (token : ℕ) (o a : Answer) → step ≡ steps.Unary op token
-    → IsTaken s.meanings 1 old (o ∷ []) new → UnlessRefused s.source token a (IsOfOne op o a) → IsAnswer a → IsDone s step old new a
-done_unary s step old new op token o a is taken given sound =
-    let P : Step → Type 0 = λ x. IsDone s x old new a in
-    subst P (sym is) (done_one s (steps.Unary op token) old new o a (λ x b. UnlessRefused s.source token b (IsOfOne op x b)) (λ before b g. g) (λ before. refl) taken given sound)
+pub done_unary : (s : Setting) (old new : List Answer) (op : UnaryOperator) (token : ℕ) (o a : Answer)
+    → IsTaken s.meanings 1 old (o ∷ []) new → UnlessRefused s.source token a (IsOfOne op o a) → IsAnswer a → IsDone s (steps.Unary op token) old new a
+done_unary s old new op token o a taken given sound =
+    done_one s (steps.Unary op token) old new o a (λ x b. UnlessRefused s.source token b (IsOfOne op x b)) (λ before b g. g) (λ before. refl) taken given sound
 
-pub done_binary : (s : Setting) (step : Step) (old mid new : List Answer) (op : BinaryOperator) (token : ℕ) (l r a : Answer) → step ≡ steps.Binary op token
+pub done_binary : (s : Setting) (old mid new : List Answer) (op : BinaryOperator) (token : ℕ) (l r a : Answer)
     → IsTaken s.meanings 1 old (r ∷ []) mid → IsTaken s.meanings 1 mid (l ∷ []) new → UnlessRefused s.source token a (IsOfTwo s op l r a) → IsAnswer a
-    → IsDone s step old new a
-done_binary s step old mid new op token l r a is right left given sound =
-    let P : Step → Type 0 = λ x. IsDone s x old new a in
-    subst P (sym is)
-    (done_two s (steps.Binary op token) old mid new l r a (λ x y b. UnlessRefused s.source token b (IsOfTwo s op x y b)) (λ before b g. g) (λ before. refl) right left given sound)
+    → IsDone s (steps.Binary op token) old new a
+done_binary s old mid new op token l r a right left given sound =
+    done_two s (steps.Binary op token) old mid new l r a (λ x y b. UnlessRefused s.source token b (IsOfTwo s op x y b)) (λ before b g. g) (λ before. refl) right left given sound
 
--- the kind of a call, where that is another name of it
-pub call_is : (step : Step) (token n : ℕ) (f g : Callee) → step ≡ steps.Call token f n → f ≡ g → step ≡ steps.Call token g n
-call_is step token n f g is same = is ∙ ap (λ x. steps.Call token x n) same
+pub done_call_name : (s : Setting) (old new list : List Answer) (token n : ℕ) (a : Answer)
+    → IsTaken s.meanings n old list new → IsCall s (word_at s.source token) list a → IsAnswer a → IsDone s (steps.Call token callees.Name n) old new a
+done_call_name s old new list token n a taken given sound =
+    done_list s (steps.Call token callees.Name n) n old new list a (λ xs b. IsCall s (word_at s.source token) xs b) (λ before b g. g) (λ before. refl) taken given sound
 
-pub done_call_name : (s : Setting) (step : Step) (old new list : List Answer) (token n : ℕ) (a : Answer) → step ≡ steps.Call token callees.Name n
-    → IsTaken s.meanings n old list new → IsCall s (word_at s.source token) list a → IsAnswer a → IsDone s step old new a
-done_call_name s step old new list token n a is taken given sound =
-    let P : Step → Type 0 = λ x. IsDone s x old new a in
-    subst P (sym is) (done_list s (steps.Call token callees.Name n) n old new list a (λ xs b. IsCall s (word_at s.source token) xs b) (λ before b g. g) (λ before. refl) taken given sound)
+pub done_call_answer : (s : Setting) (old mid new list : List Answer) (token n : ℕ) (o a : Answer)
+    → IsTaken s.meanings n old list mid → IsTaken s.meanings 1 mid (o ∷ []) new → IsCallOf o list a → IsAnswer a → IsDone s (steps.Call token callees.Answer n) old new a
+done_call_answer s old mid new list token n o a taken one given sound =
+    done_call s (steps.Call token callees.Answer n) n old mid new list o a (λ x xs b. IsCallOf x xs b) (λ before b g. g) (λ before. refl) taken one given sound
 
-pub done_call_answer : (s : Setting) (step : Step) (old mid new list : List Answer) (token n : ℕ) (o a : Answer) → step ≡ steps.Call token callees.Answer n
-    → IsTaken s.meanings n old list mid → IsTaken s.meanings 1 mid (o ∷ []) new → IsCallOf o list a → IsAnswer a → IsDone s step old new a
-done_call_answer s step old mid new list token n o a is taken one given sound =
-    let P : Step → Type 0 = λ x. IsDone s x old new a in
-    subst P (sym is)
-    (done_call s (steps.Call token callees.Answer n) n old mid new list o a (λ x xs b. IsCallOf x xs b) (λ before b g. g) (λ before. refl) taken one given sound)
+pub done_member : (s : Setting) (old new : List Answer) (token : ℕ) (o a : Answer)
+    → IsTaken s.meanings 1 old (o ∷ []) new → IsMemberOf (word_at s.source token) o a → IsAnswer a → IsDone s (steps.Member token) old new a
+done_member s old new token o a taken given sound =
+    done_one s (steps.Member token) old new o a (IsMemberOf (word_at s.source token)) (λ before b g. g) (λ before. refl) taken given sound
 
-pub done_member : (s : Setting) (step : Step) (old new : List Answer) (token : ℕ) (o a : Answer) → step ≡ steps.Member token
-    → IsTaken s.meanings 1 old (o ∷ []) new → IsMemberOf (word_at s.source token) o a → IsAnswer a → IsDone s step old new a
-done_member s step old new token o a is taken given sound =
-    let P : Step → Type 0 = λ x. IsDone s x old new a in
-    subst P (sym is) (done_one s (steps.Member token) old new o a (IsMemberOf (word_at s.source token)) (λ before b g. g) (λ before. refl) taken given sound)
-
-pub done_index : (s : Setting) (step : Step) (old mid new : List Answer) (token : ℕ) (l r a : Answer) → step ≡ steps.Index token
-    → IsTaken s.meanings 1 old (r ∷ []) mid → IsTaken s.meanings 1 mid (l ∷ []) new → IsElementOf l r a → IsAnswer a → IsDone s step old new a
-done_index s step old mid new token l r a is right left given sound =
-    let P : Step → Type 0 = λ x. IsDone s x old new a in
-    subst P (sym is) (done_two s (steps.Index token) old mid new l r a IsElementOf (λ before b g. g) (λ before. refl) right left given sound)
+pub done_index : (s : Setting) (old mid new : List Answer) (token : ℕ) (l r a : Answer)
+    → IsTaken s.meanings 1 old (r ∷ []) mid → IsTaken s.meanings 1 mid (l ∷ []) new → IsElementOf l r a → IsAnswer a → IsDone s (steps.Index token) old new a
+done_index s old mid new token l r a right left given sound =
+    done_two s (steps.Index token) old mid new l r a IsElementOf (λ before b g. g) (λ before. refl) right left given sound
 
 -- ---- all steps
 

@@ -193,7 +193,7 @@ impl<'a> Evaluator<'a> {
         Ok(popped_waiting(&mut answers))
     }
 
-    // Does a step, and takes the answers that it needs away. Those of which it takes all are copied where they name a value.
+    // Does a step, and takes the answers that it needs away.
     fn step(&mut self, step: Step, answers: &mut Vec<Answer>) -> Result<Answer, AllocError>
         requires meanings { AreAnswers self.old.meanings.items }
         requires answers { AreWaiting self.old.meanings.items answers.old.items }
@@ -205,42 +205,15 @@ impl<'a> Evaluator<'a> {
         match step {
             Step::Name(token) => self.named(token),
             Step::Number(token) => self.number(token),
-            Step::Unary(operator, token) => {
-                self.keep_last(answers)?;
-                let operand = popped_waiting(answers);
-                self.unary(operator, token, operand)
-            }
-            Step::Binary(operator, token) => {
-                self.keep_last(answers)?;
-                let right = popped_waiting(answers);
-                self.keep_last(answers)?;
-                let left = popped_waiting(answers);
-                self.binary(operator, token, left, right)
-            }
-            Step::Template(token, count) => {
-                let arguments = self.taken(answers, count)?;
-                self.template(token, arguments)
-            }
-            Step::Call(token, Callee::Name, count) => {
-                let arguments = self.taken(answers, count)?;
-                self.call(token, arguments)
-            }
-            Step::Call(token, Callee::Answer, count) => {
-                let arguments = self.taken(answers, count)?;
-                self.keep_last(answers)?;
-                let callee = popped_waiting(answers);
-                self.call_answer(token, callee, arguments)
-            }
-            Step::Member(token) => {
-                let whole = popped_waiting(answers);
-                self.member(token, whole)
-            }
-            Step::Index(token) => {
-                self.keep_last(answers)?;
-                let index = popped_waiting(answers);
-                let whole = popped_waiting(answers);
-                self.index(token, whole, index)
-            }
+            Step::Unary(operator, token) => self.unary_step(operator, token, answers),
+            Step::Binary(operator, token) => self.binary_step(operator, token, answers),
+            Step::Template(token, count) => self.template_step(token, count, answers),
+            Step::Call(token, Callee::Name, count) => self.call_step(token, count, answers),
+            Step::Call(token, Callee::Answer, count) => self.call_answer_step(
+                token, count, answers,
+            ),
+            Step::Member(token) => self.member_step(token, answers),
+            Step::Index(token) => self.index_step(token, answers),
         }
     }
 }
@@ -472,7 +445,7 @@ impl Evaluator<'_> {
         }
     }
 
-    fn unary(
+    pub(crate) fn unary(
         &mut self,
         operator: UnaryOperator,
         token: usize,
@@ -507,7 +480,7 @@ impl Evaluator<'_> {
         }
     }
 
-    fn binary(
+    pub(crate) fn binary(
         &mut self,
         operator: BinaryOperator,
         token: usize,

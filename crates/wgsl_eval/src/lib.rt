@@ -13,6 +13,7 @@ mod literals;
 mod message;
 mod opaque;
 mod part;
+mod steps;
 mod structure;
 mod types;
 mod variable;

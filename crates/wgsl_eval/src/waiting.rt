@@ -11,14 +11,26 @@ use std::alloc::AllocError;
 
 impl Evaluator<'_> {
     /// Copies the value that the last answer names, if it names one: a step takes all of it.
+    #[inline]
     pub(crate) fn keep_last(&self, answers: &mut Vec<Answer>) -> Result<(), AllocError>
         requires { AreWaiting self.now.meanings.items answers.old.items }
         ensures kept { OnOk result (IsKept self.now.meanings.items answers.old.items answers.new.items) }
         ensures left { OnOk result (AreWaiting self.now.meanings.items answers.new.items) }
     {
-        let Some(number) = last_name(answers.as_slice()) else {
-            return Ok(());
-        };
+        match last_name(answers.as_slice()) {
+            Some(number) => self.keep(answers, number),
+            None => Ok(()),
+        }
+    }
+
+    // Puts a copy of the value of the declaration in the place of the last answer, which names it.
+    #[inline(never)]
+    fn keep(&self, answers: &mut Vec<Answer>, number: usize) -> Result<(), AllocError>
+        requires waiting { AreWaiting self.now.meanings.items answers.old.items }
+        requires named { name_in (top answers.old.items) ≡ Some number }
+        ensures kept { OnOk result (IsKept self.now.meanings.items answers.old.items answers.new.items) }
+        ensures left { OnOk result (AreWaiting self.now.meanings.items answers.new.items) }
+    {
         let value = self.named_value(number).copy(self.alloc)?;
         let _name = popped_waiting(answers);
         answers.push(Answer::Value(value))?;
@@ -71,6 +83,7 @@ impl Evaluator<'_> {
 }
 
 /// The last of what waits, taken away; a fault that was told where nothing waits.
+#[inline]
 pub(crate) fn popped_waiting(answers: &mut Vec<Answer>) -> Answer
     ensures last { result ≡ top answers.old.items }
     ensures left { answers.new.items ≡ below answers.old.items }
@@ -86,6 +99,7 @@ pub(crate) fn has_value(answer: &Answer) -> bool
 }
 
 // The number of the declaration whose value the last answer names, if it names one.
+#[inline]
 fn last_name(answers: &[Answer]) -> Option<usize>
     ensures { result ≡ name_in (top answers.now) }
 {
@@ -95,6 +109,7 @@ fn last_name(answers: &[Answer]) -> Option<usize>
     }
 }
 
+#[inline]
 fn name_in(answer: &Answer) -> Option<usize>
     ensures { result ≡ name_in answer.now }
 {
