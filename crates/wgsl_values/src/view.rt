@@ -35,7 +35,8 @@ use wgsl_scalar::Error;
 /// A way from a value to a part of it, the outermost step first.
 ///
 /// A view may have any number of steps: what goes along it (`clone`, `==`, its text, a last step that is
-/// put on, dropping it) does so in a loop, and takes no more stack where it is longer.
+/// put on, [`Instance::view`], dropping it) does so in a loop, and takes no more stack where it is longer.
+/// `{:?}` alone calls itself for each step.
 #[derive(Debug)]
 pub enum MemView {
     /// The value itself.
