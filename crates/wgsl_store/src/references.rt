@@ -120,7 +120,8 @@ pub trait References: Sized {
     /// `WriteRefType`, the type of the value first, where the value does not fit: it is of another
     /// type, or has other paths, as a runtime-sized array of another length has. A write that is accepted
     /// takes no memory: it is never answered with `Memory`.
-    /// It calls itself for each level of a value or type: keep to 4,095 within a stack of 8 MiB.
+    /// It calls itself for each level of a value or type, and for each step of its view: keep to 2,047 within a stack of
+    /// 8 MiB.
     fn write(&self, alloc: Global, store: &mut Store, value: Instance) -> Result<(), Error>
         requires kept { IsKept store.old (reference_of self.now) }
         requires storable { IsStorable (value_of value) }
@@ -137,7 +138,8 @@ pub trait References: Sized {
     ///
     /// Where both stand in cells of bytes, as [`Store::read_bytes`] tells, the bytes are copied in place: it takes no
     /// memory, and one that is accepted is never answered with `Memory`. Else the value is read and written.
-    /// It calls itself for each level of a value or type: keep to 4,095 within a stack of 8 MiB.
+    /// It calls itself for each level of a value or type, and for each step of its view: keep to 2,047 within a stack of
+    /// 8 MiB.
     fn copy_to(&self, alloc: Global, store: &mut Store, target: &Self) -> Result<(), Error>
         requires from { IsKept store.old (reference_of self.now) }
         requires to { IsKept store.old (reference_of target.now) }
@@ -150,7 +152,8 @@ pub trait References: Sized {
     /// Puts the value in the place of the part, and answers the old value; write access alone is
     /// needed. Refusals in order: `NotReadWrite` without it, `WriteRefType` as in
     /// [`References::write`].
-    /// It calls itself for each level of a value or type: keep to 4,095 within a stack of 8 MiB.
+    /// It calls itself for each level of a value or type, and for each step of its view: keep to 2,047 within a stack of
+    /// 8 MiB.
     fn read_write(
         &self,
         alloc: Global,
@@ -177,7 +180,7 @@ pub trait References: Sized {
     /// Puts the number into the atomic that the reference names (WGSL: atomic builtin functions,
     /// `atomicStore`). It is never refused, and takes no memory. The further conditions: the reference may
     /// write, it is to an atomic of numbers of the kind, and an atomic of the number may be stored.
-    /// It calls itself for each step of the view: keep to 4,095 within a stack of 8 MiB.
+    /// It calls itself for each step of the view: keep to 2,047 within a stack of 8 MiB.
     fn put_atomic_number(&self, store: &mut Store, number: LiteralInstance)
         requires kept { IsKept store.old (reference_of self.now) }
         requires may_write { can_write (reference_of self.now).access ≡ true }
