@@ -384,9 +384,8 @@ impl Coverage {
             return;
         }
         for attributes in ATTRIBUTES {
-            let members = memory.shapes.members(shape);
-            let mut found = members.iter().map(|member| attributes_of(*member));
-            if found.any(|found| found == Some(attributes)) {
+            let mut members = memory.shapes.members(shape).iter();
+            if members.any(|member| attributes_of(*member) == Some(attributes)) {
                 self.count(rt, Met::CellWith(attributes));
             }
         }
