@@ -90,7 +90,7 @@ impl Instance {
     /// The first step that leads nowhere is refused as by [`Instance::view`], and nothing is then
     /// changed. What is answered has to be let go: where it is forgotten, `false` stays in the place
     /// of the part. The condition: the value is well-formed.
-    /// It calls itself for each step of the view: keep to 4,095 within a stack of 8 MiB.
+    /// It calls itself for each step that the value has, and so does letting the part go: keep to 2,047 within a stack of 8 MiB.
     pub fn view_mut<'a>(
         &'a mut self,
         alloc: Global,
