@@ -77,54 +77,72 @@ fn assert_copied(
     assert_same(rt, from.copy_to(alloc, store, to), Ok(()));
 }
 
-/// Makes a cell of the first literal in so many arrays, and asserts what is read of it, of its first element and of the
-/// literal inside, while these are written.
-fn assert_cell(
+/// The reference to the part of the cell that is so many steps inside.
+fn part_of(
     rt: &impl Abort,
     alloc: Global,
-    depth: usize,
-    first: LiteralInstance,
-    second: LiteralInstance,
+    whole: &RefInstance,
+    steps: usize,
+    ty: Type,
+) -> RefInstance {
+    let view = first_parts(rt, alloc, steps);
+    RefInstance::from_parts(whole.cell(), view, ty, Storage, ReadWrite)
+}
+
+/// Asserts that the reference is written, and then written again while the value of before is answered. It names so many
+/// arrays.
+fn assert_written(
+    rt: &impl Abort,
+    alloc: Global,
+    store: &mut Store,
+    reference: &RefInstance,
+    levels: usize,
+    values: [LiteralInstance; 2],
 ) {
+    let [first, second] = values;
+    let value = in_arrays(rt, alloc, levels, Instance::from(first));
+    let written = write(rt, alloc, store, reference, value);
+    assert_same(rt, written, Ok(()));
+    let value = in_arrays(rt, alloc, levels, Instance::from(second));
+    let old = read_write(rt, alloc, store, reference, value);
+    let wanted = in_arrays(rt, alloc, levels, Instance::from(first));
+    assert_same(rt, old, wanted);
+    assert_copied(rt, alloc, store, reference, reference);
+    let wanted = in_arrays(rt, alloc, levels, Instance::from(second));
+    assert_reads(rt, alloc, store, reference, wanted);
+}
+
+/// Makes a cell of the first literal in so many arrays, and asserts what is read of it, of its first element and of the
+/// literal inside, while it is written, and a part half as many steps inside.
+fn assert_cell(rt: &impl Abort, alloc: Global, depth: usize, values: [LiteralInstance; 2]) {
+    let [first, second] = values;
     let mut store = Store::new(alloc);
     let value = in_arrays(rt, alloc, depth, Instance::from(first));
     let whole = cell_with(rt, alloc, &mut store, value);
     let element = first_of(rt, alloc, &store, &whole);
-    let view = first_parts(rt, alloc, depth);
-    let inside = RefInstance::from_parts(
-        whole.cell(),
-        view,
-        first.literal_ty(),
-        Storage,
-        ReadWrite,
-    );
+    let inside = part_of(rt, alloc, &whole, depth, first.literal_ty());
     assert_reads(rt, alloc, &store, &inside, Instance::from(first));
-    let written = write(rt, alloc, &mut store, &inside, Instance::from(second));
-    assert_same(rt, written, Ok(()));
-    let wanted = in_arrays(rt, alloc, depth, Instance::from(second));
-    assert_reads(rt, alloc, &store, &whole, wanted);
-    let value = in_arrays(rt, alloc, depth, Instance::from(first));
-    let written = write(rt, alloc, &mut store, &whole, value);
-    assert_same(rt, written, Ok(()));
-    let value = in_arrays(rt, alloc, depth, Instance::from(second));
-    let old = read_write(rt, alloc, &mut store, &whole, value);
-    let wanted = in_arrays(rt, alloc, depth, Instance::from(first));
-    assert_same(rt, old, wanted);
-    assert_copied(rt, alloc, &mut store, &whole, &whole);
-    let wanted = in_arrays(rt, alloc, depth.saturating_sub(1), Instance::from(second));
+    assert_written(rt, alloc, &mut store, &whole, depth, [first, second]);
+    assert_reads(rt, alloc, &store, &inside, Instance::from(second));
+    let steps = depth / 2;
+    let rest = depth.saturating_sub(steps);
+    let ty = arrays(rt, alloc, rest, first.literal_ty());
+    let part = part_of(rt, alloc, &whole, steps, ty);
+    assert_written(rt, alloc, &mut store, &part, rest, [second, first]);
+    let wanted = in_arrays(rt, alloc, depth.saturating_sub(1), Instance::from(first));
     assert_reads(rt, alloc, &store, &element, wanted);
-    drop((store, whole));
-    drop((element, inside));
+    drop((store, whole, element));
+    drop((inside, part));
 }
 
 #[test]
 fn a_cell_of_bytes(rt: HostRuntime) {
-    assert_cell(&rt, rt.alloc(), levels(&rt), U32(1), U32(2));
+    assert_cell(&rt, rt.alloc(), levels(&rt), [U32(1), U32(2)]);
 }
 
 #[test]
 fn a_cell_that_is_no_bytes(rt: HostRuntime) {
-    assert_cell(&rt, rt.alloc(), levels(&rt), Bool(true), Bool(false));
+    assert_cell(&rt, rt.alloc(), levels(&rt), [Bool(true), Bool(false)]);
 }
 
 /// Asserts that a value of another type is not written, and what is then told.

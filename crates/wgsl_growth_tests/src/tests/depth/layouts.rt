@@ -1,6 +1,6 @@
 //! The bytes of values, and layouts: arrays of one element in each other.
 
-use crate::tests::asserts::assert_answer;
+use crate::tests::asserts::{assert_answer, assert_is};
 use crate::tests::depth::{arrays, first_parts, in_arrays, levels};
 use crate::tests::samples::storable;
 use std::alloc::Global;
@@ -50,6 +50,21 @@ fn parts_of_layouts(rt: HostRuntime) {
     assert_answer(&rt, whole, Some(&ty));
     drop((ty, layout, view));
     drop(nowhere);
+}
+
+#[test]
+fn copies_of_layouts(rt: HostRuntime) {
+    let alloc = rt.alloc();
+    let depth = levels(&rt);
+    let (ty, other) = (
+        arrays(&rt, alloc, depth, Type::U32),
+        arrays(&rt, alloc, depth, Type::I32),
+    );
+    let (layout, signed) = (layout_of(&rt, alloc, &ty), layout_of(&rt, alloc, &other));
+    assert!(rt; layout != signed);
+    assert_is(&rt, made!(&rt; layout.clone(alloc)), &layout);
+    drop((ty, other));
+    drop((layout, signed));
 }
 
 #[test]

@@ -1,15 +1,15 @@
-//! A chain of references: a reference to a cell that holds a reference, and so on. Its types take memory with the square
-//! of its length, so it has a hundred of them, whatever the levels of types and values are.
+//! References whose types are deep, and a chain of references: a reference to a cell that holds a reference, and so on. Its
+//! types take memory with the square of its length, so it has a hundred of them, whatever the levels of types and values are.
 
 use crate::tests::asserts::{assert_is, assert_same};
-use crate::tests::depth::{assert_text, nested};
+use crate::tests::depth::{arrays, assert_text, levels, nested};
 use std::alloc::Global;
 use std::process::Abort;
 use wgsl_rules::AccessMode::ReadWrite;
 use wgsl_rules::AddressSpace::Storage;
 use wgsl_rules::{Ty, Type};
 use wgsl_store::{Loads, References, Store};
-use wgsl_values::{Instance, PtrInstance, RefInstance};
+use wgsl_values::{Instance, MemView, PtrInstance, RefInstance};
 
 /// The reference to a new cell with the value.
 fn cell_with(rt: &impl Abort, alloc: Global, store: &mut Store, value: Instance) -> RefInstance {
@@ -60,4 +60,31 @@ fn a_chain_is_loaded(rt: HostRuntime) {
     let loaded = made!(&rt; value.loaded(alloc, &store));
     assert_same(&rt, loaded, Instance::from(5u32));
     drop(store);
+}
+
+/// A reference to cell 0, of so many arrays of the type.
+fn to_arrays(rt: &impl Abort, alloc: Global, levels: usize, inside: Type) -> RefInstance {
+    let ty = arrays(rt, alloc, levels, inside);
+    RefInstance::from_parts(0, MemView::Whole, ty, Storage, ReadWrite)
+}
+
+#[test]
+fn references_to_deep_types(rt: HostRuntime) {
+    let alloc = rt.alloc();
+    let depth = levels(&rt);
+    let reference = to_arrays(&rt, alloc, depth, Type::U32);
+    let other = to_arrays(&rt, alloc, depth, Type::I32);
+    assert_is(&rt, made!(&rt; reference.clone(alloc)), &reference);
+    assert!(rt; reference != other);
+    let own = made!(&rt; reference.ty(alloc));
+    assert!(rt; reference.has_ty(&own));
+    drop(own);
+    let ty = nested(&rt, alloc, depth, ["array<", "u32", ", 1>"]);
+    let wanted = made!(&rt; format!(in alloc; "ref<storage, {ty}, read_write>"));
+    assert_text(&rt, alloc, &reference, wanted.as_str());
+    let pointer = PtrInstance::from(reference);
+    assert_is(&rt, made!(&rt; pointer.clone(alloc)), &pointer);
+    let wanted = made!(&rt; format!(in alloc; "ptr<storage, {ty}, read_write>"));
+    assert_text(&rt, alloc, &pointer, wanted.as_str());
+    drop((other, pointer));
 }

@@ -15,7 +15,7 @@ use wgsl_rules::AddressSpace::Storage;
 use wgsl_rules::{Convert, Ty, Type};
 use wgsl_samples::values::bytes_of;
 use wgsl_store::{Buffers, References, Store};
-use wgsl_values::{Instance, MemView, RefInstance, StructInstance};
+use wgsl_values::{Instance, MemView, RefInstance, SharedStructType, StructInstance};
 
 /// So many structures, each the only member of the next, and the number in the innermost.
 fn in_structures(rt: &impl Abort, alloc: Global, levels: usize, inside: u32) -> Instance
@@ -112,4 +112,18 @@ fn a_cell_of_structures(rt: HostRuntime) {
     let wanted = in_structures(&rt, alloc, depth, 2);
     assert_same(&rt, made!(&rt; whole.read(alloc, &store)), wanted);
     drop((store, whole));
+}
+
+#[test]
+fn types_that_are_shared(rt: HostRuntime) {
+    let alloc = rt.alloc();
+    let around = levels(&rt).saturating_sub(1);
+    let ty = structure(&rt, alloc, structure_chain(&rt, alloc, around, Type::U32));
+    let other = structure(&rt, alloc, structure_chain(&rt, alloc, around, Type::I32));
+    let own = SharedStructType::own(ty);
+    let copy = made!(&rt; own.clone(alloc));
+    assert!(rt; copy == own);
+    assert!(rt; own.is_type(copy.get()));
+    assert!(rt; !own.is_type(&other));
+    drop((own, copy, other));
 }

@@ -1,4 +1,5 @@
-//! Calls on values: arrays of one element in each other.
+//! Calls on values: arrays of one element in each other. What is written through a view takes half as many steps as there are
+//! levels.
 
 use crate::tests::asserts::{assert_has, assert_is, assert_same};
 use crate::tests::depth::{
@@ -55,32 +56,49 @@ fn texts_of_values(rt: HostRuntime) {
 }
 
 #[test]
-fn parts_are_lent_and_written(rt: HostRuntime) {
+fn the_innermost_part_is_lent(rt: HostRuntime) {
     let alloc = rt.alloc();
     let depth = levels(&rt);
-    let mut value = in_arrays(&rt, alloc, depth, Instance::from(1u32));
-    let wanted = in_arrays(&rt, alloc, depth, Instance::from(7u32));
+    let value = in_arrays(&rt, alloc, depth, Instance::from(1u32));
     let view = first_parts(&rt, alloc, depth);
+    let nowhere = first_parts(&rt, alloc, depth.saturating_add(1));
     assert_has(&rt, value.view(alloc, &view).ok(), Instance::from(1u32));
+    let refusal = value.view(alloc, &nowhere).err();
+    assert_same(&rt, refusal, Some(Error::NotIndexable(Type::U32)));
+    drop((value, view, nowhere));
+}
+
+#[test]
+fn parts_are_written(rt: HostRuntime) {
+    let alloc = rt.alloc();
+    let depth = levels(&rt);
+    let steps = depth / 2;
+    let rest = depth.saturating_sub(steps);
+    let mut value = in_arrays(&rt, alloc, depth, Instance::from(1u32));
+    let view = first_parts(&rt, alloc, steps);
+    let nine = in_arrays(&rt, alloc, rest, Instance::from(9u32));
     let mut part = value.view_mut(alloc, &view).expect(&rt, "a part");
-    drop(mem::replace(&mut *part, Instance::from(9u32)));
+    drop(mem::replace(&mut *part, nine));
     drop(part);
-    let old = value.put(&view, Instance::from(7u32));
-    assert_same(&rt, old, Some(Instance::from(9u32)));
+    let seven = in_arrays(&rt, alloc, rest, Instance::from(7u32));
+    let old = value.put(&view, seven);
+    let wanted = in_arrays(&rt, alloc, rest, Instance::from(9u32));
+    assert_same(&rt, old, Some(wanted));
+    let wanted = in_arrays(&rt, alloc, depth, Instance::from(7u32));
     assert_same(&rt, value, wanted);
     drop(view);
 }
 
 #[test]
-fn no_part_of_a_number(rt: HostRuntime) {
+fn no_part_of_a_number_is_written(rt: HostRuntime) {
     let alloc = rt.alloc();
-    let depth = levels(&rt);
-    let mut value = in_arrays(&rt, alloc, depth, Instance::from(1u32));
-    let nowhere = first_parts(&rt, alloc, depth.saturating_add(1));
-    let refusal = value.view(alloc, &nowhere).err();
-    assert_same(&rt, refusal, Some(Error::NotIndexable(Type::U32)));
+    let steps = levels(&rt) / 2;
+    let mut value = in_arrays(&rt, alloc, steps, Instance::from(1u32));
+    let nowhere = first_parts(&rt, alloc, steps.saturating_add(1));
     assert_same(&rt, value.put(&nowhere, Instance::from(7u32)), None);
-    drop((value, nowhere));
+    let wanted = in_arrays(&rt, alloc, steps, Instance::from(1u32));
+    assert_same(&rt, value, wanted);
+    drop(nowhere);
 }
 
 #[test]
