@@ -8,7 +8,7 @@ from listing.text import without_comments
 TEST = "#[test]"
 FUNCTION = re.compile(r"^( *)(?:pub(?:\([^)]*\))? )?(?:const )?fn (\w+)", re.MULTILINE)
 MACRO = re.compile(r"^( *)macro_rules! (\w+)", re.MULTILINE)
-CONSTANT = re.compile(r"^()(?:pub(?:\([^)]*\))? )?(?:const|static) (\w+):", re.MULTILINE)
+CONSTANT = re.compile(r"^(?:pub(?:\([^)]*\))? )?(?:const|static) (\w+):", re.MULTILINE)
 HEAD_END = re.compile(r"\{\}$|\{$|;$", re.MULTILINE)
 CLAUSE = re.compile(r"^ *(?:requires|ensures)\b.*$", re.MULTILINE)
 USE = re.compile(r"^ *(?:pub(?:\([^)]*\))? )?use ([^;]+);", re.MULTILINE)
@@ -38,6 +38,16 @@ def used(tree, prefix=()):
         if part.strip():
             yield from used(part, prefix)
         part = ""
+
+
+def end_of_constant(text, start):
+    """Where the `;` stands that is in no brackets."""
+    depth = 0
+    for end in range(start, len(text)):
+        depth += {"(": 1, "[": 1, "{": 1, ")": -1, "]": -1, "}": -1}.get(text[end], 0)
+        if text[end] == ";" and depth == 0:
+            return end
+    raise ValueError("a constant without an end")
 
 
 def arm_of(text, place):
@@ -104,9 +114,12 @@ class Module:
         text = without_comments(self.text)
         for tree in USE.findall(text):
             self.uses.update(used(tree))
-        for pattern in (FUNCTION, MACRO, CONSTANT):
+        for pattern in (FUNCTION, MACRO):
             for match in pattern.finditer(text):
                 self.add(match, text, pattern is MACRO)
+        for match in CONSTANT.finditer(text):
+            constant = text[match.start() : end_of_constant(text, match.end())]
+            self.functions[match[1]] = Function(self, match[1], "", constant, False, False, False)
 
     def add(self, match, text, is_macro):
         """Adds the function, which goes to the brace at its own indentation, or to the end of its head."""
