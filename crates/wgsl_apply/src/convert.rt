@@ -30,7 +30,7 @@ use wgsl_scalar::LiteralInstance;
 use wgsl_values::Instance;
 
 /// The value in a type to which it converts by itself; `None` where it does not, and of what may not
-/// be stored.
+/// be stored. It calls itself for each level of a value or type: keep to 4,095 within a stack of 8 MiB.
 pub fn automatic(alloc: Global, value: &Instance, ty: &Type) -> Result<Option<Instance>, AllocError>
     ensures value { IfOk result (λ o. IsStorable (value_of value.now) → option_map value_of o ≡ converted (value_of value.now) (type_view ty.now)) }
     ensures none { IfOk result (λ o. ¬ IsStorable (value_of value.now) → option_map value_of o ≡ None) }
@@ -44,7 +44,8 @@ pub fn automatic(alloc: Global, value: &Instance, ty: &Type) -> Result<Option<In
 }
 
 /// The value in the concrete type of its own; `None` where a number is out of its range, and of what
-/// may not be stored.
+/// may not be stored. It calls itself for each level of the value: keep to 4,095 within a stack of 8
+/// MiB.
 pub fn concrete(alloc: Global, value: &Instance) -> Result<Option<Instance>, AllocError>
     ensures value { IfOk result (λ o. IsStorable (value_of value.now) → option_map value_of o ≡ converted (value_of value.now) (concretized (type_of (value_of value.now)))) }
     ensures none { IfOk result (λ o. ¬ IsStorable (value_of value.now) → option_map value_of o ≡ None) }
@@ -58,7 +59,8 @@ pub fn concrete(alloc: Global, value: &Instance) -> Result<Option<Instance>, All
 }
 
 /// The values in their common type, in order; `None` where there is none, of the empty list, and where
-/// one may not be stored.
+/// one may not be stored. It calls itself for each level of the values: keep to 4,095 within a stack of
+/// 8 MiB.
 pub fn in_common(alloc: Global, values: &[Instance]) -> Result<Option<Vec<Instance>>, AllocError>
     ensures value { IfOk result (λ o. All (λ v. IsStorable (value_of v)) values.now → option_map (λ vs. map value_of vs.items) o ≡ all_in_common converted (map value_of values.now)) }
     ensures none { IfOk result (λ o. ¬ All (λ v. IsStorable (value_of v)) values.now → option_map (λ vs. map value_of vs.items) o ≡ None) }
@@ -84,7 +86,8 @@ fn are_storable(values: &[Instance]) -> bool
 }
 
 /// Whether values of the type of this one convert to the other by themselves, so that only its
-/// numbers may not. `false` of what is not well-formed.
+/// numbers may not. `false` of what is not well-formed. It calls itself for each level of a value or
+/// type: keep to 4,095 within a stack of 8 MiB.
 pub fn has_rank(alloc: Global, value: &Instance, ty: &Type) -> Result<bool, AllocError>
     ensures rank { IfOk result (λ b. IsWellFormed (value_of value.now) → b ≡ is_some (rank (type_of (value_of value.now)) (type_view ty.now))) }
     ensures none { IfOk result (λ b. ¬ IsWellFormed (value_of value.now) → b ≡ false) }

@@ -45,7 +45,8 @@ pub fn zero_literal(ty: &Type) -> Option<LiteralInstance>
 }
 
 /// The zero value of a type; `None` where it has none: of atomics, pointers, references, floats,
-/// textures, samplers and runtime-sized arrays, and of what has such a part.
+/// textures, samplers and runtime-sized arrays, and of what has such a part. It calls itself for each
+/// level of the type: keep to 4,095 within a stack of 8 MiB.
 #[cycle(zeros)]
 pub fn zero(alloc: Global, ty: &Type) -> Result<Option<Instance>, AllocError>
     ensures value { IfOk result (λ o. option_map value_of o ≡ zero_of (type_view ty.now)) }
@@ -173,6 +174,7 @@ pub fn make_matrix(columns: Vec<Instance>) -> Option<Instance>
 }
 
 /// The array of the elements; `None` where there is none, one may not be stored, or their types differ.
+/// It calls itself for each level of the elements: keep to 4,095 within a stack of 8 MiB.
 pub fn make_array(elements: Vec<Instance>) -> Option<Instance>
     ensures value { MatchOption result
         (¬ IsStorable (array_of false (vals_view elements.items)))
@@ -185,7 +187,8 @@ pub fn make_array(elements: Vec<Instance>) -> Option<Instance>
     Some(Instance::from(ArrayInstance::new(elements, false)))
 }
 
-/// The structure of the members; `None` where these are not one of each member's type, in order.
+/// The structure of the members; `None` where these are not one of each member's type, in order. It
+/// calls itself for each level of a value or type: keep to 4,095 within a stack of 8 MiB.
 pub fn make_structure(ty: StructType, members: Vec<Instance>) -> Option<Instance>
     ensures value { MatchOption result
         (¬ IsStorable (record_of (struct_type_view ty) (vals_view members.items)))

@@ -13,7 +13,8 @@ use wgsl_scalar::Error;
 use wgsl_values::Instance;
 
 /// The operator before a value, refused as the operators of `wgsl_ops` are; `&` and `*` are `Unary`,
-/// since constants are no memory. What is not well-formed is answered with `Memory`.
+/// since constants are no memory. What is not well-formed is answered with `Memory`. It calls itself
+/// for each level of the value: keep to 4,095 within a stack of 8 MiB.
 pub fn unary(alloc: Global, operator: UnaryOperator, operand: &Instance) -> Result<Instance, Error>
     ensures value { Gives value_of result (prefixed operator (value_of operand.now)) }
     ensures storable { IfOk result (λ v. IsStorable (value_of v)) }
@@ -42,7 +43,8 @@ fn unary_of(alloc: Global, operator: UnaryOperator, operand: &Instance) -> Resul
 }
 
 /// The operator between two values in the stage, refused as the operators of `wgsl_ops` are. What is
-/// not well-formed is answered with `Memory`.
+/// not well-formed is answered with `Memory`. It calls itself for each level of the values: keep to
+/// 4,095 within a stack of 8 MiB.
 pub fn binary(
     alloc: Global,
     operator: BinaryOperator,

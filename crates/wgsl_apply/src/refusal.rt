@@ -14,7 +14,7 @@ use wgsl_scalar::{BuiltinReason, Error, LiteralInstance};
 use wgsl_values::Instance;
 
 /// The call that was refused, with its operands or arguments.
-#[derive(Clone, Copy, Debug)]
+#[derive(Clone, Copy, Debug, PartialEq, Eq)]
 pub enum Asked<'a> {
     /// An operator before its operand.
     Unary(UnaryOperator, &'a Instance),
@@ -26,7 +26,8 @@ pub enum Asked<'a> {
     Part,
 }
 
-/// Whether the refusal is of numbers, and not of types: `&&` and `||` pass such a one over.
+/// Whether the refusal is of numbers, and not of types: `&&` and `||` pass such a one over. It calls
+/// itself for each level of the types: keep to 4,095 within a stack of 8 MiB.
 pub fn is_of_numbers(error: &Error) -> bool
     ensures { result ≡ is_of_numbers (refusal_of error.now) (builtin_reason_of error.now) }
 {
@@ -51,7 +52,8 @@ fn common_type<'a>(left: &'a Type, right: &'a Type) -> Option<&'a Type>
     convert_ty(left, right)
 }
 
-/// The refusal in words, with those operands that a message prints. The text is not promised.
+/// The refusal in words, with those operands that a message prints. The text is not promised. It calls
+/// itself for each level of the types: keep to 4,095 within a stack of 8 MiB.
 pub fn refusal_text(alloc: Global, error: &Error, asked: Asked<'_>) -> Result<String, AllocError> {
     let mut text = String::new(alloc);
     add_refusal(&mut text, error)?;

@@ -27,5 +27,6 @@ mod answers;
 mod atomics;
 mod builtins;
 mod growth;
+mod laws;
 mod using;
 mod without_memory;

@@ -17,14 +17,14 @@ use wgsl_types::{Instance, ShaderStage, Type};
 
 /// The declarations of a module in their order, and what is told of them in its order; of many messages
 /// the first that are found.
-#[derive(Debug, Drop)]
+#[derive(Debug, PartialEq, Eq, Drop)]
 pub struct Declarations {
     pub items: Vec<Item>,
     pub messages: Vec<Message>,
 }
 
 /// A declaration: its name, the bytes of the source that the name has, and what is declared.
-#[derive(Debug, Drop)]
+#[derive(Debug, PartialEq, Eq, Drop)]
 pub struct Item {
     pub name: String,
     pub start: usize,
@@ -33,7 +33,7 @@ pub struct Item {
 }
 
 /// What is declared.
-#[derive(Debug, Drop)]
+#[derive(Debug, PartialEq, Eq, Drop)]
 pub enum ItemKind {
     /// A structure type.
     Struct(Type),
@@ -53,6 +53,8 @@ pub enum ItemKind {
 /// What the declarations of a module are found to be, for a host: the types of its structures and
 /// variables with their counts and attributes, which are evaluated as the constants are. Its
 /// assertions are not checked.
+///
+/// A type of a source has 4,096 types at most, and a value 64 others inside each other: a stack of 8 MiB is enough.
 ///
 /// The only error is that memory is wanting.
 pub fn resolve(alloc: Global, reading: &Reading<'_>) -> Result<Declarations, AllocError>

@@ -1,6 +1,6 @@
 //! Walks the steps of expressions, whose answers wait on a stack of their own.
 
-ghost use Rattle.std.specs.Prelude.{if◌then◌else◌, [], ◌∷◌, ◌++◌, ◌≡◌, ◌<◌, ◌≤◌, ◌+◌, ◌↔◌, ◌&&◌, ℕ, All, IfOk, IfSome, IsSome, IsTrue, MatchBool, None, OnOk, Some, false, is_some, length, map, replicate, unwrap_or, vec_len};
+ghost use Rattle.std.specs.Prelude.{if◌then◌else◌, [], ◌∷◌, ◌++◌, ◌≡◌, ◌<◌, ◌≤◌, ◌+◌, ◌&&◌, All, IfOk, IsSome, MatchBool, None, OnOk, Some, false, is_some, map, replicate, unwrap_or, vec_len};
 ghost use Rattle.std.specs.Bool.{OnTrue};
 ghost use Rattle.std.specs.List.Sorted.{IsSortedByKey};
 ghost use Rattle.std.specs.Option.{option_map};
@@ -15,7 +15,7 @@ ghost use Rattle.wgsl_eval.specs.Answers.{AreAnswers, IsAnswer, IsFault, IsFault
 ghost use Rattle.wgsl_eval.specs.Evaluated.{AreEvaluated, setting_before, values_of};
 ghost use Rattle.wgsl_eval.specs.Evaluation.{has_value, value_names};
 ghost use Rattle.wgsl_eval.specs.Evaluators.{setting_of};
-ghost use Rattle.wgsl_eval.specs.Given.{IsConverted, IsCopy, IsGiven, IsJudged, IsLanguageType, IsNamed, IsOfNumber, IsOfOne, IsOfTwo, IsOfValue, IsOfValues, UnlessRefused, below, is_decided, language_value, top};
+ghost use Rattle.wgsl_eval.specs.Given.{IsConverted, IsCopy, IsJudged, IsLanguageType, IsNamed, IsOfNumber, IsOfOne, IsOfTwo, IsOfValue, IsOfValues, UnlessRefused, below, is_decided, language_value, top};
 ghost use Rattle.wgsl_eval.specs.Waitings.{AreWaiting, IsCharged, IsDone, IsWaiting, Stands, work_of};
 ghost use Rattle.wgsl_eval.specs.Meanings.{AreDeclared};
 ghost use Rattle.wgsl_eval.specs.Runs.{IsFound};
@@ -42,21 +42,21 @@ const WORK: usize = 1 << 22;
 
 /// The values of a source and what is told of them, in its order; of many messages the first that
 /// are found.
-#[derive(Debug, Drop)]
+#[derive(Debug, PartialEq, Eq, Drop)]
 pub struct Evaluation {
     pub values: Vec<Evaluated>,
     pub messages: Vec<Message>,
 }
 
 /// A declaration of a value: the token that names it, and what it has.
-#[derive(Debug, Drop)]
+#[derive(Debug, PartialEq, Eq, Drop)]
 pub struct Evaluated {
     pub token: usize,
     pub outcome: Outcome,
 }
 
 /// What a declaration has.
-#[derive(Debug, Drop)]
+#[derive(Debug, PartialEq, Eq, Drop)]
 pub enum Outcome {
     Value(Instance),
     /// What stands there is not evaluated.
@@ -81,6 +81,8 @@ pub(crate) struct Evaluator<'a> {
 
 /// The values of the declarations of a source, and what is wrong in them. In another stage than
 /// `Const` the values of overrides are evaluated too, as if no host had given others.
+///
+/// A type of a source has 4,096 types at most, and a value 64 others inside each other: a stack of 8 MiB is enough.
 ///
 /// The only error is that memory is wanting.
 pub fn evaluate(

@@ -20,7 +20,7 @@ pub enum Severity {
 }
 
 /// Bytes of a source, and what is said of them.
-#[derive(Debug, Drop)]
+#[derive(Debug, PartialEq, Eq, Drop)]
 pub struct Message {
     pub start: usize,
     pub end: usize,

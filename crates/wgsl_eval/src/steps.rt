@@ -1,4 +1,5 @@
 //! Steps that take answers away. Those of which a step takes all are copied where they name a value.
+//! Each kind of step is a function of its own, since a function clears the room of all its locals when it begins.
 
 ghost use Rattle.std.specs.Prelude.{◌≡◌, IfOk, OnOk};
 ghost use Rattle.wgsl_source.specs.declared.expression.Callee.TheVariants as callees;

@@ -15,7 +15,7 @@ use wgsl_types::{AccessMode, AddressSpace, Type};
 
 /// A variable of a module: its type, and what is given of its address space, its access mode and the
 /// numbers by which a host names it (WGSL: variable declarations; resource interface).
-#[derive(Debug, Drop)]
+#[derive(Debug, PartialEq, Eq, Drop)]
 pub struct Variable {
     pub ty: Type,
     /// `None` where no address space is given.

@@ -23,7 +23,8 @@ impl Evaluator<'_> {
         }
     }
 
-    // Puts a copy of the value of the declaration in the place of the last answer, which names it.
+    // Puts a copy of the value of the declaration in the place of the last answer, which names it. It stands apart, so that
+    // `keep_last`, which mostly finds no name, has no room of these locals to clear.
     #[inline(never)]
     fn keep(&self, answers: &mut Vec<Answer>, number: usize) -> Result<(), AllocError>
         requires waiting { AreWaiting self.now.meanings.items answers.old.items }

@@ -22,6 +22,7 @@ macro_rules! answered {
 }
 
 mod answers;
+mod equal;
 mod growth;
 mod standard;
 mod texts;

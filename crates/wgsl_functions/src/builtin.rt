@@ -119,7 +119,8 @@ impl Builtin {
     }
 
     /// What the function answers to the values in the stage. Where they are not as many as it takes, it is
-    /// refused by `Builtin`; what is not well-formed is answered with `Memory`.
+    /// refused by `Builtin`; what is not well-formed is answered with `Memory`. It calls itself for
+    /// each level of the values: keep to 4,095 within a stack of 8 MiB.
     pub fn answer(
         self,
         alloc: Global,
@@ -170,7 +171,8 @@ impl OfOne {
         }
     }
 
-    /// What the function answers. What is not well-formed is answered with `Memory`.
+    /// What the function answers. What is not well-formed is answered with `Memory`. It calls itself
+    /// for each level of the value: keep to 4,095 within a stack of 8 MiB.
     pub fn answer(self, alloc: Global, e: &Instance) -> Result<Instance, Error>
         ensures value { Gives value_of result (of_one_value self (value_of e.now)) }
         ensures storable { IfOk result (λ v. IsStorable (value_of v)) }
@@ -224,7 +226,8 @@ impl OfTwo {
         }
     }
 
-    /// What the function answers. What is not well-formed is answered with `Memory`.
+    /// What the function answers. What is not well-formed is answered with `Memory`. It calls itself
+    /// for each level of the values: keep to 4,095 within a stack of 8 MiB.
     pub fn answer(
         self,
         alloc: Global,
@@ -277,7 +280,8 @@ impl OfThree {
         }
     }
 
-    /// What the function answers. What is not well-formed is answered with `Memory`.
+    /// What the function answers. What is not well-formed is answered with `Memory`. It calls itself
+    /// for each level of the values: keep to 4,095 within a stack of 8 MiB.
     pub fn answer(
         self,
         alloc: Global,
@@ -317,7 +321,8 @@ impl OfThree {
 }
 
 /// What `insertBits` answers: `e` with `count` bits from `offset` on in the place of which the lowest of
-/// `bits` stand. What is not well-formed is answered with `Memory`.
+/// `bits` stand. What is not well-formed is answered with `Memory`. It calls itself for each level of
+/// the values: keep to 4,095 within a stack of 8 MiB.
 pub fn insert_bits(
     alloc: Global,
     e: &Instance,
@@ -337,7 +342,8 @@ pub fn insert_bits(
 }
 
 /// What `bitcast` with the type answers to the value. A type that is no `i32`, no `u32` and no vector of
-/// these is refused by `Builtin`; what is not well-formed is answered with `Memory`.
+/// these is refused by `Builtin`; what is not well-formed is answered with `Memory`. It calls itself
+/// for each level of the value: keep to 4,095 within a stack of 8 MiB.
 pub fn bitcast(alloc: Global, ty: &Type, e: &Instance) -> Result<Instance, Error>
     ensures value { Gives value_of result (bitcast_to (type_view ty.now) (value_of e.now)) }
     ensures storable { IfOk result (λ v. IsStorable (value_of v)) }

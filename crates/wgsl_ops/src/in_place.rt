@@ -1,6 +1,6 @@
 //! Vectors whose components are replaced in place: this takes no memory.
 
-ghost use Rattle.std.specs.Prelude.{◌≡◌, ◌<◌, ◌≤◌, length, map, take};
+ghost use Rattle.std.specs.Prelude.{◌≡◌, ◌<◌, ◌≤◌, IfErr, length, map, take};
 ghost use Rattle.std.specs.List.{zip};
 ghost use Rattle.wgsl_ops.specs.Closures.{
   AnswersAt,
@@ -8,6 +8,7 @@ ghost use Rattle.wgsl_ops.specs.Closures.{
   AnswersEach,
   IsCallableAt,
   IsCallableAtPairs,
+  Refused,
   seen,
 };
 ghost use Rattle.wgsl_rules.specs.Paths.{parts};
@@ -29,7 +30,8 @@ pub(crate) fn first_answers<F: Fn(&LiteralInstance) -> Result<LiteralInstance, E
     requires literals { AreLiterals (vals_view values.now) }
     requires most { length values.now ≤ 4 }
     requires callable { IsCallableAt F.Fn f.now (map value_of values.now) }
-    ensures { AnswersEach (AnswersAt F.Fn f.now) (map value_of values.now) (seen (λ a. map literal_of (take (length values.now) a)) result) }
+    ensures answers { AnswersEach (AnswersAt F.Fn f.now) (map value_of values.now) (seen (λ a. map literal_of (take (length values.now) a)) result) }
+    ensures refused { IfErr result (Refused (AnswersAt F.Fn f.now) (map value_of values.now)) }
 {
     let mut answers = [LiteralInstance::Bool(false); 4];
     for i in 0..values.len() {
@@ -49,7 +51,8 @@ pub(crate) fn first_answers_at_pairs<
     requires equal { length left.now ≡ length right.now }
     requires most { length left.now ≤ 4 }
     requires callable { IsCallableAtPairs F.Fn f.now (zip (map value_of left.now) (map value_of right.now)) }
-    ensures { AnswersEach (AnswersAtPair F.Fn f.now) (zip (map value_of left.now) (map value_of right.now)) (seen (λ a. map literal_of (take (length left.now) a)) result) }
+    ensures answers { AnswersEach (AnswersAtPair F.Fn f.now) (zip (map value_of left.now) (map value_of right.now)) (seen (λ a. map literal_of (take (length left.now) a)) result) }
+    ensures refused { IfErr result (Refused (AnswersAtPair F.Fn f.now) (zip (map value_of left.now) (map value_of right.now))) }
 {
     let mut answers = [LiteralInstance::Bool(false); 4];
     for i in 0..left.len() {

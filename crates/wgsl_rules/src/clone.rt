@@ -8,6 +8,7 @@ use std::alloc::{AllocError, Global};
 
 impl Type {
     /// A copy of the type, in memory of its own (WGSL: types).
+    /// It calls itself for each level of the type: keep to 4,095 within a stack of 8 MiB.
     #[cycle(clone)]
     pub fn clone(&self, alloc: Global) -> Result<Type, AllocError>
         ensures { IfOk result (λ t. type_view t ≡ type_view self.now) }
@@ -50,6 +51,7 @@ impl Type {
 
 impl StructType {
     /// A copy of the structure type, in memory of its own (WGSL: structure types).
+    /// It calls itself for each level of the type: keep to 4,095 within a stack of 8 MiB.
     #[cycle(clone)]
     pub fn clone(&self, alloc: Global) -> Result<StructType, AllocError>
         ensures { IfOk result (λ t. struct_view t ≡ struct_view self.now) }
@@ -76,6 +78,7 @@ fn clone_members(
 
 impl StructMemberType {
     /// A copy of the member, in memory of its own (WGSL: structure types).
+    /// It calls itself for each level of the type: keep to 4,095 within a stack of 8 MiB.
     #[cycle(clone)]
     pub fn clone(&self, alloc: Global) -> Result<StructMemberType, AllocError>
         ensures { IfOk result (λ m. member_view m ≡ member_view self.now) }

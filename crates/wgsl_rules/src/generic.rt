@@ -20,6 +20,7 @@ use std::alloc::{AllocError, Global};
 
 /// Both values in their common type, as [`convert_ty`] finds it, where both convert to it (WGSL:
 /// overload resolution algorithm).
+/// It calls itself for each level of a value or type: keep to 4,095 within a stack of 8 MiB.
 pub fn convert<T: Convert + Drop>(alloc: Global, a: &T, b: &T) -> Result<Option<(T, T)>, AllocError>
     requires first { IsWellFormed (T.value_of a.now) }
     requires second { IsWellFormed (T.value_of b.now) }
@@ -43,6 +44,7 @@ pub fn convert<T: Convert + Drop>(alloc: Global, a: &T, b: &T) -> Result<Option<
 
 /// Both values with their inner types taken to the common one, as [`convert_ty`] finds it, where
 /// both convert so (WGSL: overload resolution algorithm).
+/// It calls itself for each level of a value or type: keep to 4,095 within a stack of 8 MiB.
 pub fn convert_inner<A: Convert + Drop, B: Convert + Drop>(
     alloc: Global,
     a: &A,
@@ -69,6 +71,7 @@ pub fn convert_inner<A: Convert + Drop, B: Convert + Drop>(
 
 /// All the values in their common type, as [`convert_all_ty`] finds it, where each converts to it
 /// (WGSL: overload resolution algorithm). `None` for the empty list.
+/// It calls itself for each level of a value or type: keep to 4,095 within a stack of 8 MiB.
 pub fn convert_all<T: Convert + Drop>(
     alloc: Global,
     values: &[T],
@@ -98,6 +101,7 @@ fn types_of<T: Ty>(alloc: Global, values: &[T]) -> Result<Vec<Type>, AllocError>
 
 /// Each of the values in the type, where each converts to it (WGSL: feasible automatic
 /// conversions).
+/// It calls itself for each level of a value or type: keep to 4,095 within a stack of 8 MiB.
 #[tactic(auto, using(crate::proofs::Lists::all_in_steps))]
 pub fn convert_all_to<T: Convert + Drop>(
     alloc: Global,
@@ -120,6 +124,7 @@ pub fn convert_all_to<T: Convert + Drop>(
 
 /// Each of the values with its inner type taken to the type, where each converts so (WGSL: feasible
 /// automatic conversions).
+/// It calls itself for each level of a value or type: keep to 4,095 within a stack of 8 MiB.
 #[tactic(auto, using(crate::proofs::Lists::all_in_steps))]
 pub fn convert_all_inner_to<T: Convert + Drop>(
     alloc: Global,

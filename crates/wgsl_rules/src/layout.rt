@@ -70,6 +70,7 @@ impl Type {
     ///
     /// Without a layout are the types of no bytes, `bool`, floats so far, counts that are no WGSL,
     /// and structures with an attribute that is not valid.
+    /// It calls itself for each level of the type: keep to 4,095 within a stack of 8 MiB.
     pub fn has_layout(&self) -> bool
         ensures { result ≡ has_layout (type_view self.now) }
     {

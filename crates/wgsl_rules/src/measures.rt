@@ -195,6 +195,7 @@ fn greater(a: Option<u32>, b: Option<u32>) -> Option<u32>
 impl Type {
     /// The size, the alignment and whether there is a layout, in one walk down the type (WGSL:
     /// alignment and size; host-shareable types).
+    /// It calls itself for each level of the type: keep to 4,095 within a stack of 8 MiB.
     #[cycle(measures)]
     pub fn measures(&self) -> Measures
         ensures size { result.size ≡ size_of (type_view self.now) }

@@ -40,6 +40,7 @@ impl StructType {
     /// size nor padding behind it.
     ///
     /// Memory alone is refused.
+    /// It calls itself for each level of the members' types: keep to 4,095 within a stack of 8 MiB.
     pub fn member_layouts(&self, alloc: Global) -> Result<Vec<MemberLayout>, AllocError>
         ensures { IfOk result (λ layouts. layouts.items ≡ member_layouts (struct_view self.now)) }
     {
@@ -47,6 +48,7 @@ impl StructType {
     }
 
     /// As [`Type::size_with`] of the structure.
+    /// It calls itself for each level of the members' types: keep to 4,095 within a stack of 8 MiB.
     pub fn size_with(&self, elements: usize) -> Option<u32>
         ensures { result ≡ size_with elements (struct_view self.now) }
     {
@@ -54,6 +56,7 @@ impl StructType {
     }
 
     /// As [`Type::least_binding`] of the structure.
+    /// It calls itself for each level of the members' types: keep to 4,095 within a stack of 8 MiB.
     pub fn least_binding(&self) -> Option<u32>
         ensures { result ≡ least_binding (struct_view self.now) }
     {
@@ -65,6 +68,7 @@ impl Type {
     /// From one element of an array to the next, or from one column of a matrix to the next, in bytes
     /// (WGSL: alignment and size; internal layout of values). `None` of other types, and where it is
     /// not known or passes 4294967295.
+    /// It calls itself for each level of the type: keep to 4,095 within a stack of 8 MiB.
     pub fn stride(&self) -> Option<u32>
         ensures { result ≡ part_stride (type_view self.now) }
     {
@@ -85,6 +89,7 @@ impl Type {
     /// The size of the type in bytes, with so many elements in the runtime-sized array that it is or
     /// ends in (WGSL: structure member layout): a structure is filled up to its alignment. `None` where
     /// it is not known or passes 4294967295.
+    /// It calls itself for each level of the type: keep to 4,095 within a stack of 8 MiB.
     pub fn size_with(&self, elements: usize) -> Option<u32>
         ensures { result ≡ size_with elements (type_view self.now) }
     {
@@ -97,6 +102,7 @@ impl Type {
     /// How many bytes the buffer of a variable of the type has at least, in the storage and uniform
     /// address spaces: its size, with one element in the runtime-sized array that it is or ends in
     /// (WGSL: minimum buffer binding size). `None` where that is not known or passes 4294967295.
+    /// It calls itself for each level of the type: keep to 4,095 within a stack of 8 MiB.
     pub fn least_binding(&self) -> Option<u32>
         ensures { result ≡ least_binding (type_view self.now) }
     {

@@ -12,6 +12,7 @@ impl Type {
     /// a size, or the place of a part, passes 4294967295 (WGSL: alignment and size).
     ///
     /// A type may have a size and no layout: [`Type::has_layout`].
+    /// It calls itself for each level of the type: keep to 4,095 within a stack of 8 MiB.
     pub fn size_of(&self) -> Option<u32>
         ensures { result ≡ size_of (type_view self.now) }
     {
@@ -20,6 +21,7 @@ impl Type {
 
     /// The number that the address of a value of the type is a multiple of, in bytes; `None` where
     /// it is not known (WGSL: alignment and size). 0 of a structure without members.
+    /// It calls itself for each level of the type: keep to 4,095 within a stack of 8 MiB.
     pub fn align_of(&self) -> Option<u32>
         ensures { result ≡ align_of (type_view self.now) }
     {
@@ -28,6 +30,7 @@ impl Type {
 
     /// As [`Type::size_of`]; of a runtime-sized array, how many bytes it takes with one element
     /// (WGSL: minimum buffer binding size).
+    /// It calls itself for each level of the type: keep to 4,095 within a stack of 8 MiB.
     pub fn min_size_of(&self) -> Option<u32>
         ensures { result ≡ min_size_of (type_view self.now) }
     {
@@ -73,6 +76,7 @@ impl Type {
 impl StructType {
     /// As [`Type::size_of`] of the structure: the end of the last member, rounded up to the
     /// alignment (WGSL: structure member layout). `None` without members.
+    /// It calls itself for each level of the members' types: keep to 4,095 within a stack of 8 MiB.
     pub fn size_of(&self) -> Option<u32>
         ensures { result ≡ size_of (struct_view self.now) }
     {
@@ -81,6 +85,7 @@ impl StructType {
 
     /// As [`Type::align_of`] of the structure: the greatest alignment of a member (WGSL: structure
     /// member layout). 0 without members.
+    /// It calls itself for each level of the members' types: keep to 4,095 within a stack of 8 MiB.
     pub fn align_of(&self) -> Option<u32>
         ensures { result ≡ align_of (struct_view self.now) }
     {

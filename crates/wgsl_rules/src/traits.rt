@@ -18,18 +18,21 @@ pub trait Ty {
     ghost value_of: { Self → Val };
 
     /// The type (WGSL: types). The condition: the value is well-formed.
+    /// It calls itself for each level of a value or type: keep to 4,095 within a stack of 8 MiB.
     fn ty(&self, alloc: Global) -> Result<Type, AllocError>
         requires { IsWellFormed (value_of self.now) }
         ensures { IfOk result (λ t. type_view t ≡ type_of (value_of self.now)) };
 
     /// The type inside an array, vector, matrix (its scalar), atomic, pointer or reference; of any
     /// other value its type (WGSL: types). The condition: the value is well-formed.
+    /// It calls itself for each level of a value or type: keep to 4,095 within a stack of 8 MiB.
     fn inner_ty(&self, alloc: Global) -> Result<Type, AllocError>
         requires { IsWellFormed (value_of self.now) }
         ensures { IfOk result (λ t. type_view t ≡ inner_type (type_of (value_of self.now))) };
 
     /// Whether this is the type (WGSL: types), without the memory that making it takes. The
     /// condition: the value is well-formed.
+    /// It calls itself for each level of a value or type: keep to 4,095 within a stack of 8 MiB.
     fn has_ty(&self, ty: &Type) -> bool
         requires { IsWellFormed (value_of self.now) }
         ensures { IsTrue result ↔ (type_of (value_of self.now) ≡ type_view ty.now) };
@@ -49,18 +52,21 @@ pub trait Convert: Sized + Ty {
 
     /// The value in the type, `None` where it does not convert to it (WGSL: feasible automatic
     /// conversions). The condition: the value is well-formed.
+    /// It calls itself for each level of a value or type: keep to 4,095 within a stack of 8 MiB.
     fn convert_to(&self, alloc: Global, ty: &Type) -> Result<Option<Self>, AllocError>
         requires { IsWellFormed (Self.value_of self.now) }
         ensures { IfOk result (λ o. option_map Self.value_of o ≡ converted (Self.value_of self.now) (type_view ty.now)) };
 
     /// The value with what is inside it in the type, `None` where that does not convert to it (WGSL:
     /// feasible automatic conversions). The condition: the value is well-formed.
+    /// It calls itself for each level of a value or type: keep to 4,095 within a stack of 8 MiB.
     fn convert_inner_to(&self, alloc: Global, ty: &Type) -> Result<Option<Self>, AllocError>
         requires { IsWellFormed (Self.value_of self.now) }
         ensures { IfOk result (λ o. option_map Self.value_of o ≡ converted_inner (Self.value_of self.now) (type_view ty.now)) };
 
     /// The value in the concrete type of its own, as [`Type::concretize`] gives it; `None` where it
     /// does not convert to that (WGSL: concretization). The condition: the value is well-formed.
+    /// It calls itself for each level of a value or type: keep to 4,095 within a stack of 8 MiB.
     fn concretize(&self, alloc: Global) -> Result<Option<Self>, AllocError>
         requires { IsWellFormed (Self.value_of self.now) }
         ensures { IfOk result (λ o. option_map Self.value_of o ≡ converted (Self.value_of self.now) (concretized (type_of (Self.value_of self.now)))) }

@@ -10,7 +10,9 @@ use crate::syntax::{AccessMode, AddressSpace, SamplerType, TextureType};
 ///
 /// Types may stand in types to any depth. What goes through a type (`clone`, `==`, its text, sizes,
 /// layouts, conversions, dropping it) calls itself for each type inside another, so the stack of the
-/// process limits the depth: with 8 MiB, 4,095 structures are tried, each a member of the next.
+/// process limits the depth: 4,095 levels are tried with 8 MiB, of structures that are each a member of
+/// the next and of arrays. Much deeper the process ends by a signal, so whoever takes types from
+/// elsewhere has to count their levels first.
 #[cycle(types)]
 #[derive(Debug, Drop)]
 pub enum Type {

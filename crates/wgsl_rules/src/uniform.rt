@@ -65,6 +65,7 @@ impl Type {
     ///
     /// It is not asked here whether attributes are valid in every address space, or how large the type
     /// is as a whole.
+    /// It calls itself for each level of the type: keep to 4,095 within a stack of 8 MiB.
     #[cycle(uniform)]
     pub fn uniform_rule(&self) -> Option<UniformRule>
         ensures { result ≡ uniform_rule (type_view self.now) }
@@ -91,6 +92,7 @@ impl Type {
     /// The number that the place of a value of the type has to be a multiple of in the uniform address
     /// space, in bytes: its alignment, for an array or a structure rounded up to 16 (WGSL: address
     /// space layout constraints). `None` where that is not known.
+    /// It calls itself for each level of the type: keep to 4,095 within a stack of 8 MiB.
     pub fn required_align(&self) -> Option<u32>
         ensures { result ≡ required_align (type_view self.now) }
     {
@@ -135,6 +137,7 @@ impl StructType {
     /// constraints). [`Type::uniform_rule`] of the member's type tells what is wrong inside.
     ///
     /// Memory alone is refused.
+    /// It calls itself for each level of the members' types: keep to 4,095 within a stack of 8 MiB.
     pub fn uniform_faults(&self, alloc: Global) -> Result<Vec<UniformFault>, AllocError>
         ensures all { IfOk result (λ faults. faults.items ≡ uniform_faults (struct_view self.now)) }
         ensures first { IfOk result (λ faults. first_rule faults.items ≡ uniform_rule (struct_view self.now)) }

@@ -1,5 +1,6 @@
 //! Scripts over memory: what each line is answered, and how a run ends.
 
+mod coverage;
 mod faults;
 mod grammar;
 mod growth;

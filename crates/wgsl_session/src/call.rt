@@ -92,6 +92,7 @@ impl From<AllocError> for Fault {
 impl Call {
     /// Whether a session takes the call: a value that it hands in may be stored, and holds no
     /// reference or pointer. It takes no memory.
+    /// It calls itself for each level of the value: keep to 4,095 within a stack of 8 MiB.
     pub fn is_sound(&self) -> bool
         ensures { IsTrue result ↔ IsSoundCall (call_of self.now) }
     {
@@ -105,6 +106,7 @@ impl Call {
     }
 
     /// A copy of the call, in memory of its own, but for structure types that values share already: it shares them.
+    /// It calls itself for each level of the value: keep to 4,095 within a stack of 8 MiB.
     pub fn clone(&self, alloc: Global) -> Result<Call, AllocError>
         ensures { IfOk result (λ c. call_of c ≡ call_of self.now) }
     {
@@ -124,6 +126,7 @@ impl Call {
 
 impl Reply {
     /// A copy of the reply, in memory of its own, but for structure types that values share already: it shares them.
+    /// It calls itself for each level of the value: keep to 4,095 within a stack of 8 MiB.
     pub fn clone(&self, alloc: Global) -> Result<Reply, AllocError>
         ensures { IfOk result (λ r. reply_of r ≡ reply_of self.now) }
     {
@@ -137,6 +140,7 @@ impl Reply {
 
 impl Fault {
     /// A copy of the fault, in memory of its own.
+    /// It calls itself for each level of the types: keep to 4,095 within a stack of 8 MiB.
     pub fn clone(&self, alloc: Global) -> Result<Fault, AllocError>
         ensures fault { IfOk result (λ f. fault_of f ≡ fault_of self.now) }
         ensures reason { IfOk result (λ f. reason_of f ≡ reason_of self.now) }

@@ -89,6 +89,8 @@ impl Session {
     /// handle has changed, and none is new. A [`Call::Write`] that is accepted takes no memory, nor does a
     /// [`Call::Copy`] that is accepted and whose handles both name parts of cells of bytes, as
     /// [`Store::read_bytes`] tells: neither is ever answered with `Memory`.
+    /// It calls itself for each level of a value or type: keep to 4,095 within a stack of 8 MiB, and to 2,047 steps of a
+    /// handle that is written through.
     pub fn call(&mut self, call: Call) -> Result<Reply, Fault>
         requires { IsSoundCall (call_of call) }
         ensures step { IsStep self.old (call_of call) self.new (answer_of result) }
@@ -109,6 +111,8 @@ impl Session {
     /// cells of bytes, that is accepted where its turn comes is never answered with `Memory`. The condition: each
     /// call is sound, as [`Call::is_sound`] tests. Room for the replies is asked for first; the only error is that
     /// it is refused, and then no call is made.
+    /// It calls itself for each level of a value or type: keep to 4,095 within a stack of 8 MiB, and to 2,047 steps of a
+    /// handle that is written through.
     pub fn run(&mut self, calls: Vec<Call>) -> Result<Vec<Result<Reply, Fault>>, AllocError>
         requires { AreSoundCalls (map call_of calls.items) }
         ensures run { IfOk result (λ replies. IsRun self.old (map call_of calls.items) self.new (map answer_of replies.items)) }

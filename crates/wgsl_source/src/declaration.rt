@@ -9,7 +9,7 @@ use std::alloc::{AllocError, Global};
 use wgsl_rules::{AccessMode, AddressSpace};
 
 /// What stands before a declaration or a member, in `@`.
-#[derive(Clone, Copy)]
+#[derive(Clone, Copy, Debug)]
 pub(crate) struct Attributes {
     pub(crate) align: Option<Span>,
     pub(crate) size: Option<Span>,
@@ -18,7 +18,7 @@ pub(crate) struct Attributes {
 }
 
 /// A member of a structure: its token, and its type.
-#[derive(Clone, Copy)]
+#[derive(Clone, Copy, Debug)]
 pub(crate) struct Member {
     pub(crate) name: usize,
     pub(crate) ty: Span,
@@ -26,7 +26,7 @@ pub(crate) struct Member {
 }
 
 /// A variable of a module.
-#[derive(Clone, Copy)]
+#[derive(Clone, Copy, Debug)]
 pub(crate) struct Variable {
     pub(crate) space: Option<AddressSpace>,
     pub(crate) access: Option<AccessMode>,
@@ -35,7 +35,7 @@ pub(crate) struct Variable {
 }
 
 /// What is declared.
-#[derive(Clone, Copy)]
+#[derive(Clone, Copy, Debug)]
 pub(crate) enum Kind {
     /// A structure of these members, among those of the source.
     Struct { first: usize, end: usize },
@@ -50,7 +50,7 @@ pub(crate) enum Kind {
 }
 
 /// A declaration: the token that names it, and all its steps.
-#[derive(Clone, Copy)]
+#[derive(Clone, Copy, Debug)]
 pub(crate) struct Declaration {
     pub(crate) name: usize,
     pub(crate) kind: Kind,
@@ -58,7 +58,7 @@ pub(crate) struct Declaration {
 }
 
 /// The declarations of a source, in order.
-#[derive(Drop)]
+#[derive(Debug, Drop)]
 pub(crate) struct Module {
     pub(crate) declarations: Vec<Declaration>,
     pub(crate) members: Vec<Member>,

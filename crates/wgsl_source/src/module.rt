@@ -23,7 +23,7 @@ use wgsl_rules::{AccessMode, AddressSpace};
 ///
 /// Tokens, steps, declarations and members go by numbers from 0. Numbers that there are not stand
 /// for the end of the source, for no steps and for no declaration.
-#[derive(Drop)]
+#[derive(Debug, Drop)]
 pub struct Reading<'a> {
     text: &'a str,
     tokens: Vec<Token>,

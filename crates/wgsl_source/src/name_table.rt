@@ -18,7 +18,7 @@ const HASHED: usize = 64;
 
 /// The numbers of declarations by their names, in maps of few names: a hash of how the name begins says in which map it is.
 /// However the names are chosen, one is found in time in the logarithm of their number.
-#[derive(Drop)]
+#[derive(Debug, Drop)]
 pub(crate) struct NameTable {
     maps: Vec<BTreeMap<String, usize>>,
 }

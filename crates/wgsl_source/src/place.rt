@@ -26,6 +26,27 @@ impl Model for Lines {
     ghost view = { λ lines. lines.starts.items };
 }
 
+/// They are equal that begin at the same bytes.
+impl PartialEq for Lines {
+    ghost use Rattle.std.specs.Cmp.{partial_equiv_from_equiv};
+    ghost use Rattle.std.specs.Cmp.Lexicographic.{nat_list_eq_equiv, pointwise};
+    ghost use Rattle.std.specs.Prelude.{nat_eq};
+
+    ghost eq = { pointwise nat_eq };
+
+    ghost laws = { partial_equiv_from_equiv nat_list_eq_equiv };
+
+    fn eq(&self, other: &Lines) -> bool {
+        self.starts == other.starts
+    }
+}
+
+impl Eq for Lines {
+    ghost use Rattle.std.specs.Cmp.Lexicographic.{nat_list_eq_equiv};
+
+    ghost laws = { nat_list_eq_equiv };
+}
+
 impl Lines {
     /// The lines of the text: each ends with LF, or where the text does.
     pub fn new(alloc: Global, text: &str) -> Result<Self, AllocError>

@@ -4,6 +4,7 @@ mod compared;
 mod declarations;
 mod faults;
 mod growth;
+mod lines;
 mod made;
 mod modules;
 mod plain_forms;

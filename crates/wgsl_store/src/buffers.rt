@@ -21,6 +21,7 @@ pub trait Buffers: Sized + Ty {
     ///
     /// `None` exactly where the type has no layout ([`Type::has_layout`]), and of a deferred value. The only
     /// error is `Memory`. The condition: the value is well-formed.
+    /// It calls itself for each level of the value: keep to 4,095 within a stack of 8 MiB.
     fn to_buffer(&self, alloc: Global) -> Result<Option<Vec<u8>>, Error>
         requires { IsWellFormed (Self.value_of self.now) }
         ensures bytes { IfOk result (λ bytes. option_map (λ b. b.items) bytes ≡ buffer_of (Self.value_of self.now)) }
@@ -35,6 +36,7 @@ pub trait Buffers: Sized + Ty {
     /// `None` exactly where the type has no layout ([`Type::has_layout`]), or there are fewer bytes than a
     /// value of the type takes: the size of a type of known size, the tail padding of a structure included;
     /// else as far as a second element of the runtime-sized array would begin. The only error is `Memory`.
+    /// It calls itself for each level of the type: keep to 4,095 within a stack of 8 MiB.
     fn from_buffer(alloc: Global, bytes: &[u8], ty: &Type) -> Result<Option<Self>, Error>
         // The one value that is laid out in the bytes, or none where none is.
         ensures value { IfOk result (λ v. IsReadOf bytes.now (type_view ty.now) (option_map Self.value_of v)) }

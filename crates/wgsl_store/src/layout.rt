@@ -35,6 +35,7 @@ ghost use Rattle.wgsl_values.specs.View.{steps_of, value_of};
 use crate::located::Located;
 use crate::make::TypePlan;
 use std::alloc::{AllocError, Global};
+use std::fmt;
 use std::marker::Model;
 use std::ops::Range;
 use wgsl_rules::Type;
@@ -88,6 +89,7 @@ impl Layout {
     ghost use Rattle.wgsl_store.specs.Located.{IsLocated, part_range};
 
     /// The layout of the type; `None` exactly where the type has none ([`Type::has_layout`]).
+    /// It calls itself for each level of the type: keep to 4,095 within a stack of 8 MiB.
     pub fn of(alloc: Global, ty: &Type) -> Result<Option<Layout>, AllocError>
         ensures { let t = type_view ty.now in IfOk result (λ o. MatchOption o (has_layout t ≡ false) (λ l. (l ≡ t) × HasLayout t)) }
     {
@@ -97,6 +99,16 @@ impl Layout {
         }
         let ty = ty.clone(alloc)?;
         Ok(Some(Layout { ty, of_type }))
+    }
+
+    /// A copy of the layout, in memory of its own.
+    /// It calls itself for each level of the type: keep to 4,095 within a stack of 8 MiB.
+    pub fn clone(&self, alloc: Global) -> Result<Layout, AllocError>
+        ensures { IfOk result (λ l. l ≡ self.now) }
+    {
+        let ty = self.ty.clone(alloc)?;
+        let of_type = self.of_type.clone(alloc)?;
+        Ok(Layout { ty, of_type })
     }
 
     /// The type, which has a layout.
@@ -139,6 +151,7 @@ impl Layout {
 
     /// The bytes of the part that the view leads to, in so many bytes: from its first byte to behind its last, with
     /// the padding inside it. Refusals in order: `TooFewBytes`, `NoPart`. No memory is taken.
+    /// It calls itself for each level of the type: keep to 4,095 within a stack of 8 MiB.
     pub fn range(&self, len: usize, view: &MemView) -> Result<Range<usize>, LayoutRefusal>
         ensures range { answer_map (λ r. (r.start, r.end)) result ≡ answer_map span_of (part_in len (steps_of view.now) self.now) }
         ensures inside { IfOk result (λ r. (r.start ≤ r.end) × (r.end ≤ len)) }
@@ -149,6 +162,7 @@ impl Layout {
     }
 
     /// The type of the part that the view leads to, in so many bytes; `None` where [`Layout::range`] refuses.
+    /// It calls itself for each level of the type: keep to 4,095 within a stack of 8 MiB.
     pub fn part_ty(
         &self,
         alloc: Global,
@@ -166,6 +180,7 @@ impl Layout {
     /// The value of the part that the view leads to, in a value of the type that the bytes lay out from their first
     /// byte on; a runtime-sized array has as many elements as find room. It is what the bytes of the part lay out,
     /// and no byte outside [`Layout::range`] is looked at. `None` where that refuses.
+    /// It calls itself for each level of the type: keep to 4,095 within a stack of 8 MiB.
     pub fn read(
         &self,
         alloc: Global,
@@ -185,6 +200,7 @@ impl Layout {
     /// becomes 0, and every byte outside [`Layout::range`] stays as it is. Refusals in order, after which all bytes
     /// are as before: `TooFewBytes`, `NoPart`, `OtherType`, `OtherLength`. No memory is taken. The condition: the
     /// value may be stored, as `is_storable` tests.
+    /// It calls itself for each level of the type: keep to 4,095 within a stack of 8 MiB.
     pub fn write(
         &self,
         bytes: &mut [u8],
@@ -221,5 +237,36 @@ impl Layout {
             Some(part) => Ok(part),
             None => Err(LayoutRefusal::NoPart),
         }
+    }
+}
+
+/// As `==` of the types: the rest of a layout follows from its type.
+/// It calls itself for each level of the types: keep to 4,095 within a stack of 8 MiB.
+impl PartialEq for Layout {
+    ghost use Rattle.std.specs.Cmp.{partial_equiv_from_equiv};
+    ghost use Rattle.wgsl_rules.specs.Equal.{same-equiv};
+    ghost use Rattle.wgsl_rules.specs.Same.{same};
+
+    ghost eq = { same };
+
+    ghost laws = { partial_equiv_from_equiv same-equiv };
+
+    fn eq(&self, other: &Layout) -> bool {
+        self.ty == other.ty
+    }
+}
+
+impl Eq for Layout {
+    ghost use Rattle.wgsl_rules.specs.Equal.{same-equiv};
+
+    ghost laws = { same-equiv };
+}
+
+/// The type alone.
+impl fmt::Debug for Layout {
+    fn fmt<W: fmt::Write>(&self, f: &mut fmt::Formatter<W>) -> fmt::Result {
+        f.debug_struct("Layout")
+            .field("ty", &self.ty)
+            .finish_non_exhaustive()
     }
 }

@@ -28,6 +28,7 @@ use wgsl_values::{Instance, RefInstance};
 /// its length, and the types are as deep as it is long (see [`Type`]).
 pub trait Loads: Sized + Ty {
     /// The value itself, or what its reference leads to, read on while it is a reference.
+    /// It calls itself for each level of a value or type: keep to 4,095 within a stack of 8 MiB.
     fn loaded(self, alloc: Global, store: &Store) -> Result<Self, Error>
         requires { HoldsValue store.now (Self.value_of self) }
         ensures outcome { Gives Self.value_of result (loaded (held store.now) (Self.value_of self)) }
@@ -37,6 +38,7 @@ pub trait Loads: Sized + Ty {
 
     /// The value, loaded and then converted to the type; `None` where it does not convert to it. The
     /// condition: it is well-formed too.
+    /// It calls itself for each level of a value or type: keep to 4,095 within a stack of 8 MiB.
     fn convert_loaded(&self, alloc: Global, store: &Store, ty: &Type) -> Result<Option<Self>, Error>
         requires held { HoldsValue store.now (Self.value_of self.now) }
         requires well_formed { IsWellFormed (Self.value_of self.now) }

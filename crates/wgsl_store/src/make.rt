@@ -105,6 +105,19 @@ impl TypePlan {
         })
     }
 
+    /// A copy, in memory of its own.
+    pub(crate) fn clone(&self, alloc: Global) -> Result<TypePlan, AllocError>
+        ensures { (t : Ty) → IsPlanOf t self.now → IfOk result (IsPlanOf t) }
+    {
+        let plan = self.plan.clone(alloc)?;
+        Ok(TypePlan {
+            plan,
+            measures: self.measures,
+            tail: self.tail,
+            has_layout: self.has_layout,
+        })
+    }
+
     /// How many bytes a value of the type takes, with so many elements in the runtime-sized array that the
     /// type is or ends in; `None` where they are 2^64 or more.
     pub(crate) fn length(&self, count: usize) -> Option<usize>

@@ -1,9 +1,11 @@
 //! Where the parts of the values of a type stand, found once for the type (WGSL: internal layout of
 //! values; structure member layout).
 
-ghost use Rattle.std.specs.Prelude.{◌≡◌, ◌<◌, ◌^◌};
+ghost use Rattle.std.specs.Prelude.{◌≡◌, ◌<◌, ◌^◌, IfOk};
 ghost use Rattle.wgsl_store.specs.OpenLengths.{last_end, open_len, row_len};
-ghost use Rattle.wgsl_store.specs.Plan.{places_view, plan_view};
+ghost use Rattle.wgsl_store.specs.Plan.{place_view, places_view, plan_view};
+
+use std::alloc::{AllocError, Global};
 
 /// Where the parts of a value stand, in bytes from its start.
 #[cycle(plans)]
@@ -28,6 +30,27 @@ pub(crate) struct Place {
 }
 
 impl Plan {
+    /// A copy of the plan, in memory of its own.
+    #[cycle(clone)]
+    pub(crate) fn clone(&self, alloc: Global) -> Result<Plan, AllocError>
+        ensures { IfOk result (λ p. plan_view p ≡ plan_view self.now) }
+    {
+        match self {
+            Plan::Scalar => Ok(Plan::Scalar),
+            Plan::Components(far) => Ok(Plan::Components(*far)),
+            Plan::Row(far, part) => Ok(Plan::Row(*far, part.boxed_clone(alloc)?)),
+            Plan::Members(places) => Ok(Plan::Members(clone_places(alloc, places)?)),
+        }
+    }
+
+    #[cycle(clone)]
+    fn boxed_clone(&self, alloc: Global) -> Result<Box<Plan>, AllocError>
+        ensures { IfOk result (λ b. plan_view b.value ≡ plan_view self.now) }
+    {
+        let copy = self.clone(alloc)?;
+        Ok(Box::new(alloc, copy)?)
+    }
+
     /// How many bytes a value takes whose end so many elements tell: a runtime-sized array, or a structure that
     /// ends in one.
     pub(crate) fn open_len(&self, count: usize) -> usize
@@ -51,6 +74,30 @@ impl Plan {
             Plan::Scalar | Plan::Components(_) | Plan::Members(_) => 0,
         }
     }
+}
+
+impl Place {
+    #[cycle(clone)]
+    fn clone(&self, alloc: Global) -> Result<Place, AllocError>
+        ensures { IfOk result (λ p. place_view p ≡ place_view self.now) }
+    {
+        let plan = self.plan.clone(alloc)?;
+        Ok(Place {
+            offset: self.offset,
+            plan,
+        })
+    }
+}
+
+#[cycle(clone)]
+fn clone_places(alloc: Global, places: &Vec<Place>) -> Result<Vec<Place>, AllocError>
+    ensures { IfOk result (λ v. places_view v.items ≡ places_view places.now.items) }
+{
+    let mut copies = Vec::with_capacity(alloc, places.len())?;
+    for place in places {
+        copies.push(place.clone(alloc)?)?;
+    }
+    Ok(copies)
 }
 
 // Where the last of the members ends, which is an array of so many elements.

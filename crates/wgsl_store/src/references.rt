@@ -66,6 +66,7 @@ pub trait References: Sized {
 
     /// Makes a cell that holds the value, and a reference to the whole of it. The only error is
     /// `Memory`.
+    /// It calls itself for each level of a value or type: keep to 4,095 within a stack of 8 MiB.
     fn new(
         alloc: Global,
         store: &mut Store,
@@ -85,6 +86,7 @@ pub trait References: Sized {
 
     /// A reference to the first member of the name. Refusals in order: `NotRead` without read access,
     /// `Component` where the part is no structure or has no member of the name.
+    /// It calls itself for each level of a value or type: keep to 4,095 within a stack of 8 MiB.
     fn view_member(&self, alloc: Global, store: &Store, name: String) -> Result<Self, Error>
         requires { IsKept store.now (reference_of self.now) }
         ensures outcome { Gives reference_of result (deeper (held store.now) (reference_of self.now) (member_step (string_bytes name))) }
@@ -93,6 +95,7 @@ pub trait References: Sized {
     /// A reference to the element, component or column of the index. Refusals in order: `NotRead`
     /// without read access, `NotIndexable` where the part is no array, vector or matrix,
     /// `OutOfBounds` past its end.
+    /// It calls itself for each level of a value or type: keep to 4,095 within a stack of 8 MiB.
     fn view_index(&self, alloc: Global, store: &Store, i: usize) -> Result<Self, Error>
         requires { IsKept store.now (reference_of self.now) }
         ensures outcome { Gives reference_of result (deeper (held store.now) (reference_of self.now) (index_step i)) }
@@ -101,11 +104,13 @@ pub trait References: Sized {
     /// Whether the part is a component of a vector, wherever the vector stands: it may be a whole cell, a
     /// member, an element or a column of a matrix (WGSL: vector access expression). Read access is not
     /// needed, and no memory is taken.
+    /// It calls itself for each step of the view: keep to 4,095 within a stack of 8 MiB.
     fn names_component(&self, store: &Store) -> bool
         requires { IsKept store.now (reference_of self.now) }
         ensures { result ≡ names_component store.now (reference_of self.now) };
 
     /// A copy of the value of the part. Refused with `NotRead` without read access.
+    /// It calls itself for each level of a value or type: keep to 4,095 within a stack of 8 MiB.
     fn read(&self, alloc: Global, store: &Store) -> Result<Instance, Error>
         requires { IsKept store.now (reference_of self.now) }
         ensures outcome { Gives value_of result (read (held store.now) (reference_of self.now)) }
@@ -115,6 +120,8 @@ pub trait References: Sized {
     /// `WriteRefType`, the type of the value first, where the value does not fit: it is of another
     /// type, or has other paths, as a runtime-sized array of another length has. A write that is accepted
     /// takes no memory: it is never answered with `Memory`.
+    /// It calls itself for each level of a value or type, and for each step of its view: keep to 2,047 within a stack of
+    /// 8 MiB.
     fn write(&self, alloc: Global, store: &mut Store, value: Instance) -> Result<(), Error>
         requires kept { IsKept store.old (reference_of self.now) }
         requires storable { IsStorable (value_of value) }
@@ -131,6 +138,8 @@ pub trait References: Sized {
     ///
     /// Where both stand in cells of bytes, as [`Store::read_bytes`] tells, the bytes are copied in place: it takes no
     /// memory, and one that is accepted is never answered with `Memory`. Else the value is read and written.
+    /// It calls itself for each level of a value or type, and for each step of its view: keep to 2,047 within a stack of
+    /// 8 MiB.
     fn copy_to(&self, alloc: Global, store: &mut Store, target: &Self) -> Result<(), Error>
         requires from { IsKept store.old (reference_of self.now) }
         requires to { IsKept store.old (reference_of target.now) }
@@ -143,6 +152,8 @@ pub trait References: Sized {
     /// Puts the value in the place of the part, and answers the old value; write access alone is
     /// needed. Refusals in order: `NotReadWrite` without it, `WriteRefType` as in
     /// [`References::write`].
+    /// It calls itself for each level of a value or type, and for each step of its view: keep to 2,047 within a stack of
+    /// 8 MiB.
     fn read_write(
         &self,
         alloc: Global,
@@ -161,6 +172,7 @@ pub trait References: Sized {
     /// The number of the atomic that the reference names; `None` where it names no atomic (WGSL: atomic
     /// builtin functions, `atomicLoad`). Whether the reference may read is not asked here: who reads an atomic
     /// asks it. No memory is taken.
+    /// It calls itself for each step of the view: keep to 4,095 within a stack of 8 MiB.
     fn atomic_number(&self, store: &Store) -> Option<LiteralInstance>
         requires { IsKept store.now (reference_of self.now) }
         ensures { option_map literal_of result ≡ atomic_number store.now (reference_of self.now) };
@@ -168,6 +180,7 @@ pub trait References: Sized {
     /// Puts the number into the atomic that the reference names (WGSL: atomic builtin functions,
     /// `atomicStore`). It is never refused, and takes no memory. The further conditions: the reference may
     /// write, it is to an atomic of numbers of the kind, and an atomic of the number may be stored.
+    /// It calls itself for each step of the view: keep to 2,047 within a stack of 8 MiB.
     fn put_atomic_number(&self, store: &mut Store, number: LiteralInstance)
         requires kept { IsKept store.old (reference_of self.now) }
         requires may_write { can_write (reference_of self.now).access ≡ true }

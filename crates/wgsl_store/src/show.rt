@@ -17,6 +17,7 @@ pub trait Show: Ty {
     /// The text of the type, and behind it in round brackets the text of the value that is read, as
     /// `ref<storage, i32, read_write>(5i)`. Refused with `NotRead` without read access. The
     /// condition: the store keeps the reference.
+    /// It calls itself for each level of a value or type: keep to 4,095 within a stack of 8 MiB.
     fn show(&self, alloc: Global, store: &Store) -> Result<String, Error>
         requires { HoldsValue store.now (Self.value_of self.now) }
         ensures { Gives string_bytes result (shown (held store.now) (Self.value_of self.now)) };

@@ -102,6 +102,7 @@ impl Store {
 
     /// Whether the reference is kept: its cell is there, and its view leads to a value of its type.
     /// It takes no memory.
+    /// It calls itself for each level of a value or type: keep to 4,095 within a stack of 8 MiB.
     pub fn holds(&self, reference: &RefInstance) -> bool
         ensures { IsTrue result ↔ IsKept self.now (reference_of reference.now) }
     {
@@ -112,6 +113,7 @@ impl Store {
     }
 
     /// Whether each reference and pointer in the value is kept. It takes no memory.
+    /// It calls itself for each level of a value or type: keep to 4,095 within a stack of 8 MiB.
     #[cycle(holds_value)]
     pub fn holds_value(&self, value: &Instance) -> bool
         ensures { IsTrue result ↔ HoldsValue self.now (value_of value.now) }
@@ -190,6 +192,7 @@ impl Store {
     /// that a read gives ([`crate::Buffers::to_buffer`]), with the padding inside it; `None` in a cell that is no
     /// bytes, since the type of its whole value has no layout. Refused with `NotRead` without read access. No memory
     /// is taken. The condition: the reference is kept, as [`Store::holds`] tests.
+    /// It calls itself for each level of a value or type: keep to 4,095 within a stack of 8 MiB.
     pub fn read_bytes(&self, reference: &RefInstance) -> Result<Option<&[u8]>, Error>
         requires { IsKept self.now (reference_of reference.now) }
         ensures { Answers (option_map (λ b. b.now)) result (read_bytes self.now (reference_of reference.now)) }
@@ -232,6 +235,7 @@ impl Store {
     /// How many elements the array has that the reference names; `None` where it names no array (WGSL: array builtin
     /// functions, `arrayLength`). Read access is not asked, and no memory is taken. The condition: the reference is
     /// kept, as [`Store::holds`] tests.
+    /// It calls itself for each step of the view: keep to 4,095 within a stack of 8 MiB.
     pub fn element_count(&self, reference: &RefInstance) -> Option<usize>
         requires { IsKept self.now (reference_of reference.now) }
         ensures { result ≡ element_count self.now (reference_of reference.now) }

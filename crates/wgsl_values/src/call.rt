@@ -47,6 +47,7 @@ pub struct CallSignature {
 
 impl TpltParam {
     /// A copy of the argument, in memory of its own, but for structure types that values share already: it shares them.
+    /// It calls itself for each level of a type or value: keep to 4,095 within a stack of 8 MiB.
     pub fn clone(&self, alloc: Global) -> Result<TpltParam, AllocError>
         ensures { IfOk result (λ p. param_view p ≡ param_view self.now) }
     {
@@ -60,6 +61,7 @@ impl TpltParam {
 
 impl CallSignature {
     /// A copy of the signature, in memory of its own, but for structure types that values share already: it shares them.
+    /// It calls itself for each level of a type or value: keep to 4,095 within a stack of 8 MiB.
     pub fn clone(&self, alloc: Global) -> Result<CallSignature, AllocError>
         ensures { IfOk result (λ s. signature_view s ≡ signature_view self.now) }
     {
@@ -93,6 +95,7 @@ fn clone_types(alloc: Global, types: &Vec<Type>) -> Result<Vec<Type>, AllocError
     Ok(copies)
 }
 
+/// It calls itself for each level of a type or value: keep to 4,095 within a stack of 8 MiB.
 impl PartialEq for TpltParam {
     ghost eq = { λ p q. same_param (param_view p) (param_view q) };
 
@@ -112,6 +115,7 @@ impl Eq for TpltParam {
     ghost laws = { params_equiv };
 }
 
+/// It calls itself for each level of a type or value: keep to 4,095 within a stack of 8 MiB.
 impl PartialEq for CallSignature {
     ghost eq = { λ s t. same_signature (signature_view s) (signature_view t) };
 
@@ -141,6 +145,7 @@ impl Eq for CallSignature {
 }
 
 /// The text of the type, the value or the word.
+/// It calls itself for each level of a type or value: keep to 4,095 within a stack of 8 MiB.
 impl Display for TpltParam {
     ghost output = { λ p. Some (param_text (param_view p)) };
 
@@ -154,6 +159,7 @@ impl Display for TpltParam {
 }
 
 /// The call, as `name(args)` or `name<tplt>(args)`.
+/// It calls itself for each level of a type or value: keep to 4,095 within a stack of 8 MiB.
 impl Display for CallSignature {
     ghost output = { λ s. Some (signature_text (signature_view s)) };
 

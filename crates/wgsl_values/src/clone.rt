@@ -24,6 +24,7 @@ use std::alloc::{AllocError, Global};
 
 impl Instance {
     /// A copy of the value, in memory of its own, but for structure types that values share already: it shares them.
+    /// It calls itself for each level of the value: keep to 4,095 within a stack of 8 MiB.
     #[cycle(clone)]
     pub fn clone(&self, alloc: Global) -> Result<Instance, AllocError>
         ensures { IfOk result (λ v. value_of v ≡ value_of self.now) }
@@ -44,6 +45,7 @@ impl Instance {
 
 impl StructInstance {
     /// A copy of the structure, in memory of its own, but for structure types that values share already: it shares them.
+    /// It calls itself for each level of the value: keep to 4,095 within a stack of 8 MiB.
     #[cycle(clone)]
     pub fn clone(&self, alloc: Global) -> Result<StructInstance, AllocError>
         ensures { IfOk result (λ v. struct_view v ≡ struct_view self.now) }
@@ -56,6 +58,7 @@ impl StructInstance {
 
 impl ArrayInstance {
     /// A copy of the array, in memory of its own, but for structure types that values share already: it shares them.
+    /// It calls itself for each level of the value: keep to 4,095 within a stack of 8 MiB.
     #[cycle(clone)]
     pub fn clone(&self, alloc: Global) -> Result<ArrayInstance, AllocError>
         ensures { IfOk result (λ v. array_view v ≡ array_view self.now) }
@@ -120,6 +123,7 @@ fn clone_values(alloc: Global, values: &Vec<Instance>) -> Result<Vec<Instance>, 
 
 impl PtrInstance {
     /// A copy of the pointer; what it points to is the same.
+    /// It calls itself for each level of the target's type: keep to 4,095 within a stack of 8 MiB.
     pub fn clone(&self, alloc: Global) -> Result<PtrInstance, AllocError>
         ensures { IfOk result (λ p. ptr_view p ≡ ptr_view self.now) }
     {
@@ -130,6 +134,7 @@ impl PtrInstance {
 
 impl RefInstance {
     /// A copy of the reference; what it names is the same.
+    /// It calls itself for each level of the target's type: keep to 4,095 within a stack of 8 MiB.
     pub fn clone(&self, alloc: Global) -> Result<RefInstance, AllocError>
         ensures { IfOk result (λ r. reference_of r ≡ reference_of self.now) }
     {

@@ -86,6 +86,7 @@ impl Instance {
     /// Whether the conversion rank of its type to the other exists, as
     /// [`wgsl_rules::conversion_rank`] finds it, without the memory that making its type takes
     /// (WGSL: conversion rank). The condition: the value is well-formed.
+    /// It calls itself for each level of a value or type: keep to 4,095 within a stack of 8 MiB.
     #[cycle(is_convertible)]
     pub fn is_convertible_to(&self, ty: &Type) -> bool
         requires { IsWellFormed (value_of self.now) }

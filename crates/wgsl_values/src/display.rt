@@ -31,6 +31,7 @@ use std::fmt::Display;
 
 /// The literal, or the expression that builds the value (WGSL: literals; value constructors); of a
 /// pointer or a reference its type.
+/// It calls itself for each level of the value: keep to 4,095 within a stack of 8 MiB.
 impl Display for Instance {
     ghost output = { λ v. Some (text_of_value (value_of v)) };
 
@@ -40,6 +41,7 @@ impl Display for Instance {
 }
 
 /// The name of the type, and the members in parentheses.
+/// It calls itself for each level of the value: keep to 4,095 within a stack of 8 MiB.
 impl Display for StructInstance {
     ghost output = { λ s. Some (text_of_value (struct_view s)) };
 
@@ -49,6 +51,7 @@ impl Display for StructInstance {
 }
 
 /// `array`, and the elements in parentheses.
+/// It calls itself for each level of the value: keep to 4,095 within a stack of 8 MiB.
 impl Display for ArrayInstance {
     ghost output = { λ a. Some (text_of_value (array_view a)) };
 
@@ -91,6 +94,7 @@ impl Display for AtomicInstance {
 }
 
 /// The type, as `ptr<function, u32, read_write>`.
+/// It calls itself for each level of the target's type: keep to 4,095 within a stack of 8 MiB.
 impl Display for PtrInstance {
     ghost output = { λ p. Some (text_of_value (ptr_view p)) };
 
@@ -106,6 +110,7 @@ impl Display for PtrInstance {
 }
 
 /// The type, as `ref<function, u32, read_write>`.
+/// It calls itself for each level of the target's type: keep to 4,095 within a stack of 8 MiB.
 impl Display for RefInstance {
     ghost output = { λ r. Some (text_of_value (ref_view r)) };
 

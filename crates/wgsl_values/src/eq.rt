@@ -63,6 +63,7 @@ impl PartialEq for MemView {
     }
 }
 
+/// It calls itself for each level of the target's type: keep to 4,095 within a stack of 8 MiB.
 impl PartialEq for RefInstance {
     ghost eq = { λ v w. same_value (ref_view v) (ref_view w) };
 
@@ -77,6 +78,7 @@ impl PartialEq for RefInstance {
     }
 }
 
+/// It calls itself for each level of the target's type: keep to 4,095 within a stack of 8 MiB.
 impl PartialEq for PtrInstance {
     ghost eq = { λ v w. same_value (ptr_view v) (ptr_view w) };
 
@@ -87,6 +89,7 @@ impl PartialEq for PtrInstance {
     }
 }
 
+/// It calls itself for each level of the values: keep to 4,095 within a stack of 8 MiB.
 impl PartialEq for Instance {
     ghost eq = { λ v w. same_value (value_of v) (value_of w) };
 
@@ -109,6 +112,7 @@ impl PartialEq for Instance {
     }
 }
 
+/// It calls itself for each level of the values: keep to 4,095 within a stack of 8 MiB.
 impl PartialEq for StructInstance {
     ghost eq = { λ v w. same_value (struct_view v) (struct_view w) };
 
@@ -120,6 +124,7 @@ impl PartialEq for StructInstance {
     }
 }
 
+/// It calls itself for each level of the values: keep to 4,095 within a stack of 8 MiB.
 impl PartialEq for ArrayInstance {
     ghost eq = { λ v w. same_value (array_view v) (array_view w) };
 

@@ -11,9 +11,10 @@ use wgsl_scalar::LiteralInstance;
 /// value of a type that is not known yet; it is no part of another value.
 ///
 /// Values may stand in values to any depth. What goes through a value (`clone`, `==`, its text, its
-/// bytes, tests, conversions, views, dropping it) calls itself for each value inside another, so the
-/// stack of the process limits the depth: with 8 MiB, 4,095 structures are tried, each a member of
-/// the next.
+/// bytes, tests, conversions, dropping it) calls itself for each value inside another, so the stack of
+/// the process limits the depth: 4,095 levels are tried with 8 MiB, of structures that are each a member
+/// of the next and of arrays, and 2,047 steps of a view that is written through. Much deeper the process
+/// ends by a signal, so whoever takes values from elsewhere has to count their levels first.
 #[cycle(values)]
 #[derive(Debug, Drop)]
 pub enum Instance {

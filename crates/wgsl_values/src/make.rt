@@ -40,6 +40,7 @@ use wgsl_scalar::LiteralInstance;
 
 impl Instance {
     /// Whether it is well-formed: storable, or deferred.
+    /// It calls itself for each level of the value: keep to 4,095 within a stack of 8 MiB.
     pub fn is_well_formed(&self) -> bool
         ensures { IsTrue result ↔ IsWellFormed (value_of self.now) }
     {
@@ -51,6 +52,7 @@ impl Instance {
 
     /// Whether a cell may hold it: it is well-formed in each part, and no part is deferred (WGSL:
     /// storable types). Takes time in proportion to its parts and the types in them.
+    /// It calls itself for each level of the value: keep to 4,095 within a stack of 8 MiB.
     #[cycle(storable)]
     pub fn is_storable(&self) -> bool
         ensures { IsTrue result ↔ IsStorable (value_of self.now) }
@@ -141,6 +143,7 @@ impl StructInstance {
     }
 
     /// Whether the condition of [`StructInstance::new`] holds.
+    /// It calls itself for each level of the values: keep to 4,095 within a stack of 8 MiB.
     pub fn can_make(ty: &StructType, members: &[Instance]) -> bool
         ensures { IsTrue result ↔ IsStorable (record_of (struct_type_view ty.now) (vals_view members.now)) }
     {
@@ -163,6 +166,7 @@ impl ArrayInstance {
 
     /// Whether the condition of [`ArrayInstance::new`] holds, as it does of both kinds of array or of
     /// neither.
+    /// It calls itself for each level of the values: keep to 4,095 within a stack of 8 MiB.
     #[cycle(storable)]
     pub fn can_make(components: &[Instance], _runtime_sized: bool) -> bool
         ensures { IsTrue result ↔ IsStorable (array_of _runtime_sized (vals_view components.now)) }

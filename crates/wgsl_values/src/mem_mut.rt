@@ -215,6 +215,7 @@ impl Instance {
     /// Puts the value in the place of the part that the view leads to, and gives the old part back;
     /// `None` where the view leads nowhere, and nothing is changed (WGSL: assignment statement;
     /// memory views). It takes no memory.
+    /// It calls itself for each step that the value has: keep to 2,047 within a stack of 8 MiB.
     pub fn put(&mut self, view: &MemView, value: Instance) -> Option<Instance>
         ensures put { value_of self.new ≡ put_viewed (steps_of view.now) (value_of value) (value_of self.old) }
         ensures part { option_map value_of result ≡ result_ok (viewed (steps_of view.now) (value_of self.old)) }

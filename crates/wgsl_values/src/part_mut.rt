@@ -90,6 +90,7 @@ impl Instance {
     /// The first step that leads nowhere is refused as by [`Instance::view`], and nothing is then
     /// changed. What is answered has to be let go: where it is forgotten, `false` stays in the place
     /// of the part. The condition: the value is well-formed.
+    /// It calls itself for each step that the value has, and so does letting the part go: keep to 2,047 within a stack of 8 MiB.
     pub fn view_mut<'a>(
         &'a mut self,
         alloc: Global,
@@ -123,6 +124,7 @@ impl Instance {
     /// A value of another type is refused with `WriteRefType`, the type of the new value first, and
     /// nothing is then changed; nor is it where memory for that answer is wanting. The conditions:
     /// the value is well-formed, and the new one may be stored.
+    /// It calls itself for each level of a value or type: keep to 4,095 within a stack of 8 MiB.
     pub fn write(&mut self, alloc: Global, value: Instance) -> Result<Instance, Error>
         requires own { IsWellFormed (value_of self.old) }
         requires new { IsStorable (value_of value) }

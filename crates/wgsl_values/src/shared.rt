@@ -72,7 +72,8 @@ impl SharedStructType {
         }
     }
 
-    /// Whether it is this type. It takes no memory.
+    /// Whether it is this type. It takes no memory. It calls itself for each level of the types: keep to 4,095 within a
+    /// stack of 8 MiB.
     #[tactic(auto, using(wgsl_rules::specs::Equal::same_is))]
     pub fn is_type(&self, ty: &StructType) -> bool
         ensures { IsTrue result ↔ (self.now ≡ struct_view ty.now) }
@@ -105,7 +106,8 @@ impl SharedStructType {
     }
 
     /// The same type for another value. A type that values share takes no memory, unless it has as many owners as can be
-    /// counted; else the type is copied, and the copy is of that value alone.
+    /// counted; else the type is copied, and the copy is of that value alone. A copy calls itself for each level of the
+    /// type: keep to 4,095 within a stack of 8 MiB.
     pub fn clone(&self, alloc: Global) -> Result<SharedStructType, AllocError>
         ensures { IfOk result (λ s. s ≡ self.now) }
     {
@@ -130,6 +132,28 @@ impl SharedStructType {
             },
         }
     }
+}
+
+/// As `==` of the types, whether values share them or not. It calls itself for each level of the types: keep to 4,095
+/// within a stack of 8 MiB.
+impl PartialEq for SharedStructType {
+    ghost use Rattle.std.specs.Cmp.{partial_equiv_from_equiv};
+    ghost use Rattle.wgsl_rules.specs.Equal.{same-equiv};
+    ghost use Rattle.wgsl_rules.specs.Same.{same};
+
+    ghost eq = { same };
+
+    ghost laws = { partial_equiv_from_equiv same-equiv };
+
+    fn eq(&self, other: &SharedStructType) -> bool {
+        self.is_same(other)
+    }
+}
+
+impl Eq for SharedStructType {
+    ghost use Rattle.wgsl_rules.specs.Equal.{same-equiv};
+
+    ghost laws = { same-equiv };
 }
 
 /// As the type itself.

@@ -35,7 +35,8 @@ use wgsl_scalar::Error;
 /// A way from a value to a part of it, the outermost step first.
 ///
 /// A view may have any number of steps: what goes along it (`clone`, `==`, its text, a last step that is
-/// put on, dropping it) does so in a loop, and takes no more stack where it is longer.
+/// put on, dropping it) does so in a loop, and takes no more stack where it is longer. Only what follows it
+/// through a value calls itself for each step that the value has, and `{:?}` for each step.
 #[derive(Debug)]
 pub enum MemView {
     /// The value itself.
@@ -173,6 +174,7 @@ impl Instance {
     /// The first step that leads nowhere is refused, with the type of the value that it was taken
     /// from: `Component` for a name, `NotIndexable` or `OutOfBounds` for an index. Memory is taken
     /// for the type and the name of a refusal alone. The condition: the value is well-formed.
+    /// It calls itself for each step that the value has: keep to 4,095 within a stack of 8 MiB.
     pub fn view(&self, alloc: Global, view: &MemView) -> Result<&Instance, Error>
         requires { IsWellFormed (value_of self.now) }
         ensures { Gives (λ v. value_of v.now) result (viewed (steps_of view.now) (value_of self.now)) }

@@ -20,6 +20,12 @@ fn layout_of(rt: &impl Abort, alloc: Global, ty: &Type) -> Layout {
     layout.expect(rt, "a layout")
 }
 
+/// The type of the light: a matrix m, and a runtime-sized array of pairs.
+fn light_ty(rt: &impl Abort, alloc: Global) -> Type {
+    let light = light(rt, alloc).expect(rt, "memory");
+    light.ty(alloc).expect(rt, "memory")
+}
+
 /// The view to the member.
 fn member(rt: &impl Abort, alloc: Global, name: &str) -> MemView {
     let mut view = MemView::Whole;
@@ -220,4 +226,72 @@ fn parts_are_read_whatever_the_padding(rt: HostRuntime) {
     assert_none(&rt, layout.read(alloc, &[0; 15], &MemView::Whole));
     assert_none(&rt, Layout::of(alloc, &Type::Bool));
     drop((ty, layout, past));
+}
+
+/// Asserts whether the types have equal layouts.
+fn assert_equal(rt: &impl Abort, alloc: Global, one: Type, other: Type, wanted: bool) {
+    let first = layout_of(rt, alloc, &one);
+    let second = layout_of(rt, alloc, &other);
+    assert_eq!(rt; first == second, wanted, "{one} and {other}");
+    assert_eq!(rt; first != second, !wanted, "{one} and {other}");
+    drop((first, second, one, other));
+}
+
+/// Asserts that a copy of the layout of the light names and reads what that does, and stays when that is let go.
+fn assert_copied(rt: &impl Abort, alloc: Global, ty: &Type) {
+    let layout = layout_of(rt, alloc, ty);
+    let copy = layout.clone(alloc).expect(rt, "memory");
+    assert_same(rt, &copy, &layout);
+    drop(layout);
+    assert_eq!(rt; copy.ty(), ty);
+    assert_eq!(rt; copy.size(), None);
+    assert_eq!(rt; copy.size_with(2), Some(96));
+    assert_eq!(rt; copy.count_in(100), Some(2));
+    let second = member_index(rt, alloc, "pairs", 1);
+    assert_range(rt, &copy, 100, second, Ok((64, 96)));
+    let words = bytes_of(
+        rt,
+        alloc,
+        &[1, 2, 3, 0, 4, 5, 6, 0, 7, 0, 0, 0, 8, 9, 10, 0],
+    );
+    let column = member_index(rt, alloc, "m", 1);
+    assert_reads(rt, alloc, &copy, &words, column, "vec3(4u, 5u, 6u)");
+    let pairs = member(rt, alloc, "pairs");
+    let wanted = "array(Pair(7u, vec3(8u, 9u, 10u)))";
+    assert_reads(rt, alloc, &copy, &words, pairs, wanted);
+    drop((copy, words));
+}
+
+#[test]
+fn layouts_are_equal_where_their_types_are(rt: HostRuntime) {
+    let alloc = rt.alloc();
+    let words = array(&rt, alloc, Type::U32, Some(2));
+    let again = array(&rt, alloc, Type::U32, Some(2));
+    assert_equal(&rt, alloc, words, again, true);
+    assert_equal(&rt, alloc, light_ty(&rt, alloc), light_ty(&rt, alloc), true);
+    // Each number stands in the same bytes.
+    assert_equal(&rt, alloc, Type::U32, Type::I32, false);
+    let words = array(&rt, alloc, Type::U32, Some(2));
+    let more = array(&rt, alloc, Type::U32, Some(3));
+    assert_equal(&rt, alloc, words, more, false);
+    let words = array(&rt, alloc, Type::U32, Some(2));
+    let vector = vector(&rt, alloc, 2, Type::U32);
+    assert_equal(&rt, alloc, words, vector, false);
+}
+
+#[test]
+fn a_copy_of_a_layout_serves_as_the_first(rt: HostRuntime) {
+    let alloc = rt.alloc();
+    let ty = light_ty(&rt, alloc);
+    assert_copied(&rt, alloc, &ty);
+    drop(ty);
+}
+
+#[test]
+fn a_layout_is_shown_by_its_type(rt: HostRuntime) {
+    let alloc = rt.alloc();
+    let layout = layout_of(&rt, alloc, &Type::U32);
+    let shown = format!(in alloc; "{layout:?}").expect(&rt, "memory");
+    assert_eq!(rt; shown.as_str(), "Layout { ty: U32, .. }");
+    drop((layout, shown));
 }

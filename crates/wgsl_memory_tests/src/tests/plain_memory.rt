@@ -6,6 +6,7 @@ ghost use Rattle.wgsl_session.specs.Calls.{AreSoundCalls};
 ghost use Rattle.wgsl_session.specs.View.{call_of};
 
 mod calls;
+mod coverage;
 mod layout;
 mod memory;
 mod numbers;
@@ -15,6 +16,7 @@ mod tables;
 mod values;
 
 use crate::tests::asserts::{assert_is, assert_same};
+use crate::tests::plain_memory::coverage::Coverage;
 use crate::tests::plain_memory::layout::Layout;
 use crate::tests::plain_memory::memory::{Content, Memory};
 use crate::tests::plain_memory::numbers::Numbers;
@@ -54,30 +56,42 @@ impl Both {
         }
     }
 
-    /// The next call, which the plain memory makes, and what a session has to answer.
-    fn next(&mut self, rt: &impl Abort, alloc: Global) -> (Call, Result<Reply, Fault>) {
+    /// The next call, which the plain memory makes, and what a session has to answer. It is counted.
+    fn next(
+        &mut self,
+        rt: &impl Abort,
+        alloc: Global,
+        coverage: &mut Coverage,
+    ) -> (Call, Result<Reply, Fault>) {
         let next = self.plain.random_call(alloc, &mut self.numbers);
         let next = next.expect(rt, "memory");
         let call = self.plain.call(rt, alloc, &next);
         let answer = self.plain.step(rt, alloc, &next);
+        coverage.add(rt, &self.plain, &next, &answer);
         let reply = self.plain.reply(rt, alloc, &answer);
         drop((next, answer));
         (call, reply)
     }
 
     /// Makes the next call on both, and asserts that they answer the same.
-    fn assert_call(&mut self, rt: &impl Abort, alloc: Global) {
-        let (call, wanted) = self.next(rt, alloc);
+    fn assert_call(&mut self, rt: &impl Abort, alloc: Global, coverage: &mut Coverage) {
+        let (call, wanted) = self.next(rt, alloc, coverage);
         let reply = sessions::call(rt, &mut self.session, call);
         assert_same(rt, reply, wanted);
     }
 
     /// Makes so many calls on both, in one run of the session, and asserts that they answer the same.
-    fn assert_run(&mut self, rt: &impl Abort, alloc: Global, count: usize) {
+    fn assert_run(
+        &mut self,
+        rt: &impl Abort,
+        alloc: Global,
+        count: usize,
+        coverage: &mut Coverage,
+    ) {
         let mut calls = Vec::new(alloc);
         let mut wanted = Vec::new(alloc);
         for _ in 0..count {
-            let (call, reply) = self.next(rt, alloc);
+            let (call, reply) = self.next(rt, alloc, coverage);
             add_call(rt, &mut calls, call);
             wanted.push(reply).expect(rt, "memory");
         }
@@ -151,27 +165,33 @@ fn add_call(rt: &impl Abort, calls: &mut Vec<Call>, call: Call)
 #[test]
 fn a_session_answers_each_call_as_a_plain_memory(rt: HostRuntime) {
     let alloc = rt.alloc();
+    let mut coverage = Coverage::new(&rt, alloc);
     for seed in 1..6 {
         let mut both = Both::new(&rt, alloc, seed);
         for _ in 0..CALLS / TURN {
             for _ in 0..TURN {
-                both.assert_call(&rt, alloc);
+                both.assert_call(&rt, alloc, &mut coverage);
             }
             both.assert_held(&rt, alloc);
         }
         drop(both);
     }
+    coverage.assert_met(&rt, alloc);
+    drop(coverage);
 }
 
 #[test]
 fn a_session_runs_lists_as_a_plain_memory(rt: HostRuntime) {
     let alloc = rt.alloc();
+    let mut coverage = Coverage::new(&rt, alloc);
     for (seed, turn) in [(6, TURN), (7, TURN), (8, TURN), (9, TURN), (10, CALLS)] {
         let mut both = Both::new(&rt, alloc, seed);
         for _ in 0..CALLS / turn {
-            both.assert_run(&rt, alloc, turn);
+            both.assert_run(&rt, alloc, turn, &mut coverage);
             both.assert_held(&rt, alloc);
         }
         drop(both);
     }
+    coverage.assert_met(&rt, alloc);
+    drop(coverage);
 }

@@ -1,9 +1,10 @@
 //! Scripts that seeds give, of every command, type word and attribute, refused ones too: they print what the same
 //! calls on a session answer.
 
+use crate::tests::coverage::Coverage;
 use crate::tests::output_of;
 use crate::tests::reading::{Reader, text};
-use std::alloc::Global;
+use std::alloc::{AllocError, Global};
 use std::fmt::Write;
 use std::process::Abort;
 
@@ -37,16 +38,24 @@ const SCALARS: [&str; 4] = ["i32", "u32", "i64", "u64"];
 
 const NAMES: [&str; 7] = ["a", "b", "c", "_d", "e9", "9e", "f-g"];
 
-const ATTRIBUTES: [&str; 16] = [
+const ATTRIBUTES: [&str; 24] = [
     "",
     "",
     "",
     "",
     "",
-    "@align(16)",
+    "",
+    "",
+    "",
     "@align(8)",
+    "@align(16)",
+    "@align(32)",
+    "@align(64)",
     "@size(32)",
+    "@size(64)",
+    "@size(128)",
     "@align(8)@size(64)",
+    "@align(32)@size(64)",
     "@size(128)@align(32)",
     "@align(3)",
     "@align(0)",
@@ -56,12 +65,16 @@ const ATTRIBUTES: [&str; 16] = [
     "@size(4294967296)",
 ];
 
-const COUNTS: [&str; 12] = [
+const COUNTS: [&str; 16] = [
+    ",2",
+    ",2",
     ",2",
     ",2",
     ",3",
+    ",3",
     ",1",
     ",0000000002",
+    "",
     "",
     "",
     ",0",
@@ -71,23 +84,33 @@ const COUNTS: [&str; 12] = [
     ",",
 ];
 
-const SPACES: [&str; 7] = [
+const SPACES: [&str; 13] = [
+    "function",
     "function",
     "private",
+    "private",
+    "workgroup",
     "workgroup",
     "uniform",
+    "uniform",
     "storage",
+    "storage",
+    "handle",
     "handle",
     "Storage",
 ];
 
-const ACCESSES: [&str; 8] = [
+const ACCESSES: [&str; 12] = [
     "read_write",
     "read_write",
     "read_write",
     "read_write",
     "read_write",
     "read",
+    "read",
+    "read",
+    "write",
+    "write",
     "write",
     "readwrite",
 ];
@@ -98,33 +121,44 @@ struct Maker {
     alloc: Global,
     numbers: Numbers,
     reader: Reader,
+    /// How many structures there are: they are called `S0`, `S1` and so on.
     structs: usize,
+    /// The handles that were made with a value of one.
+    wholes: Vec<usize>,
 }
 
 impl Maker {
+    /// The number of a structure; one of eight is not there.
+    fn structure_number(&mut self) -> usize {
+        match self.numbers.below(8) {
+            0 => self.structs,
+            _ => self.numbers.below(self.structs),
+        }
+    }
+
     /// A word for a type that is no array.
     fn element(&mut self, rt: &impl Abort) -> String {
+        let number = self.structure_number();
         let numbers = &mut self.numbers;
         let scalar = numbers.pick(&SCALARS);
         let columns = numbers.pick(&["2", "3", "4"]);
         let rows = numbers.pick(&["2", "3", "4"]);
-        let number = numbers.below(self.structs.wrapping_add(1));
         let word = match numbers.below(10) {
-            0 | 1 | 2 => String::from_str(self.alloc, scalar),
-            3 | 4 => format!(in self.alloc; "vec{columns}<{scalar}>"),
-            5 | 6 => format!(in self.alloc; "mat{columns}x{rows}<{scalar}>"),
-            7 => format!(in self.alloc; "atomic<{scalar}>"),
-            _ => format!(in self.alloc; "S{number}"),
+            0 | 1 if self.structs > 0 => format!(in self.alloc; "S{number}"),
+            2 | 3 => format!(in self.alloc; "vec{columns}<{scalar}>"),
+            4 | 5 => format!(in self.alloc; "mat{columns}x{rows}<{scalar}>"),
+            6 => format!(in self.alloc; "atomic<{scalar}>"),
+            _ => String::from_str(self.alloc, scalar),
         };
         word.expect(rt, "memory")
     }
 
     /// A word for a type.
     fn ty(&mut self, rt: &impl Abort) -> String {
-        let arrays = match self.numbers.below(20) {
+        let arrays = match self.numbers.below(40) {
             0 => 17,
-            1 | 2 => 2,
-            3 | 4 | 5 | 6 => 1,
+            1 | 2 | 3 | 4 => 2,
+            5 | 6 | 7 | 8 | 9 | 10 | 11 | 12 => 1,
             _ => 0,
         };
         let mut word = self.element(rt);
@@ -138,16 +172,17 @@ impl Maker {
     /// A line that defines a structure.
     fn structure(&mut self, rt: &impl Abort) -> String {
         let number = self.structs;
-        let mut line = match self.numbers.below(12) {
+        let mut line = match self.numbers.below(20) {
             0 => text(rt, self.alloc, "struct u32"),
             1 => text(rt, self.alloc, "struct 9S"),
             2 => text(rt, self.alloc, "struct S0"),
-            _ => {
-                self.structs = number.wrapping_add(1);
-                format!(in self.alloc; "struct S{number}").expect(rt, "memory")
-            }
+            _ => format!(in self.alloc; "struct S{number}").expect(rt, "memory"),
         };
-        for _ in 0..self.numbers.below(4) {
+        let members = match self.numbers.below(12) {
+            0 => 0,
+            _ => self.numbers.below(3).wrapping_add(1),
+        };
+        for _ in 0..members {
             let attributes = self.numbers.pick(&ATTRIBUTES);
             let name = self.numbers.pick(&NAMES[..5]);
             let ty = self.ty(rt);
@@ -156,13 +191,39 @@ impl Maker {
         line
     }
 
+    /// Notes what the line prints: whether there is one more structure, or a handle of one.
+    fn note(&mut self, rt: &impl Abort, line: &str, answer: &str) {
+        let mut words = line.split(' ').filter(|word| !word.is_empty());
+        match (words.next(), words.next()) {
+            (Some("struct"), _) if answer == "done" => {
+                self.structs = self.structs.wrapping_add(1);
+            }
+            (Some("new"), Some(ty)) if ty.starts_with('S') && answer.starts_with('&') => {
+                let made = self.reader.handles().saturating_sub(1);
+                self.wholes.push(made).expect(rt, "memory");
+            }
+            _ => {}
+        }
+    }
+
+    /// A line that names a member: three of four, if there is one, of a structure.
+    fn member(&mut self, handle: usize) -> Result<String, AllocError> {
+        let name = self.numbers.pick(&NAMES);
+        let i = self.numbers.below(self.wholes.len());
+        let handle = match self.wholes.get(i) {
+            Some(whole) if self.numbers.below(4) > 0 => *whole,
+            _ => handle,
+        };
+        format!(in self.alloc; "member &{handle} {name}")
+    }
+
     /// Adds the digits of as many bytes, of a few more or of a few less.
     fn push_bytes(&mut self, rt: &impl Abort, line: &mut String, size: Option<u32>) {
         let size = size.unwrap_or(4).min(400) as usize;
         let len = match self.numbers.below(8) {
             0 => size.saturating_sub(1),
             1 => size.saturating_add(4),
-            2 => size.saturating_add(32),
+            2 | 3 | 4 => size.saturating_add(32),
             _ => size,
         };
         line.push(' ').expect(rt, "memory");
@@ -177,9 +238,25 @@ impl Maker {
         }
     }
 
+    /// A word for the type of a cell: two of five or more name a structure, and one of five or more is a runtime-sized
+    /// array.
+    fn cell_type(&mut self, rt: &impl Abort) -> String {
+        match self.numbers.below(10) {
+            0 | 1 | 2 | 3 if self.structs > 0 => {
+                let number = self.structure_number();
+                format!(in self.alloc; "S{number}").expect(rt, "memory")
+            }
+            4 | 5 => {
+                let element = self.element(rt);
+                format!(in self.alloc; "array<{element}>").expect(rt, "memory")
+            }
+            _ => self.ty(rt),
+        }
+    }
+
     /// A line that makes a cell.
     fn cell(&mut self, rt: &impl Abort) -> String {
-        let ty = self.ty(rt);
+        let ty = self.cell_type(rt);
         let space = self.numbers.pick(&SPACES);
         let access = self.numbers.pick(&ACCESSES);
         let size = self.reader.size_of(rt, ty.as_str());
@@ -203,17 +280,16 @@ impl Maker {
         let limit = self.reader.handles().wrapping_add(1);
         let from = self.numbers.below(limit);
         let to = self.numbers.below(limit);
-        let name = self.numbers.pick(&NAMES);
         let i = self.numbers.below(4);
-        let line = match self.numbers.below(17) {
-            0 | 1 => Ok(self.structure(rt)),
-            2 | 3 | 4 => Ok(self.cell(rt)),
-            5 | 6 => format!(in alloc; "member &{from} {name}"),
-            7 | 8 | 9 => format!(in alloc; "index &{from} {i}"),
-            10 | 11 => format!(in alloc; "read &{from}"),
-            12 | 13 => Ok(self.write(rt, from)),
-            14 => format!(in alloc; "copy &{from} &{to}"),
-            15 => format!(in alloc; "copy &{from} &{from}"),
+        let line = match self.numbers.below(24) {
+            0 | 1 | 2 => Ok(self.structure(rt)),
+            3 | 4 | 5 | 6 | 7 => Ok(self.cell(rt)),
+            8 | 9 | 10 | 11 => self.member(from),
+            12 | 13 | 14 => format!(in alloc; "index &{from} {i}"),
+            15 | 16 => format!(in alloc; "read &{from}"),
+            17 | 18 | 19 => Ok(self.write(rt, from)),
+            20 => format!(in alloc; "copy &{from} &{to}"),
+            21 => format!(in alloc; "copy &{from} &{from}"),
             _ => format!(in alloc; "dump &{from}"),
         };
         line.expect(rt, "memory")
@@ -243,20 +319,32 @@ impl Maker {
     }
 }
 
-/// Asserts what the script of the seed prints, and adds its lines and what they print.
-fn assert_script(rt: &impl Abort, alloc: Global, seed: u64, all: &mut String) {
+/// Asserts what the script of the seed prints, counts its lines, and adds them and what they print.
+fn assert_script(
+    rt: &impl Abort,
+    alloc: Global,
+    seed: u64,
+    coverage: &mut Coverage,
+    all: &mut String,
+) {
+    coverage.begin();
     let mut maker = Maker {
         alloc,
         numbers: Numbers { state: seed },
         reader: Reader::new(rt, alloc),
         structs: 0,
+        wholes: Vec::new(alloc),
     };
     let mut script = String::new(alloc);
     let mut wanted = String::new(alloc);
     for _ in 0..LINES {
         let line = maker.mangled(rt);
         writeln!(script, "{line}").expect(rt, "memory");
-        if let Some(answer) = maker.reader.print(rt, line.as_str()) {
+        let answer = maker.reader.print(rt, line.as_str());
+        let printed = answer.as_ref().map(String::as_str);
+        coverage.add(rt, line.as_str(), printed);
+        if let Some(answer) = answer {
+            maker.note(rt, line.as_str(), answer.as_str());
             writeln!(wanted, "{answer}").expect(rt, "memory");
         }
     }
@@ -274,24 +362,12 @@ const LINES: usize = 50;
 #[test]
 fn scripts_of_seeds_print_what_their_calls_answer(rt: HostRuntime) {
     let mut all = String::new(rt.alloc());
+    let mut coverage = Coverage::new(&rt, rt.alloc());
     for seed in 0..SCRIPTS {
-        assert_script(&rt, rt.alloc(), seed, &mut all);
+        assert_script(&rt, rt.alloc(), seed, &mut coverage, &mut all);
     }
-    let refusals = [
-        "BadLine",
-        "NoHandle",
-        "NoValue",
-        "NotRead",
-        "NotWrite",
-        "WriteRefType",
-        "Component",
-        "NotIndexable",
-        "OutOfBounds",
-    ];
-    for name in refusals {
-        let line = format!(in rt.alloc(); "\nrefused {name}\n").expect(&rt, "memory");
-        assert!(rt; all.contains(line.as_str()), "{name}");
-    }
+    coverage.assert_met(&rt);
+    drop(coverage);
     let reader = Reader::new(&rt, rt.alloc());
     assert!(rt; reader.are_in(all.as_str()));
     drop(reader);

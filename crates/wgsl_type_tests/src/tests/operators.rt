@@ -1,14 +1,15 @@
 //! Operators on literals and numeric builtins, by worked rows.
 
 use crate::tests::asserts::assert_same;
+use std::alloc::Global;
 use std::fmt::Debug;
 use std::process::Abort;
 use wgsl_rules::ShaderStage::{Const, Exec, Override};
-use wgsl_rules::{BinaryOperator, ShaderStage, Type, UnaryOperator};
+use wgsl_rules::{BinaryOperator, ShaderStage, Type, UnaryOperator, convert};
 use wgsl_scalar::LiteralInstance::{AbstractInt, Bool, I32, I64, U32, U64};
 use wgsl_scalar::{
     BuiltinReason, Error, LiteralInstance, common_kinds_are_common_types, kinds_are_rings,
-    quotients_and_remainders_divide, sums_and_products_wrap,
+    operands_are_in_their_common_type, quotients_and_remainders_divide, sums_and_products_wrap,
 };
 
 const LEAST: i64 = -9223372036854775808;
@@ -323,6 +324,127 @@ fn operands_without_a_common_type_are_refused(rt: HostRuntime) {
         Exec,
         binary(BinaryOperator::ShortCircuitAnd, Type::Bool, Type::I32),
     );
+}
+
+// `literal_ty` ensures that the numbers are of their kinds, which `convert` asks for.
+fn in_common(
+    rt: &impl Abort,
+    alloc: Global,
+    left: LiteralInstance,
+    right: LiteralInstance,
+) -> Option<(LiteralInstance, LiteralInstance)> {
+    let _left = left.literal_ty();
+    let _right = right.literal_ty();
+    convert(alloc, &left, &right).expect(rt, "memory")
+}
+
+/// Asserts what two numbers are in their common type, and the difference that `op_sub` gives of these.
+fn assert_taken(
+    rt: &impl Abort,
+    alloc: Global,
+    row: usize,
+    operands: (LiteralInstance, LiteralInstance),
+    wanted: (LiteralInstance, LiteralInstance),
+    difference: LiteralInstance,
+) {
+    let (left, right) = operands;
+    assert_eq!(rt;
+        in_common(rt, alloc, left, right),
+        Some(wanted),
+        "row {row}"
+    );
+    assert_number(rt, row, left.op_sub(&right, Exec), difference);
+}
+
+#[test]
+fn numbers_are_taken_to_their_common_kind(rt: HostRuntime) {
+    operands_are_in_their_common_type();
+    let rows = [
+        // of one kind, as they are
+        (
+            (AbstractInt(-7), AbstractInt(2)),
+            (AbstractInt(-7), AbstractInt(2)),
+            AbstractInt(-9),
+        ),
+        ((I32(-7), I32(2)), (I32(-7), I32(2)), I32(-9)),
+        ((U32(9), U32(2)), (U32(9), U32(2)), U32(7)),
+        ((I64(-7), I64(2)), (I64(-7), I64(2)), I64(-9)),
+        ((U64(9), U64(2)), (U64(9), U64(2)), U64(7)),
+        // an abstract integer on either side, to the ends of the other kind
+        (
+            (AbstractInt(-2147483648), I32(-1)),
+            (I32(-2147483648), I32(-1)),
+            I32(-2147483647),
+        ),
+        (
+            (I32(-1), AbstractInt(2147483647)),
+            (I32(-1), I32(2147483647)),
+            I32(-2147483648),
+        ),
+        (
+            (AbstractInt(4294967295), U32(5)),
+            (U32(4294967295), U32(5)),
+            U32(4294967290),
+        ),
+        ((U32(7), AbstractInt(0)), (U32(7), U32(0)), U32(7)),
+    ];
+    for (i, (operands, wanted, difference)) in rows.iter().enumerate() {
+        assert_taken(&rt, rt.alloc(), i, *operands, *wanted, *difference);
+    }
+}
+
+#[test]
+fn bools_are_taken_as_they_are(rt: HostRuntime) {
+    operands_are_in_their_common_type();
+    let (yes, no) = (Bool(true), Bool(false));
+    assert_eq!(rt; in_common(&rt, rt.alloc(), yes, no), Some((yes, no)));
+    assert_same(&rt, yes.op_gt(&no), Ok(true));
+    assert_same(&rt, yes.op_lt(&no), Ok(false));
+}
+
+/// Asserts that the two have no common type, and that `op_sub` refuses them.
+fn assert_not_taken(rt: &impl Abort, alloc: Global, left: LiteralInstance, right: LiteralInstance) {
+    assert_eq!(rt;
+        in_common(rt, alloc, left, right),
+        None,
+        "{left:?} {right:?}"
+    );
+    let wanted = binary(
+        BinaryOperator::Subtraction,
+        left.literal_ty(),
+        right.literal_ty(),
+    );
+    assert_refused(rt, Call::Sub, left, right, Exec, wanted);
+}
+
+#[test]
+fn operands_of_other_kinds_are_not_taken(rt: HostRuntime) {
+    operands_are_in_their_common_type();
+    let rows = [
+        // out of the range of the other kind
+        (AbstractInt(2147483648), I32(1)),
+        (AbstractInt(-2147483649), I32(1)),
+        (AbstractInt(4294967296), U32(1)),
+        (AbstractInt(-1), U32(1)),
+        // kinds that do not convert to each other
+        (AbstractInt(1), I64(1)),
+        (AbstractInt(1), U64(1)),
+        (I32(1), U32(1)),
+        (I32(1), I64(1)),
+        (I32(1), U64(1)),
+        (U32(1), I64(1)),
+        (U32(1), U64(1)),
+        (I64(1), U64(1)),
+        (Bool(true), AbstractInt(1)),
+        (Bool(true), I32(1)),
+        (Bool(true), U32(1)),
+        (Bool(true), I64(1)),
+        (Bool(true), U64(1)),
+    ];
+    for (left, right) in rows.iter() {
+        assert_not_taken(&rt, rt.alloc(), *left, *right);
+        assert_not_taken(&rt, rt.alloc(), *right, *left);
+    }
 }
 
 #[test]

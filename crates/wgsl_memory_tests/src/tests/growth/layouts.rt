@@ -35,3 +35,18 @@ fn a_layout_wants_memory_or_is_whole(rt: HostRuntime) {
     assert_same(&rt, part_ty, Some(wgsl_rules::Type::U32));
     drop((ty, view, layout, whole));
 }
+
+#[test]
+fn a_copy_of_a_layout_wants_memory_or_is_whole(rt: HostRuntime) {
+    let alloc = rt.alloc();
+    let ty = answer_of!(&rt; pair(alloc));
+    let view = answer_of!(&rt; component(alloc));
+    let layout = answer_of!(&rt; Layout::of(alloc, &ty)).expect(&rt, "a layout");
+    let copy = answer_of!(&rt; layout.clone(alloc));
+    assert_same(&rt, &copy, &layout);
+    assert_eq!(rt;
+        copy.range(32, &view).map(|r| (r.start, r.end)),
+        Ok((20, 24))
+    );
+    drop((ty, view, layout, copy));
+}

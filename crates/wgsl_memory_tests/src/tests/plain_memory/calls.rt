@@ -1,7 +1,8 @@
 //! Calls that a seed gives: most can be made, and the others name handles, members and parts that are not there, or
 //! hand in values of other types or lengths.
 
-use crate::tests::plain_memory::memory::{Call, Content, Memory};
+use crate::tests::plain_memory::layout::Layout;
+use crate::tests::plain_memory::memory::{Call, Content, Memory, Named};
 use crate::tests::plain_memory::numbers::Numbers;
 use crate::tests::plain_memory::shapes::{Kind, Place, Shape, Shapes};
 use crate::tests::plain_memory::tables::{Drawn, NAMES};
@@ -17,6 +18,10 @@ enum Sought {
     Structure,
     Row,
     Reference,
+    /// Of a type that is or ends in a runtime-sized array.
+    Open,
+    /// Of a part that has a layout, in a cell that has none.
+    Loose,
     /// Of this type.
     Like(usize),
 }
@@ -70,12 +75,13 @@ impl Shapes {
         Ok(content)
     }
 
-    /// A value of any type but a reference; one of four or more has a runtime-sized array.
+    /// A value of any type but a reference; one of four or more has a runtime-sized array, and one of twelve or more is
+    /// a truth value or an abstract number.
     fn any_content(&self, alloc: Global, numbers: &mut Numbers) -> Result<Content, AllocError> {
-        let drawn = if numbers.is_one_in(4) {
-            Drawn::Open
-        } else {
-            Drawn::Value
+        let drawn = match numbers.below(12) {
+            0 => Drawn::Unlaid,
+            1 | 2 | 3 => Drawn::Open,
+            _ => Drawn::Value,
         };
         let shape = self.draw(numbers, drawn);
         let elements = numbers.below(4).wrapping_add(1);
@@ -94,15 +100,27 @@ impl Memory {
             Sought::Structure => matches!(shape, Shape::Structure(_, _, _)),
             Sought::Row => matches!(shape, Shape::Row(_, _, _)),
             Sought::Reference => matches!(shape, Shape::Reference(_, _, _)),
+            Sought::Open => self.shapes.laid(named.shape).is_open,
+            Sought::Loose => self.is_loose(*named),
             Sought::Like(wanted) => named.shape == wanted,
         }
+    }
+
+    /// Whether the part has a layout, and its cell has none.
+    fn is_loose(&self, named: Named) -> bool {
+        let cell = self
+            .cells
+            .get(named.cell)
+            .map_or(0, |content| content.shape);
+        let is_laid_out = self.shapes.laid(named.shape).layout != Layout::Missing;
+        is_laid_out && self.shapes.laid(cell).layout == Layout::Missing
     }
 
     /// A handle of the sort, if there is one; one of a few is of any sort, and one of many is not there.
     fn random_handle(&self, numbers: &mut Numbers, sought: Sought) -> usize {
         let count = self.handles.len();
         let start = numbers.below(count);
-        if numbers.is_one_in(40) {
+        if numbers.is_one_in(20) {
             return count.wrapping_add(numbers.below(3));
         }
         if !numbers.is_one_in(8) {
@@ -134,7 +152,7 @@ impl Memory {
             return self.shapes.any_content(alloc, numbers);
         }
         let cell = self.handles.get(handle).map_or(0, |named| named.cell);
-        let elements = if numbers.is_one_in(4) {
+        let elements = if numbers.is_one_in(2) {
             numbers.below(4).wrapping_add(1)
         } else {
             self.elements(cell)
@@ -178,10 +196,11 @@ impl Memory {
 
     /// A copy, mostly between places of one type; one of four goes to a reference.
     fn random_copy(&self, numbers: &mut Numbers) -> Call {
-        let sought = if numbers.is_one_in(4) {
-            Sought::Reference
-        } else {
-            Sought::Any
+        let sought = match numbers.below(8) {
+            0 | 1 => Sought::Reference,
+            2 => Sought::Open,
+            3 => Sought::Loose,
+            _ => Sought::Any,
         };
         let to = self.random_handle(numbers, sought);
         let from = self.random_handle(numbers, Sought::Like(self.shape_at(to)));
@@ -202,22 +221,28 @@ impl Memory {
         if self.handles.is_empty() {
             return self.random_new(alloc, numbers);
         }
-        let any = self.random_handle(numbers, Sought::Any);
-        match numbers.below(20) {
+        let sought = if numbers.is_one_in(8) {
+            Sought::Open
+        } else {
+            Sought::Any
+        };
+        let any = self.random_handle(numbers, sought);
+        match numbers.below(25) {
             0 | 1 => self.random_new(alloc, numbers),
-            2 => Ok(self.random_new_of(numbers)),
-            3 | 4 | 5 => {
+            2 | 3 => Ok(self.random_new_of(numbers)),
+            4 | 5 | 6 => {
                 let handle = self.random_handle(numbers, Sought::Structure);
                 Ok(Call::Member(handle, self.random_name(numbers, handle)))
             }
-            6 | 7 | 8 => {
+            7 | 8 | 9 => {
                 let handle = self.random_handle(numbers, Sought::Row);
                 Ok(Call::Index(handle, self.random_index(numbers, handle)))
             }
-            9 | 10 => Ok(Call::Read(any)),
-            11 | 12 | 13 => Ok(Call::Write(any, self.content_for(alloc, numbers, any)?)),
-            14 | 15 => Ok(Call::Replace(any, self.content_for(alloc, numbers, any)?)),
-            16 | 17 | 18 => Ok(self.random_copy(numbers)),
+            10 | 11 => Ok(Call::Read(any)),
+            12 | 13 | 14 => Ok(Call::Write(any, self.content_for(alloc, numbers, any)?)),
+            15 | 16 | 17 => Ok(Call::Replace(any, self.content_for(alloc, numbers, any)?)),
+            18 | 19 | 20 | 21 | 22 => Ok(self.random_copy(numbers)),
+            _ if numbers.is_one_in(3) => Ok(Call::Load(any)),
             _ => Ok(Call::Load(self.random_handle(numbers, Sought::Reference))),
         }
     }

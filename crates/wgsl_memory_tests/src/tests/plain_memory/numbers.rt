@@ -59,11 +59,11 @@ impl Numbers {
         }
     }
 
-    /// An access mode; one of two allows reads and writes.
+    /// An access mode; three of seven allow reads and writes.
     pub(super) fn access(&mut self) -> AccessMode {
-        match self.below(4) {
-            0 => Read,
-            1 => Write,
+        match self.below(7) {
+            0 | 1 => Read,
+            2 | 3 => Write,
             _ => ReadWrite,
         }
     }

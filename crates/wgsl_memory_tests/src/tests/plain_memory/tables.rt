@@ -41,6 +41,8 @@ pub(super) enum Drawn {
     Value,
     /// That are or end in a runtime-sized array.
     Open,
+    /// Truth values and abstract numbers, which have no layout.
+    Unlaid,
     /// That a part may have: they are not large, and not runtime-sized.
     Part,
     /// Of these, that have a layout.
@@ -117,6 +119,9 @@ impl Shapes {
         match drawn {
             Drawn::Value => !matches!(self.shape(shape), Shape::Reference(_, _, _)),
             Drawn::Open => laid.is_open,
+            Drawn::Unlaid => {
+                matches!(self.shape(shape), Shape::Number(_)) && laid.layout == Layout::Missing
+            }
             Drawn::Part => is_part,
             Drawn::LaidOut => is_part && laid.layout == Layout::Fixed,
         }
@@ -133,10 +138,15 @@ impl Shapes {
         0
     }
 
-    /// A member of the type: one of four has an `align` attribute, and one of four a `size` attribute.
+    /// A member of the type: one of six has an `align` attribute, one of six a `size` attribute, and one of six both.
     fn random_member(&self, numbers: &mut Numbers, shape: usize) -> Member {
         let laid = self.laid(shape);
-        let is_aligned = numbers.is_one_in(4);
+        let (is_aligned, is_sized) = match numbers.below(6) {
+            0 => (true, false),
+            1 => (false, true),
+            2 => (true, true),
+            _ => (false, false),
+        };
         let own = u32::try_from(laid.align).unwrap_or(1);
         let align = match numbers.below(16) {
             0 => numbers.pick(&ALIGNS),
@@ -151,11 +161,7 @@ impl Shapes {
             name: numbers.below(NAMES),
             shape,
             align: if is_aligned { Some(align) } else { None },
-            size: if numbers.is_one_in(4) {
-                Some(size)
-            } else {
-                None
-            },
+            size: if is_sized { Some(size) } else { None },
             offset: 0,
         }
     }

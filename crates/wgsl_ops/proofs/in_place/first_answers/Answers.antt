@@ -1,8 +1,8 @@
-use Rattle.std.proofs.Common.{rules, ◌<◌, get_or, length, Ok, Err, Some, refl, sym, ap, ◌∙◌, arith}
+use Rattle.std.proofs.Common.{rules, ◌<◌, get_or, length, map, Ok, Err, Some, refl, sym, ap, ◌∙◌, arith}
 use Rattle.std.proofs.lemmas.List.{length-set}
 use Rattle.wgsl_ops.proofs.Answering.{item_literal, item-got}
 use Rattle.wgsl_ops.proofs.InPlace.{refused_at, so_far_set, so_far_taken}
-use Rattle.wgsl_ops.specs.Closures.{AnswersAt}
+use Rattle.wgsl_ops.specs.Closures.{AnswersAt, Refused}
 use Rattle.wgsl_scalar.specs.Literals.{literal_of}
 use Rattle.wgsl_values.specs.View.{value_of}
 use Rattle.wgsl_ops.proofs.in_place.first_answers.Goals as goal
@@ -26,7 +26,9 @@ returns-in_err-answer g c =
       gives = refl;
       returns = record { shown = _; shows = refl; says = record { met = c.in_err-answer.ensures } };
     } in
-    search (rules, refused_at _ c.args.values.now c.loop-i.answers c.loop-i.i c.index-values-i.result _ c.loop-i-test.true c.loop-i.invariant.so_far at)
+    let refused : Refused (AnswersAt g.F.Fn c.args.f.now) (map value_of c.args.values.now) c.in_err-answer.field-0.0 =
+    refused_at _ c.args.values.now c.loop-i.answers c.loop-i.i c.index-values-i.result _ c.loop-i-test.true c.loop-i.invariant.so_far at in
+    record { answers = search (rules, refused); refused = search (rules, refused) }
 
 pub loop-i-preserved : goal.loop-i-preserved
 loop-i-preserved g c =
@@ -43,5 +45,5 @@ loop-i-preserved g c =
       long = length-set c.loop-i.answers c.loop-i.i c.in_ok-answer.answer ∙ c.loop-i.invariant.long;
     }
 
-pub returns : goal.returns
-returns g c = record { each = so_far_taken _ c.args.values.now c.loop-i.answers c.loop-i.i (omega (arith, c.loop-i-test.false, c.loop-i.auto.i-end)) c.loop-i.invariant.so_far }
+pub returns-clause-answers : goal.returns-clause-answers
+returns-clause-answers g c = record { each = so_far_taken _ c.args.values.now c.loop-i.answers c.loop-i.i (omega (arith, c.loop-i-test.false, c.loop-i.auto.i-end)) c.loop-i.invariant.so_far }

@@ -1,8 +1,9 @@
-use Rattle.std.proofs.Common.{rules, ◌<◌, get_or, length, Ok, Err, Some, refl, sym, ap, ap₂, ◌∙◌, arith}
+use Rattle.std.proofs.Common.{rules, ◌<◌, get_or, length, map, Ok, Err, Some, refl, sym, ap, ap₂, ◌∙◌, arith}
 use Rattle.std.proofs.lemmas.List.{length-set}
+use Rattle.std.specs.List.{zip}
 use Rattle.wgsl_ops.proofs.Answering.{item_literal, pair-got}
 use Rattle.wgsl_ops.proofs.InPlace.{pairs_refused_at, pairs_set, pairs_taken}
-use Rattle.wgsl_ops.specs.Closures.{AnswersAtPair}
+use Rattle.wgsl_ops.specs.Closures.{AnswersAtPair, Refused}
 use Rattle.wgsl_rules.specs.Values.{Val}
 use Rattle.wgsl_scalar.specs.Literals.{literal_of}
 use Rattle.wgsl_values.specs.View.{value_of}
@@ -35,7 +36,9 @@ returns-in_err-answer g c =
       gives = refl;
       returns = record { first = _; second = _; shows = (refl, refl); says = record { met = c.in_err-answer.ensures } };
     } in
-    search (rules, pairs_refused_at _ c.args.left.now c.args.right.now c.loop-i.answers c.loop-i.i c.index-left-i.result c.index-right-i.result _ c.loop-i-test.true c.requires.equal c.loop-i.invariant.so_far at)
+    let refused : Refused (AnswersAtPair g.F.Fn c.args.f.now) (zip (map value_of c.args.left.now) (map value_of c.args.right.now)) c.in_err-answer.field-0.0 =
+    pairs_refused_at _ c.args.left.now c.args.right.now c.loop-i.answers c.loop-i.i c.index-left-i.result c.index-right-i.result _ c.loop-i-test.true c.requires.equal c.loop-i.invariant.so_far at in
+    record { answers = search (rules, refused); refused = search (rules, refused) }
 
 pub loop-i-preserved : goal.loop-i-preserved
 loop-i-preserved g c =
@@ -54,5 +57,5 @@ loop-i-preserved g c =
       long = length-set c.loop-i.answers c.loop-i.i c.in_ok-answer.answer ∙ c.loop-i.invariant.long;
     }
 
-pub returns : goal.returns
-returns g c = record { each = pairs_taken _ c.args.left.now c.args.right.now c.loop-i.answers c.loop-i.i (omega (arith, c.loop-i-test.false, c.loop-i.auto.i-end)) c.requires.equal c.loop-i.invariant.so_far }
+pub returns-clause-answers : goal.returns-clause-answers
+returns-clause-answers g c = record { each = pairs_taken _ c.args.left.now c.args.right.now c.loop-i.answers c.loop-i.i (omega (arith, c.loop-i-test.false, c.loop-i.auto.i-end)) c.requires.equal c.loop-i.invariant.so_far }
