@@ -1,4 +1,4 @@
-//! What calls answer where memory is refused to them. Each test first makes what it looks at: a run in which memory is
+//! What calls answer where memory is refused to them, and on deep types and values. Each test first makes what it looks at: a run in which memory is
 //! refused to that ends with words of its own, by which `tools/refuse/sweep` tells it from a call that answers wrongly.
 
 /// What is made. The words are those of `tools/refuse/sweep`.
@@ -22,6 +22,7 @@ macro_rules! answer_of {
 }
 
 mod asserts;
+mod depth;
 mod growth;
 mod samples;
 mod without_memory;
