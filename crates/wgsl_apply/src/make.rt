@@ -96,6 +96,8 @@ fn zero_members(
     Ok(Some(values))
 }
 
+// Not inlined, as the next two: `zero` calls itself, and its frame would have the room of their locals.
+#[inline(never)]
 fn zero_vector(alloc: Global, n: u8, scalar: &Type) -> Result<Option<Instance>, AllocError>
     ensures { IfOk result (λ o. option_map value_of o ≡ zero_vector n (type_view scalar.now)) }
 {
@@ -108,6 +110,7 @@ fn zero_vector(alloc: Global, n: u8, scalar: &Type) -> Result<Option<Instance>, 
     }
 }
 
+#[inline(never)]
 fn zero_matrix(
     alloc: Global,
     columns: u8,
@@ -123,6 +126,7 @@ fn zero_matrix(
 }
 
 // The array of so many of a value; `None` of no count.
+#[inline(never)]
 fn array_of_copies(
     alloc: Global,
     value: &Instance,

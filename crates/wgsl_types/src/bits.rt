@@ -48,6 +48,7 @@ pub fn extractBits(
 /// `u32`, where the first two have no common type or do not convert to it, and where that is neither `i32`
 /// nor `u32` nor a vector type of them (WGSL: numeric builtin functions, `insertBits`; past 32 it is this
 /// crate's own). The condition: the values are well-formed.
+/// It calls itself for each level of a value or type: keep to 4,095 within a stack of 8 MiB.
 pub fn insertBits(
     alloc: Global,
     e: &Instance,

@@ -90,6 +90,7 @@ pub fn countTrailingZeros(alloc: Global, e: &Instance) -> Result<Instance, Error
 /// arguments. Refused by `Builtin` where they have none or do not convert to it, and for bools, vectors of
 /// bools and values of any other case (WGSL: numeric builtin functions, `min`). The condition: both
 /// values are well-formed.
+/// It calls itself for each level of a value or type: keep to 4,095 within a stack of 8 MiB.
 pub fn min(alloc: Global, a: &Instance, b: &Instance) -> Result<Instance, Error>
     requires first { IsWellFormed (value_of a.now) }
     requires second { IsWellFormed (value_of b.now) }
@@ -102,6 +103,7 @@ pub fn min(alloc: Global, a: &Instance, b: &Instance) -> Result<Instance, Error>
 /// The greater of two numbers, or of each two components of two vectors, in the common type of the
 /// arguments. Refused by `Builtin` as [`min`] is (WGSL: numeric builtin functions, `max`). The condition:
 /// both values are well-formed.
+/// It calls itself for each level of a value or type: keep to 4,095 within a stack of 8 MiB.
 pub fn max(alloc: Global, a: &Instance, b: &Instance) -> Result<Instance, Error>
     requires first { IsWellFormed (value_of a.now) }
     requires second { IsWellFormed (value_of b.now) }
@@ -158,6 +160,7 @@ fn clamp_in(
 /// the common type of all three; so `high` where `low` is above it. Refused by `Builtin` where they have
 /// no common type or do not convert to it, and as [`min`] is (WGSL: numeric builtin functions, `clamp`).
 /// The condition: the values are well-formed.
+/// It calls itself for each level of a value or type: keep to 4,095 within a stack of 8 MiB.
 pub fn clamp(
     alloc: Global,
     e: &Instance,
@@ -231,6 +234,7 @@ fn dot_of(
 /// not convert to it, and where they are no vectors; as `op_mul` and then as `op_add` in the stage are
 /// where a product or a sum is, so by `Binary` for vectors of bools (WGSL: numeric builtin functions,
 /// `dot`). The condition: both values are well-formed.
+/// It calls itself for each level of a value or type: keep to 4,095 within a stack of 8 MiB.
 pub fn dot(alloc: Global, a: &Instance, b: &Instance, stage: ShaderStage) -> Result<Instance, Error>
     requires first { IsWellFormed (value_of a.now) }
     requires second { IsWellFormed (value_of b.now) }

@@ -10,7 +10,7 @@ mod plain;
 mod sorts;
 mod steps;
 
-pub(super) use calls::length;
+pub(super) use calls::{changed, length, loaded, stored};
 pub(super) use steps::{Step, assert_call, assert_refused, assert_steps, view};
 
 /// A change of an atomic.

@@ -2,6 +2,7 @@
 //! refused. What is compared is made first too.
 
 mod cells;
+mod compwise;
 mod layouts;
 mod literals;
 mod parts;

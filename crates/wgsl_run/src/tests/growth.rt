@@ -1,9 +1,11 @@
 //! Runs in which memory may be refused at any growth: they accept either answer, and check what must
 //! be so after each.
 
+use crate::tests::output_of;
 use crate::{RunFault, run_script};
 use std::alloc::{AllocError, Global};
 use std::io::Write;
+use std::process::Abort;
 use std::rt::Env;
 use std::test::Fail;
 use std::{io, str};
@@ -34,6 +36,33 @@ fn is_line(lines: &Vec<Vec<u8>>, i: usize, wanted: &[u8]) -> bool {
 /// Whether the line is the wanted one, or is not there or refused for want of memory.
 fn is_or_refused(lines: &Vec<Vec<u8>>, i: usize, wanted: &[u8]) -> bool {
     i >= lines.len() || is_line(lines, i, wanted) || is_line(lines, i, REFUSED)
+}
+
+/// Whether the lines are the wanted ones.
+fn are_lines(lines: &Vec<Vec<u8>>, wanted: &[&[u8]]) -> bool {
+    lines.len() == wanted.len()
+        && lines
+            .iter()
+            .zip(wanted)
+            .all(|(line, wanted)| line.as_slice() == *wanted)
+}
+
+/// Asserts that a run of the script, which printed these lines, ended well, or for want of memory. One growth alone is
+/// refused: where a line differed or the run ended early, the script runs again, and prints each line whole.
+fn assert_whole_in_the_end(
+    rt: &impl Abort,
+    alloc: Global,
+    script: &[u8],
+    lines: &Vec<Vec<u8>>,
+    outcome: Result<(), RunFault>,
+    wanted: &[&[u8]],
+) {
+    assert!(rt; matches!(outcome, Ok(()) | Err(RunFault::Memory)));
+    if outcome.is_err() || !are_lines(lines, wanted) {
+        let (lines, outcome) = lines_of(alloc, script).expect(rt, "memory");
+        assert!(rt; are_lines(&lines, wanted));
+        assert_eq!(rt; outcome, Ok(()));
+    }
 }
 
 #[test]
@@ -70,12 +99,7 @@ member &0 c
         Some(i) if i < lines.len() => assert!(rt; is_line(&lines, i, REFUSED)),
         Some(_) => assert_eq!(rt; outcome, Err(RunFault::Memory)),
     }
-    // One growth alone is refused, so the script runs whole again.
-    if first.is_some() {
-        let (lines, outcome) = lines_of(rt.alloc(), script)?;
-        assert!(rt; (0..10).all(|i| is_line(&lines, i, wanted[i])));
-        assert_eq!(rt; outcome, Ok(()));
-    }
+    assert_whole_in_the_end(&rt, rt.alloc(), script, &lines, outcome, &wanted);
     Ok(())
 }
 
@@ -85,7 +109,7 @@ fn a_write_that_is_refused_memory_changes_nothing(rt: HostRuntime) -> Result<(),
 write &0 0300000004000000
 read &0
 ";
-    let Ok((lines, _)) = lines_of(rt.alloc(), script) else {
+    let Ok((lines, outcome)) = lines_of(rt.alloc(), script) else {
         return Ok(());
     };
     if is_line(&lines, 0, b"&0") {
@@ -97,6 +121,8 @@ read &0
         assert!(rt; is_or_refused(&lines, 1, b"done"));
         assert!(rt; is_or_refused(&lines, 2, held));
     }
+    let wanted: [&[u8]; 3] = [b"&0", b"done", b"vec2(3u, 4u)"];
+    assert_whole_in_the_end(&rt, rt.alloc(), script, &lines, outcome, &wanted);
     Ok(())
 }
 
@@ -106,7 +132,7 @@ fn a_handle_that_is_refused_memory_takes_no_number(rt: HostRuntime) -> Result<()
 new u32 storage read 02000000
 read &0
 ";
-    let Ok((lines, _)) = lines_of(rt.alloc(), script) else {
+    let Ok((lines, outcome)) = lines_of(rt.alloc(), script) else {
         return Ok(());
     };
     let is_made = is_line(&lines, 0, b"&0");
@@ -115,6 +141,8 @@ read &0
     if is_made {
         assert!(rt; is_or_refused(&lines, 2, b"1u"));
     }
+    let wanted: [&[u8]; 3] = [b"&0", b"&1", b"1u"];
+    assert_whole_in_the_end(&rt, rt.alloc(), script, &lines, outcome, &wanted);
     Ok(())
 }
 
@@ -125,7 +153,7 @@ fn an_element_of_wide_vectors_is_read_or_refused_memory(rt: HostRuntime) -> Resu
 index &0 1
 read &1
 ";
-    let Ok((lines, _)) = lines_of(rt.alloc(), script) else {
+    let Ok((lines, outcome)) = lines_of(rt.alloc(), script) else {
         return Ok(());
     };
     assert!(rt; is_or_refused(&lines, 0, b"&0"));
@@ -135,6 +163,8 @@ read &1
     if is_line(&lines, 1, b"&1") {
         assert!(rt; is_or_refused(&lines, 2, b"vec3(4li, 5li, 6li)"));
     }
+    let wanted: [&[u8]; 3] = [b"&0", b"&1", b"vec3(4li, 5li, 6li)"];
+    assert_whole_in_the_end(&rt, rt.alloc(), script, &lines, outcome, &wanted);
     Ok(())
 }
 
@@ -248,6 +278,9 @@ fn want_of_memory_within_a_call_is_told_and_other_want_ends_the_run(rt: HostRunt
     assert_eq!(rt; outcome, if ends { Err(RunFault::Memory) } else { Ok(()) });
     let printed = noting.taken.split(|byte| *byte == b'\n').nth(line);
     assert!(rt; ends || printed == Some(REFUSED));
+    // One growth alone is refused, so the script runs whole again.
+    let again = output_of(alloc, script.as_bytes()).expect(&rt, "memory");
+    assert!(rt; first_other(&again).is_none());
     let before = line.checked_sub(1).and_then(|last| noting.asked.get(last));
     let outside = LINES.get(line).and_then(|row| row.2);
     if let (Some(outside), Some(refused)) = (outside, number_of(&rt, "REFUSE_GROWTH")) {

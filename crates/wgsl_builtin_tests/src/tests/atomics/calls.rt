@@ -29,7 +29,7 @@ fn keep(rt: &impl Abort, store: &Store, p: &Instance)
 }
 
 /// The change through the pointer.
-pub(super) fn changed(
+pub(crate) fn changed(
     rt: &impl Abort,
     alloc: Global,
     change: Change,
@@ -52,7 +52,7 @@ pub(super) fn changed(
     }
 }
 
-pub(super) fn stored(
+pub(crate) fn stored(
     rt: &impl Abort,
     alloc: Global,
     store: &mut Store,
@@ -80,7 +80,7 @@ pub(super) fn compared(
     atomicCompareExchangeWeak(alloc, store, p, comparand, new)
 }
 
-pub(super) fn loaded(
+pub(crate) fn loaded(
     rt: &impl Abort,
     alloc: Global,
     store: &Store,

@@ -27,6 +27,13 @@ fn new_cell(
     RefInstance::new(alloc, store, value, Storage, ReadWrite)
 }
 
+/// The reference to the one cell of the store, which is made with the value: a call that wants memory makes none.
+fn only_cell(rt: &impl Abort, alloc: Global, store: &mut Store, cell: Sample) -> RefInstance {
+    let reference = again!(rt; new_cell(rt, alloc, store, cell));
+    assert_eq!(rt; store.len(), 1);
+    reference
+}
+
 /// The steps of the view: the member of the name, where it is not empty, and then the indices.
 pub(crate) fn view(alloc: Global, name: &str, indices: &[usize]) -> Result<MemView, AllocError> {
     let mut view = MemView::Whole;
@@ -155,7 +162,7 @@ fn outcome(
     wanted: &str,
 ) -> Held {
     let mut store = Store::new(alloc);
-    let cell = again!(rt; new_cell(rt, alloc, &mut store, cell));
+    let cell = only_cell(rt, alloc, &mut store, cell);
     let held = called_at(
         rt,
         alloc,
@@ -201,7 +208,7 @@ pub(crate) type Step = (Place, OnMemory, &'static str, &'static str, &'static [u
 /// Asserts the steps on a store with one cell, one after the other.
 pub(crate) fn assert_steps(rt: &impl Abort, alloc: Global, cell: Sample, steps: &[Step]) {
     let mut store = Store::new(alloc);
-    let cell = again!(rt; new_cell(rt, alloc, &mut store, cell));
+    let cell = only_cell(rt, alloc, &mut store, cell);
     for (row, (place, function, wanted, text, words)) in steps.iter().enumerate() {
         let call = (*place, *function);
         let held = called_at(rt, alloc, row, (&mut store, &cell), call, wanted);
@@ -219,7 +226,7 @@ pub(super) fn assert_no_pointer(
     value: Sample,
 ) {
     let mut store = Store::new(alloc);
-    let cell = again!(rt; new_cell(rt, alloc, &mut store, Sample::Counters));
+    let cell = only_cell(rt, alloc, &mut store, Sample::Counters);
     let p = made(rt, alloc, value);
     let answer = called_again(rt, alloc, function, &mut store, &cell, &p);
     drop((p, cell, store));

@@ -1,46 +1,19 @@
 //! Lengths of arrays, and why other values have none: no clause says which reason a refusal by `Builtin` has.
 
-use crate::tests::atomics::{Place, length, view, whole};
+use crate::tests::atomics::{length, whole};
+use crate::tests::without_memory::{part, pointer, store_of, value};
 use std::alloc::Global;
 use std::process::Abort;
 use wgsl_rules::AccessMode::{Read, ReadWrite, Write};
-use wgsl_rules::AddressSpace::Storage;
-use wgsl_rules::{AccessMode, Ty};
-use wgsl_samples::operands::{Sample, b, i2, make, n, u, u2};
+use wgsl_samples::operands::{Sample, b, i2, n, u, u2};
 use wgsl_scalar::LiteralInstance::{Bool, I32, U32};
 use wgsl_scalar::{BuiltinReason, Error, LiteralInstance};
-use wgsl_store::{References, Store};
-use wgsl_values::{Instance, PtrInstance, RefInstance};
+use wgsl_store::Store;
+use wgsl_values::Instance;
 
 const NUMBERS: [LiteralInstance; 3] = [U32(1), U32(2), U32(3)];
 
 const TRUTHS: [LiteralInstance; 3] = [Bool(true), Bool(false), Bool(true)];
-
-/// The value of the sample.
-fn value(rt: &impl Abort, alloc: Global, sample: Sample) -> Instance {
-    made!(rt; make(alloc, sample)).expect(rt, "a value")
-}
-
-/// A store with one cell, which has the sample.
-fn store_of(rt: &impl Abort, alloc: Global, cell: Sample) -> Store {
-    let mut store = Store::new(alloc);
-    let value = value(rt, alloc, cell);
-    assert!(rt; value.is_storable());
-    assert!(rt; store.holds_value(&value));
-    drop(made!(rt; RefInstance::new(alloc, &mut store, value, Storage, ReadWrite)));
-    store
-}
-
-/// A pointer to the place in cell 0.
-fn pointer(rt: &impl Abort, alloc: Global, place: Place) -> Instance {
-    let view = made!(rt; view(alloc, place.name, place.indices));
-    let like = value(rt, alloc, place.like);
-    assert!(rt; like.is_well_formed());
-    let ty = made!(rt; like.ty(alloc));
-    drop(like);
-    let reference = RefInstance::from_parts(0, view, ty, Storage, place.access);
-    Instance::from(PtrInstance::from(reference))
-}
 
 /// Asserts the length of what the value points to, or why there is none.
 fn assert_length(
@@ -58,16 +31,6 @@ fn assert_length(
     assert_eq!(rt; answer, wanted, "row {row}");
     drop((answer, wanted));
     drop((store, p));
-}
-
-/// A part of what the cell has.
-fn part(name: &'static str, indices: &'static [usize], like: Sample, access: AccessMode) -> Place {
-    Place {
-        name,
-        indices,
-        like,
-        access,
-    }
 }
 
 #[test]

@@ -61,6 +61,7 @@ fn address(
 ) -> Result<Instance, Error> {
     let mut store = Store::new(alloc);
     again!(rt; store_sample(rt, alloc, &mut store, cell));
+    assert_eq!(rt; store.len(), 1);
     assert!(rt; store.holds(&reference));
     let value = Instance::from(reference);
     assert!(rt; value.is_well_formed());

@@ -117,6 +117,17 @@ fn assert_replies(
     assert_held(rt, session, refused);
 }
 
+/// Runs the calls, which want no memory, in a session that is as it was filled, and asserts the replies.
+fn assert_run(rt: &impl Abort, alloc: Global, session: Session, calls: Vec<Call>)
+    requires { AreSoundCalls (map call_of calls.items) }
+{
+    let mut session = session;
+    let replies = session.run(calls).expect(rt, "memory");
+    assert!(rt; !replies.iter().any(is_memory));
+    assert_replies(rt, alloc, &mut session, replies);
+    drop(session);
+}
+
 #[test]
 fn a_list_of_every_call_goes_on_behind_one_that_wants_memory(rt: HostRuntime) {
     let alloc = rt.alloc();
@@ -124,13 +135,20 @@ fn a_list_of_every_call_goes_on_behind_one_that_wants_memory(rt: HostRuntime) {
     let (calls, again) = (calls(&rt, alloc), calls(&rt, alloc));
     let before = held(&rt, alloc, &session);
     match session.run(calls) {
-        Ok(replies) => assert_replies(&rt, alloc, &mut session, replies),
+        Ok(replies) => {
+            let is_refused = replies.iter().any(is_memory);
+            assert_replies(&rt, alloc, &mut session, replies);
+            drop((session, before));
+            // one growth alone is refused
+            if is_refused {
+                assert_run(&rt, alloc, filled(&rt, alloc), again);
+            } else {
+                drop(again);
+            }
+        }
         Err(_) => {
             assert_same(&rt, held(&rt, alloc, &session), before);
-            let replies = session.run(again).expect(&rt, "memory");
-            assert!(rt; !replies.iter().any(is_memory));
-            assert_replies(&rt, alloc, &mut session, replies);
+            assert_run(&rt, alloc, session, again);
         }
     }
-    drop(session);
 }

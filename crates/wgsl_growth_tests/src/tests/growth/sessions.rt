@@ -141,6 +141,37 @@ fn an_accepted_call_wants_memory_or_is_made(rt: HostRuntime) {
     drop(session);
 }
 
+/// A session with two cells of bytes, Pair(1u, vec3(2u, 3u, 4u)) and Pair(5u, vec3(2u, 3u, 4u)) of handles 0 and 1, and
+/// two that are none, of handles 2 and 3: the references to these.
+fn with_references(rt: &impl Abort, alloc: Global) -> Session {
+    let mut session = Session::new(alloc);
+    for a in [1, 5] {
+        drop(made!(rt; session.call(sound(rt, new(rt, alloc, a)))));
+    }
+    for handle in [0, 1] {
+        let held = Call::NewOf(handle, Function, ReadWrite);
+        drop(made!(rt; session.call(sound(rt, held))));
+    }
+    session
+}
+
+#[test]
+fn an_accepted_copy_of_a_reference_wants_memory_or_is_made(rt: HostRuntime) {
+    let alloc = rt.alloc();
+    let mut session = with_references(&rt, alloc);
+    let (copy, again) = (Call::Copy(2, 3), Call::Copy(2, 3));
+    assert_call(&rt, alloc, &mut session, copy, again, Ok(Reply::Done));
+    // what both then lead to
+    for handle in [2, 3] {
+        let wanted = value(Instance::from(pair_with(&rt, alloc, 1)));
+        let (load, again) = (Call::Load(handle), Call::Load(handle));
+        assert_call(&rt, alloc, &mut session, load, again, wanted);
+    }
+    let five = value(Instance::from(pair_with(&rt, alloc, 5)));
+    assert_call(&rt, alloc, &mut session, Call::Read(1), Call::Read(1), five);
+    drop(session);
+}
+
 fn refusal(error: Error) -> Result<Reply, Fault> {
     Err(Fault::Of(error))
 }

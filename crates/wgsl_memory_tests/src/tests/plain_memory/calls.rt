@@ -194,7 +194,8 @@ impl Memory {
         Call::NewOf(handle, numbers.space(), numbers.access())
     }
 
-    /// A copy, mostly between places of one type; one of four goes to a reference.
+    /// A copy, mostly between places of one type: one of four goes to a reference, one of eight to what is or ends in a
+    /// runtime-sized array, and one of eight to a part with a layout in a cell without one.
     fn random_copy(&self, numbers: &mut Numbers) -> Call {
         let sought = match numbers.below(8) {
             0 | 1 => Sought::Reference,
