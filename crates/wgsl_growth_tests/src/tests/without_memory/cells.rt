@@ -9,6 +9,7 @@ use crate::tests::samples::{
 };
 use std::alloc::Global;
 use std::process::Abort;
+use std::rt::Env;
 use wgsl_rules::AccessMode::{ReadWrite, Write};
 use wgsl_rules::AddressSpace::Storage;
 use wgsl_rules::Type;
@@ -62,9 +63,18 @@ fn assert_written(
     assert_same(rt, reference.write(alloc, store, value), Ok(()));
 }
 
-/// Asserts what the reference is read as, where there is memory for that.
-fn assert_reads(
-    rt: &impl Abort,
+/// Whether growths are refused in this run.
+fn are_refused(rt: &impl Env) -> bool {
+    let mut digits = [0u8; 32];
+    match rt.var("REFUSE_FROM", &mut digits) {
+        Ok(count) => digits.get(..count) != Some(b"0".as_slice()),
+        Err(_) => false,
+    }
+}
+
+/// Asserts what the reference is read as; where growths are refused there may be no memory for that.
+fn assert_reads<R: Env + Abort>(
+    rt: &R,
     alloc: Global,
     store: &Store,
     reference: &RefInstance,
@@ -74,6 +84,7 @@ fn assert_reads(
     match reference.read(alloc, store) {
         Ok(value) => assert_same(rt, value, wanted),
         Err(error) => {
+            assert!(rt; are_refused(rt));
             assert_memory(rt, error);
             drop(wanted);
         }
@@ -336,7 +347,10 @@ fn an_accepted_write_of_a_session(rt: HostRuntime) {
     assert!(rt; session.reference(1).is_some());
     assert!(rt; session.reference(2).is_none());
     match session.call(sound(&rt, Call::Read(0))) {
-        Err(Fault::Of(Error::Memory)) => drop(wanted),
+        Err(Fault::Of(Error::Memory)) => {
+            assert!(rt; are_refused(&rt));
+            drop(wanted);
+        }
         answer => assert_same(&rt, answer, Ok(Reply::Value(wanted))),
     }
     drop((session, held));
