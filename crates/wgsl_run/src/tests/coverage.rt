@@ -148,14 +148,14 @@ impl Coverage {
     }
 
     /// Counts what has to be asked for.
-    fn count(&mut self, rt: &impl Abort, met: [&str; 2]) {
+    fn count(&mut self, rt: &impl Abort, first: &str, second: &str) {
         for count in self.counts.iter_mut() {
-            if count.met == met {
+            let [asked_first, asked_second] = count.met;
+            if asked_first == first && asked_second == second {
                 count.times = count.times.saturating_add(1);
                 return;
             }
         }
-        let [first, second] = met;
         panic!(rt; "{first} {second} can't be met");
     }
 
@@ -172,13 +172,13 @@ impl Coverage {
         let command = words.first().copied().map(command_of);
         match (command, answer) {
             (Some(command), Some(answer)) => match answer.strip_prefix("refused ") {
-                Some(refusal) => self.count(rt, [command, refusal]),
+                Some(refusal) => self.count(rt, command, refusal),
                 None => {
-                    self.count(rt, [command, ACCEPTED]);
+                    self.count(rt, command, ACCEPTED);
                     self.add_accepted(rt, words.as_slice());
                 }
             },
-            (_, None) => self.count(rt, ["no word", "nothing"]),
+            (_, None) => self.count(rt, "no word", "nothing"),
             (None, Some(_)) => panic!(rt; "an answer to nothing"),
         }
     }
@@ -188,7 +188,7 @@ impl Coverage {
         match words {
             ["struct", name, members @ ..] => self.add_structure(rt, name, members),
             ["new", ty, space, access, _] => {
-                self.count(rt, [space, access]);
+                self.count(rt, space, access);
                 self.add_cell(rt, ty);
             }
             _ => {}
@@ -200,7 +200,7 @@ impl Coverage {
             let Some(attributes) = attributes_of(member) else {
                 continue;
             };
-            self.count(rt, ["struct", attributes]);
+            self.count(rt, "struct", attributes);
             if let Some(number) = structure_of(name) {
                 let attributed = Attributed { number, attributes };
                 self.attributed.push(attributed).expect(rt, "memory");
@@ -216,7 +216,7 @@ impl Coverage {
                 Some(attributed.number) == number && attributed.attributes == attributes
             });
             if is_attributed {
-                self.count(rt, ["new", attributes]);
+                self.count(rt, "new", attributes);
             }
         }
     }
