@@ -21,45 +21,49 @@ use crate::operators::component;
 use wgsl_scalar::{Error, LiteralInstance};
 use wgsl_values::{Instance, VecInstance};
 
-/// What the closure answers at each of up to four literals, in the first places, or its first
-/// refusal.
-pub(crate) fn first_answers<F: Fn(&LiteralInstance) -> Result<LiteralInstance, Error>>(
+/// Puts what the closure answers at each of up to four literals in the first places, one after the
+/// other, up to its first refusal, which is answered.
+pub(crate) fn answer_into<F: Fn(&LiteralInstance) -> Result<LiteralInstance, Error>>(
     values: &[Instance],
     f: &F,
-) -> Result<[LiteralInstance; 4], Error>
+    answers: &mut [LiteralInstance; 4],
+) -> Result<(), Error>
     requires literals { AreLiterals (vals_view values.now) }
     requires most { length values.now ≤ 4 }
     requires callable { IsCallableAt F.Fn f.now (map value_of values.now) }
-    ensures answers { AnswersEach (AnswersAt F.Fn f.now) (map value_of values.now) (seen (λ a. map literal_of (take (length values.now) a)) result) }
+    ensures answers { AnswersEach (AnswersAt F.Fn f.now) (map value_of values.now) (seen (λ _. map literal_of (take (length values.now) answers.new)) result) }
     ensures refused { IfErr result (Refused (AnswersAt F.Fn f.now) (map value_of values.now)) }
 {
-    let mut answers = [LiteralInstance::Bool(false); 4];
     for i in 0..values.len() {
         let answer = f(values[i].unwrap_literal_ref())?;
         answers[i] = answer;
     }
-    Ok(answers)
+    Ok(())
 }
 
-/// What the closure answers at each two of up to four literals, in the first places, or its first
-/// refusal.
-pub(crate) fn first_answers_at_pairs<
+/// Puts what the closure answers at each two of up to four literals in the first places, one after
+/// the other, up to its first refusal, which is answered.
+pub(crate) fn answer_pairs_into<
     F: Fn(&LiteralInstance, &LiteralInstance) -> Result<LiteralInstance, Error>,
->(left: &[Instance], right: &[Instance], f: &F) -> Result<[LiteralInstance; 4], Error>
+>(
+    left: &[Instance],
+    right: &[Instance],
+    f: &F,
+    answers: &mut [LiteralInstance; 4],
+) -> Result<(), Error>
     requires left { AreLiterals (vals_view left.now) }
     requires right { AreLiterals (vals_view right.now) }
     requires equal { length left.now ≡ length right.now }
     requires most { length left.now ≤ 4 }
     requires callable { IsCallableAtPairs F.Fn f.now (zip (map value_of left.now) (map value_of right.now)) }
-    ensures answers { AnswersEach (AnswersAtPair F.Fn f.now) (zip (map value_of left.now) (map value_of right.now)) (seen (λ a. map literal_of (take (length left.now) a)) result) }
+    ensures answers { AnswersEach (AnswersAtPair F.Fn f.now) (zip (map value_of left.now) (map value_of right.now)) (seen (λ _. map literal_of (take (length left.now) answers.new)) result) }
     ensures refused { IfErr result (Refused (AnswersAtPair F.Fn f.now) (zip (map value_of left.now) (map value_of right.now))) }
 {
-    let mut answers = [LiteralInstance::Bool(false); 4];
     for i in 0..left.len() {
         let answer = f(left[i].unwrap_literal_ref(), right[i].unwrap_literal_ref())?;
         answers[i] = answer;
     }
-    Ok(answers)
+    Ok(())
 }
 
 // Puts the literal in the place of component i.

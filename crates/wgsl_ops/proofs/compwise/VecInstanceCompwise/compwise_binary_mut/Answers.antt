@@ -9,8 +9,8 @@ use Rattle.wgsl_ops.proofs.Answering.{count-of, length-pairs, length-values, pai
 use Rattle.wgsl_ops.proofs.InPlace.{replaced-answered, replaced-paths, replaced-storable}
 use Rattle.wgsl_ops.proofs.compwise.VecInstanceCompwise.compwise_binary_mut.Goals as goal
 
-pub first_answers_at_pairs-requires : goal.first_answers_at_pairs-requires
-first_answers_at_pairs-requires g c =
+pub answer_pairs_into-requires : goal.answer_pairs_into-requires
+answer_pairs_into-requires g c =
     let k = vector-known c.args.self.now c.as_slice-left.result.now c.as_slice-left.ensures c.requires.own in
     let l = vector-known c.args.rhs.now c.as_slice-right.result.now c.as_slice-right.ensures c.requires.others in
     record {
@@ -37,18 +37,18 @@ returns-in_err-ty-2-clause-no_memory g c = λ vector same. absurd (unequal-vecto
 pub returns-then-left-right-clause-no_memory : goal.returns-then-left-right-clause-no_memory
 returns-then-left-right-clause-no_memory g c = λ vector same. absurd (unequal-vectors c.args.self.now c.args.rhs.now c.as_slice-left.result.now c.as_slice-right.result.now c.as_slice-left.ensures c.requires.own c.as_slice-right.ensures c.requires.others c.if-left-right.true same)
 
-pub returns-in_err-answers-clause-answers : goal.returns-in_err-answers-clause-answers
-returns-in_err-answers-clause-answers g c =
+pub returns-in-Err-clause-answers : goal.returns-in-Err-clause-answers
+returns-in-Err-clause-answers g c =
     let k = vector-known c.args.self.now c.as_slice-left.result.now c.as_slice-left.ensures c.requires.own in
     let l = vector-known c.args.rhs.now c.as_slice-right.result.now c.as_slice-right.ensures c.requires.others in
     pairs-answered g.F.Fn c.args.f c.args.self.now c.args.rhs.now c.as_slice-left.result.now c.as_slice-right.result.now k l _ c.if-left-right.false
-    (search (rules, c.in_err-answers.ensures.answers))
+    (search (rules, c.in-Err.ensures.answers))
 
-pub returns-in_err-answers-clause-no_memory : goal.returns-in_err-answers-clause-no_memory
-returns-in_err-answers-clause-no_memory g c =
+pub returns-in-Err-clause-no_memory : goal.returns-in-Err-clause-no_memory
+returns-in-Err-clause-no_memory g c =
     let k = vector-known c.args.self.now c.as_slice-left.result.now c.as_slice-left.ensures c.requires.own in
     let l = vector-known c.args.rhs.now c.as_slice-right.result.now c.as_slice-right.ensures c.requires.others in
-    λ vector same. rw (pairs-are g.F.Fn c.args.f c.args.self.now c.args.rhs.now c.as_slice-left.result.now c.as_slice-right.result.now k l) (search (rules, c.in_err-answers.ensures.refused))
+    λ vector same. rw (pairs-are g.F.Fn c.args.f c.args.self.now c.args.rhs.now c.as_slice-left.result.now c.as_slice-right.result.now k l) (search (rules, c.in-Err.ensures.refused))
 
 pub replace_components-requires : goal.replace_components-requires
 replace_components-requires g c =
@@ -64,7 +64,7 @@ returns-clause-answers g c =
     pairs-answered g.F.Fn c.args.f c.args.self.now c.args.rhs.now s t k l _ c.if-left-right.false
     (replaced-answered (AnswersAtPair g.F.Fn c.args.f) (zip (map value_of s) (map value_of t)) (pair-literals g.F.Fn c.args.f)
     (rw (pairs-are g.F.Fn c.args.f c.args.self.now c.args.rhs.now s t k l) at c.requires.one_kind) c.args.self.now c.replace_components.new.target s
-    k (length-pairs s t c.if-left-right.false) c.in_ok-answers.answers c.in_ok-answers.ensures.answers c.replace_components.ensures.components)
+    k (length-pairs s t c.if-left-right.false) c.answer_pairs_into.new.answers c.in_default.ensures.answers c.replace_components.ensures.components)
 
 pub returns-clause-storable : goal.returns-clause-storable
 returns-clause-storable g c =
@@ -74,7 +74,7 @@ returns-clause-storable g c =
     let l = vector-known c.args.rhs.now t c.as_slice-right.ensures c.requires.others in
     replaced-storable (AnswersAtPair g.F.Fn c.args.f) (zip (map value_of s) (map value_of t)) (pair-literals g.F.Fn c.args.f)
     (rw (pairs-are g.F.Fn c.args.f c.args.self.now c.args.rhs.now s t k l) at c.requires.one_kind) c.args.self.now c.replace_components.new.target s
-    k (length-pairs s t c.if-left-right.false) c.in_ok-answers.answers c.in_ok-answers.ensures.answers c.replace_components.ensures.components c.replace_components.ensures.storable
+    k (length-pairs s t c.if-left-right.false) c.answer_pairs_into.new.answers c.in_default.ensures.answers c.replace_components.ensures.components c.replace_components.ensures.storable
 
 pub returns-clause-shape : goal.returns-clause-shape
 returns-clause-shape g c =
@@ -84,4 +84,4 @@ returns-clause-shape g c =
     let l = vector-known c.args.rhs.now t c.as_slice-right.ensures c.requires.others in
     replaced-paths (AnswersAtPair g.F.Fn c.args.f) (zip (map value_of s) (map value_of t)) (pair-literals g.F.Fn c.args.f)
     (rw (pairs-are g.F.Fn c.args.f c.args.self.now c.args.rhs.now s t k l) at c.requires.one_kind) c.args.self.now c.replace_components.new.target s
-    k (length-pairs s t c.if-left-right.false) c.in_ok-answers.answers c.in_ok-answers.ensures.answers c.replace_components.ensures.components
+    k (length-pairs s t c.if-left-right.false) c.answer_pairs_into.new.answers c.in_default.ensures.answers c.replace_components.ensures.components

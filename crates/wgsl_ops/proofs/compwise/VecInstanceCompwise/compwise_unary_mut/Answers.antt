@@ -7,8 +7,8 @@ use Rattle.wgsl_ops.proofs.Answering.{count-of, length-values, unary-literals, v
 use Rattle.wgsl_ops.proofs.InPlace.{replaced-answered, replaced-paths, replaced-storable}
 use Rattle.wgsl_ops.proofs.compwise.VecInstanceCompwise.compwise_unary_mut.Goals as goal
 
-pub first_answers-requires : goal.first_answers-requires
-first_answers-requires g c =
+pub answer_into-requires : goal.answer_into-requires
+answer_into-requires g c =
     let k = vector-known c.args.self.now c.as_slice.result.now c.as_slice.ensures c.requires.own in
     record {
       literals = k.literals;
@@ -16,11 +16,11 @@ first_answers-requires g c =
       callable = rw (vector-components c.args.self.now c.as_slice.result.now c.as_slice.ensures) at c.requires.callable;
     }
 
-pub returns-in_err-answers-clause-answers : goal.returns-in_err-answers-clause-answers
-returns-in_err-answers-clause-answers g c = rw (vector-components c.args.self.now c.as_slice.result.now c.as_slice.ensures) (search (rules, c.in_err-answers.ensures.answers))
+pub returns-in-Err-clause-answers : goal.returns-in-Err-clause-answers
+returns-in-Err-clause-answers g c = rw (vector-components c.args.self.now c.as_slice.result.now c.as_slice.ensures) (search (rules, c.in-Err.ensures.answers))
 
-pub returns-in_err-answers-clause-no_memory : goal.returns-in_err-answers-clause-no_memory
-returns-in_err-answers-clause-no_memory g c = λ vector. rw (vector-components c.args.self.now c.as_slice.result.now c.as_slice.ensures) (search (rules, c.in_err-answers.ensures.refused))
+pub returns-in-Err-clause-no_memory : goal.returns-in-Err-clause-no_memory
+returns-in-Err-clause-no_memory g c = λ vector. rw (vector-components c.args.self.now c.as_slice.result.now c.as_slice.ensures) (search (rules, c.in-Err.ensures.refused))
 
 pub replace_components-requires : goal.replace_components-requires
 replace_components-requires g c =
@@ -33,18 +33,18 @@ returns-clause-answers g c =
     let is = vector-components c.args.self.now s c.as_slice.ensures in
     rw is
     (replaced-answered (AnswersAt g.F.Fn c.args.f) (map value_of s) (unary-literals g.F.Fn c.args.f) (rw is at c.requires.one_kind) c.args.self.now c.replace_components.new.target s
-    (vector-known c.args.self.now s c.as_slice.ensures c.requires.own) (length-values s) c.in_ok-answers.answers c.in_ok-answers.ensures.answers c.replace_components.ensures.components)
+    (vector-known c.args.self.now s c.as_slice.ensures c.requires.own) (length-values s) c.answer_into.new.answers c.in_default.ensures.answers c.replace_components.ensures.components)
 
 pub returns-clause-storable : goal.returns-clause-storable
 returns-clause-storable g c =
     let s = c.as_slice.result.now in
     let is = vector-components c.args.self.now s c.as_slice.ensures in
     replaced-storable (AnswersAt g.F.Fn c.args.f) (map value_of s) (unary-literals g.F.Fn c.args.f) (rw is at c.requires.one_kind) c.args.self.now c.replace_components.new.target s
-    (vector-known c.args.self.now s c.as_slice.ensures c.requires.own) (length-values s) c.in_ok-answers.answers c.in_ok-answers.ensures.answers c.replace_components.ensures.components c.replace_components.ensures.storable
+    (vector-known c.args.self.now s c.as_slice.ensures c.requires.own) (length-values s) c.answer_into.new.answers c.in_default.ensures.answers c.replace_components.ensures.components c.replace_components.ensures.storable
 
 pub returns-clause-shape : goal.returns-clause-shape
 returns-clause-shape g c =
     let s = c.as_slice.result.now in
     let is = vector-components c.args.self.now s c.as_slice.ensures in
     replaced-paths (AnswersAt g.F.Fn c.args.f) (map value_of s) (unary-literals g.F.Fn c.args.f) (rw is at c.requires.one_kind) c.args.self.now c.replace_components.new.target s
-    (vector-known c.args.self.now s c.as_slice.ensures c.requires.own) (length-values s) c.in_ok-answers.answers c.in_ok-answers.ensures.answers c.replace_components.ensures.components
+    (vector-known c.args.self.now s c.as_slice.ensures c.requires.own) (length-values s) c.answer_into.new.answers c.in_default.ensures.answers c.replace_components.ensures.components

@@ -7,10 +7,10 @@ use Rattle.wgsl_ops.specs.Closures.{AnswersAtPair, Refused}
 use Rattle.wgsl_rules.specs.Values.{Val}
 use Rattle.wgsl_scalar.specs.Literals.{literal_of}
 use Rattle.wgsl_values.specs.View.{value_of}
-use Rattle.wgsl_ops.proofs.in_place.first_answers_at_pairs.Goals as goal
+use Rattle.wgsl_ops.proofs.in_place.answer_pairs_into.Goals as goal
 
 pub loop-i-init : goal.loop-i-init
-loop-i-init g c = record { so_far = record { answered = λ ys a. a; refused = λ e a. a }; long = refl }
+loop-i-init g c = record { so_far = record { answered = λ ys a. a; refused = λ e a. a }; long = omega arith }
 
 pub unwrap_literal_ref-requires : goal.unwrap_literal_ref-requires
 unwrap_literal_ref-requires g c = rw c.index-left-i.is (item_literal c.args.left.now c.loop-i.i c.index-left-i.result c.loop-i-test.true c.requires.left)
