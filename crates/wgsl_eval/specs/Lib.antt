@@ -7,6 +7,8 @@ pub mod Evaluators
 pub mod Given
 pub mod Lists
 pub mod Meanings
+pub mod Messages
+pub mod Opaque
 pub mod Parts
 pub mod Runs
 pub mod Structures

@@ -64,7 +64,7 @@ pub(crate) enum Answer {
     Type(SizedType),
     /// The function `bitcast` with its type.
     Bitcast(SizedType),
-    /// A variable of the module. What names it needs what is no constant.
+    /// A variable of the module. What names it is skipped.
     Variable(Variable),
     Skipped(Skip),
     /// A fault, and whether `&&` and `||` pass it over where they do not evaluate it.
@@ -87,17 +87,40 @@ pub(crate) enum Guard {
 pub enum Need {
     /// A number of floats.
     Float,
-    /// A variable, a function, or another name that is no constant.
-    NotConstant,
+    /// An override, which has no value yet.
+    Override,
+    /// A variable of the module.
+    Variable,
+    /// A function of the module.
+    Function,
+    /// A type whose values are no constants, as a texture, a sampler or a pointer.
+    Opaque,
+    /// What a builtin function of memory, textures or other invocations answers.
+    Runtime,
 }
 
 impl fmt::Display for Need {
     fn fmt<W: fmt::Write>(&self, f: &mut fmt::Formatter<W>) -> fmt::Result {
         f.write_str(match self {
             Need::Float => "needs floats",
-            Need::NotConstant => "needs what is no constant",
+            Need::Override => "needs an override",
+            Need::Variable => "needs a variable",
+            Need::Function => "needs a function of the module",
+            Need::Opaque => "needs a type without constants",
+            Need::Runtime => "needs what is known at run time",
         })
     }
+}
+
+/// What the expression that is not evaluated is for.
+#[derive(Clone, Copy, Debug, PartialEq, Eq)]
+pub enum Part {
+    /// The count of elements of an array type.
+    Count,
+    /// An attribute.
+    Attribute,
+    /// Anything else.
+    Expression,
 }
 
 /// The bytes of a source because of which an expression is not evaluated.
@@ -106,6 +129,7 @@ pub struct Skip {
     pub start: usize,
     pub end: usize,
     pub need: Need,
+    pub part: Part,
 }
 
 impl Size {
@@ -223,13 +247,21 @@ impl SizedType {
 
 impl Skip {
     pub(crate) fn new(extent: Extent, need: Need) -> Skip
-        ensures { result ≡ record { start = extent.start; end = extent.end; need = need } }
+        ensures { result ≡ record { start = extent.start; end = extent.end; need = need; part = Part.Expression } }
     {
         Skip {
             start: extent.start,
             end: extent.end,
             need,
+            part: Part::Expression,
         }
+    }
+
+    /// The same in another part.
+    pub(crate) fn in_part(self, part: Part) -> Skip
+        ensures { result ≡ record self { part = part } }
+    {
+        Skip { part, ..self }
     }
 }
 

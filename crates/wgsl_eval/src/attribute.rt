@@ -7,12 +7,12 @@ ghost use Rattle.wgsl_eval.specs.Answers.{AreAnswers, IsAnswer, value_in};
 ghost use Rattle.wgsl_eval.specs.Evaluators.{setting_of};
 ghost use Rattle.wgsl_eval.specs.Structures.{IsAttribute, IsNone, IsNumberOf, is_valid_for};
 
-use crate::answer::{Answer, Need, Skip};
+use crate::answer::{Answer, Need, Part, Skip};
 use crate::call::natural_in;
 use crate::evaluator::Evaluator;
 use std::alloc::AllocError;
-use wgsl_source::Span;
-use wgsl_types::{Instance, Type};
+use wgsl_source::{Callee, Span, Step};
+use wgsl_types::{BinaryOperator, Instance, Type, UnaryOperator};
 
 /// What an attribute gives, or why it gives nothing.
 #[derive(Drop)]
@@ -50,7 +50,7 @@ impl Evaluator<'_> {
         let answer = self.expression(span)?;
         match answer {
             Answer::Value(value) => self.number_for(span.token, &value.instance, of),
-            other => Ok(Attribute::Other(self.no_number(span.token, other)?)),
+            other => Ok(Attribute::Other(self.no_number(span, other)?)),
         }
     }
 }
@@ -75,25 +75,62 @@ impl Evaluator<'_> {
         }
     }
 
-    // What is left where no value is found: an attribute is a constant.
-    fn no_number(&self, token: usize, answer: Answer) -> Result<Answer, AllocError>
+    // What is left where no value is found: an attribute is a constant, and an integer.
+    fn no_number(&self, span: Span, answer: Answer) -> Result<Answer, AllocError>
         requires none { value_in answer ≡ None }
         requires answer { IsAnswer answer }
         ensures none { IfOk result IsNone }
         ensures answer { IfOk result IsAnswer }
     {
         match answer {
-            Answer::Skipped(
-                Skip {
-                    need: Need::NotConstant,
-                    ..
-                },
-            )
-            | Answer::Variable(_) => self.wrong_text(token, "an attribute is a constant"),
+            Answer::Skipped(skip) => self.skipped_number(span, skip),
+            Answer::Variable(_) => self.wrong_text(span.token, "an attribute is a constant"),
             Answer::Type(_) | Answer::Bitcast(_) => {
-                self.wrong_text(token, "a type stands where a value belongs")
+                self.wrong_text(span.token, "a type stands where a value belongs")
             }
             other => Ok(other),
+        }
+    }
+
+    // What needs floats may yet be an integer.
+    fn skipped_number(&self, span: Span, skip: Skip) -> Result<Answer, AllocError>
+        ensures none { IfOk result IsNone }
+        ensures answer { IfOk result IsAnswer }
+    {
+        if skip.need != Need::Float {
+            return self.wrong_text(span.token, "an attribute is a constant");
+        }
+        if self.is_float(span) {
+            return self.wrong_text(span.token, "an attribute is an integer");
+        }
+        Ok(Answer::Skipped(skip.in_part(Part::Attribute)))
+    }
+
+    // Whether an expression that needs floats is one of them: an operator between numbers, or a call of a type of floats.
+    fn is_float(&self, span: Span) -> bool {
+        let steps = self.reading.steps(span);
+        let is_called = match steps.last() {
+            Some(last) => self.is_float_call(*last),
+            None => false,
+        };
+        is_called || steps.iter().all(|step| self.is_of_numbers(*step))
+    }
+
+    fn is_of_numbers(&self, step: Step) -> bool {
+        match step {
+            Step::Number(_) | Step::Unary(UnaryOperator::Negation, _) => true,
+            Step::Binary(operator, _) => is_arithmetic(operator),
+            _ => self.is_float_call(step),
+        }
+    }
+
+    fn is_float_call(&self, step: Step) -> bool {
+        match step {
+            Step::Call(token, Callee::Name, _) => {
+                let word = self.reading.word(token);
+                matches!(word, "f32" | "f16") && self.reading.number_of(word).is_none()
+            }
+            _ => false,
         }
     }
 }
@@ -111,6 +148,17 @@ impl Use<'_> {
             Use::Size(_) | Use::Align | Use::Binding => None,
         }
     }
+}
+
+fn is_arithmetic(operator: BinaryOperator) -> bool {
+    matches!(
+        operator,
+        BinaryOperator::Addition
+            | BinaryOperator::Subtraction
+            | BinaryOperator::Multiplication
+            | BinaryOperator::Division
+            | BinaryOperator::Remainder
+    )
 }
 
 fn is_at_least(number: u32, least: Option<u32>) -> bool

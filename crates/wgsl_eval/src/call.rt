@@ -22,7 +22,7 @@ ghost use Rattle.wgsl_rules.specs.View.{type_view};
 ghost use Rattle.wgsl_source.specs.Readings.{word_at};
 ghost use Rattle.wgsl_values.specs.View.{value_of};
 
-use crate::answer::{Answer, Guard, Need, Size, Value};
+use crate::answer::{Answer, Guard, Need, Part, Size, Value};
 use crate::evaluator::Evaluator;
 use crate::opaque::is_opaque;
 use crate::types::generated;
@@ -31,6 +31,9 @@ use wgsl_apply::{Asked, literal_of, natural};
 use wgsl_functions::{Builtin, against_function, bitcast};
 use wgsl_source::{Generator, Predeclared, language_name};
 use wgsl_types::{Error, Instance, Type};
+
+/// What is told of matrices of integers.
+pub(crate) const INTEGRAL: &str = "WGSL has no matrices of integers";
 
 /// Values that are called with and how large they are together, or why they are none.
 #[derive(Drop)]
@@ -62,8 +65,8 @@ impl Evaluator<'_> {
         match language_name(word) {
             Some(Predeclared::Generator(generator)) => self.generated(token, generator, arguments),
             Some(_) => self.wrong_text(token, "this takes no template list"),
-            None if is_opaque(word) => Ok(self.skipped(token, Need::NotConstant)),
-            None => self.wrong_text(token, "nothing has this name"),
+            None if is_opaque(word) => Ok(self.skipped(token, Need::Opaque)),
+            None => self.nothing_named(token),
         }
     }
 
@@ -79,7 +82,7 @@ impl Evaluator<'_> {
     }
 
     fn generated(
-        &self,
+        &mut self,
         token: usize,
         generator: Generator,
         mut arguments: Vec<Answer>,
@@ -101,7 +104,7 @@ impl Evaluator<'_> {
     }
 
     // An array of as many elements as the second argument says.
-    fn counted(&self, token: usize, inner: Answer, count: Answer) -> Result<Answer, AllocError>
+    fn counted(&mut self, token: usize, inner: Answer, count: Answer) -> Result<Answer, AllocError>
         requires inner { IsAnswer inner }
         requires count { IsAnswer count }
         ensures generated { IfOk result (IsGenerated Generator.Array (inner ∷ count ∷ [])) }
@@ -109,7 +112,7 @@ impl Evaluator<'_> {
     {
         let value = match count {
             Answer::Value(value) => value,
-            other => return self.unready(token, other),
+            other => return self.not_counted(token, other),
         };
         match natural_in(&value.instance) {
             Some(count) if count > 0 => {
@@ -119,8 +122,20 @@ impl Evaluator<'_> {
         }
     }
 
+    // What a count that is no value leaves.
+    fn not_counted(&self, token: usize, count: Answer) -> Result<Answer, AllocError>
+        requires { IsAnswer count }
+        ensures answer { IfOk result IsAnswer }
+    {
+        let answer = self.unready(token, count)?;
+        match answer {
+            Answer::Skipped(skip) => Ok(Answer::Skipped(skip.in_part(Part::Count))),
+            other => Ok(other),
+        }
+    }
+
     fn generated_of(
-        &self,
+        &mut self,
         token: usize,
         generator: Generator,
         inner: Answer,
@@ -135,8 +150,14 @@ impl Evaluator<'_> {
                 if !generator.takes(&inner.ty) {
                     return self.wrong_text(token, "this is no type of a component here");
                 }
+                let is_integral = is_matrix(generator) && !inner.has_float;
                 let of = generated(self.alloc, generator, inner, count)?;
-                self.limited(token, of)
+                let answer = self.limited(token, of)?;
+                if is_integral {
+                    self.beyond(token, answer, INTEGRAL)
+                } else {
+                    Ok(answer)
+                }
             }
             Answer::Value(_) | Answer::Bitcast(_) => self.wrong_text(token, "this is no type"),
             other => Ok(other),
@@ -171,7 +192,8 @@ impl Evaluator<'_> {
                 let callee = self.language_type(token, named)?;
                 self.call_answer(token, callee, arguments)
             }
-            None => self.wrong_text(token, "nothing has this name"),
+            None if is_opaque(word) => self.wrong_text(token, "no value is made of this"),
+            None => self.nothing_named(token),
         }
     }
 
@@ -257,7 +279,7 @@ impl Evaluator<'_> {
         let Some(count) = function.count() else {
             let need = match function {
                 Builtin::Float => Need::Float,
-                _ => Need::NotConstant,
+                _ => Need::Runtime,
             };
             return Ok(self.skipped(token, need));
         };
@@ -355,6 +377,10 @@ impl Evaluator<'_> {
         write!(text, "{word} takes {wanted} values, and {given} are given")?;
         Ok(self.wrong(token, Guard::Never, text))
     }
+}
+
+fn is_matrix(generator: Generator) -> bool {
+    matches!(generator, Generator::Mat(_, _))
 }
 
 /// The integer from 0 to 4294967295 that a value is.

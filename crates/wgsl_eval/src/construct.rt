@@ -33,10 +33,11 @@ ghost use Rattle.wgsl_rules.specs.View.{members_view, struct_view, type_view};
 ghost use Rattle.wgsl_scalar.specs.Literals.{literal_of as value_of_literal};
 ghost use Rattle.wgsl_values.specs.View.{value_of};
 
-use crate::answer::{Answer, Guard, Size, SizedType, Value};
-use crate::call::Arguments;
+use crate::answer::{Answer, Guard, Need, Size, SizedType, Value};
+use crate::call::{Arguments, INTEGRAL};
 use crate::evaluator::Evaluator;
 use crate::literals::{Conversion, Scalars, columns_of, components_of, flattened, vector_of};
+use crate::settings::Dialect;
 use std::alloc::AllocError;
 use wgsl_apply::{
     automatic, in_common, literal_of, make_array, make_matrix, make_structure, zero, zero_literal,
@@ -374,7 +375,7 @@ impl Evaluator<'_> {
 
     #[tactic(auto, using(crate::proofs::Answered::answered_steps))]
     fn inferred_of(
-        &self,
+        &mut self,
         token: usize,
         generator: Generator,
         values: &[Instance],
@@ -422,7 +423,7 @@ impl Evaluator<'_> {
 
     #[tactic(auto, using(crate::proofs::Answered::answered_steps))]
     fn inferred_matrix(
-        &self,
+        &mut self,
         token: usize,
         columns: u8,
         rows: u8,
@@ -437,9 +438,24 @@ impl Evaluator<'_> {
             Scalars::Other(answer) => return Ok(answer),
         };
         match convert_all(self.alloc, scalars.as_slice())? {
-            Some(scalars) => self.matrix_of(columns, rows, scalars.as_slice()),
+            Some(scalars) => self.common_matrix(token, columns, rows, scalars.as_slice()),
             None => self.no_common(token),
         }
+    }
+
+    // The matrix of scalars of one type. WGSL takes abstract integers for floats there.
+    fn common_matrix(
+        &mut self,
+        token: usize,
+        columns: u8,
+        rows: u8,
+        scalars: &[LiteralInstance],
+    ) -> Result<Answer, AllocError> {
+        if self.dialect == Dialect::Wgsl && begins_abstract(scalars) {
+            return Ok(self.skipped(token, Need::Float));
+        }
+        let answer = self.matrix_of(columns, rows, scalars)?;
+        self.beyond(token, answer, INTEGRAL)
     }
 
     #[tactic(auto, using(crate::proofs::Answered::answered_steps))]
@@ -479,6 +495,10 @@ fn answer_of(value: Option<Instance>, size: Size) -> Answer
         Some(instance) => Answer::Value(Value::answered(instance, size)),
         None => Answer::Faulty,
     }
+}
+
+fn begins_abstract(scalars: &[LiteralInstance]) -> bool {
+    matches!(scalars.first(), Some(LiteralInstance::AbstractInt(_)))
 }
 
 fn are_columns(values: &[Instance], rows: usize) -> bool {

@@ -7,16 +7,17 @@ ghost use Rattle.wgsl_eval.specs.Answers.{AreAnswers};
 ghost use Rattle.wgsl_eval.specs.Evaluated.{AreDeclarations, AreItems, IsItem, kind_in};
 ghost use Rattle.wgsl_eval.specs.Evaluators.{setting_of};
 
-use crate::answer::Answer;
+use crate::answer::{Answer, Skip};
 use crate::evaluator::{Evaluator, popped};
 use crate::message::Message;
+use crate::settings::{Dialect, Settings};
 use crate::variable::Variable;
 use std::alloc::{AllocError, Global};
 use wgsl_source::{Declared, Extent, Reading};
 use wgsl_types::{Instance, ShaderStage, Type};
 
-/// The declarations of a module in their order, and what is told of them in its order; of many messages
-/// the first that are found.
+/// The declarations of a module in their order, and what is told of them in its order. Of many faults and of many
+/// warnings the first that are found are told, and faults before warnings.
 #[derive(Debug, PartialEq, Eq, Drop)]
 pub struct Declarations {
     pub items: Vec<Item>,
@@ -44,14 +45,14 @@ pub enum ItemKind {
     /// A variable whose type has values in memory.
     Variable(Variable),
     /// A function, an `override`, a float, a texture, and whatever else has no such type and no such
-    /// value.
-    Skipped,
+    /// value; why, and where.
+    Skipped(Skip),
     /// What has a fault, or names what has one.
     Faulty,
 }
 
 /// What the declarations of a module are found to be, for a host: the types of its structures and
-/// variables with their counts and attributes, which are evaluated as the constants are. Its
+/// variables with their counts and attributes, which are evaluated as the constants of WGSL are. Its
 /// assertions are not checked.
 ///
 /// A type of a source has 4,096 types at most, and a value 64 others inside each other: a stack of 8 MiB is enough.
@@ -62,7 +63,21 @@ pub fn resolve(alloc: Global, reading: &Reading<'_>) -> Result<Declarations, All
     ensures sorted { IfOk result (λ d. IsSortedByKey (λ m. m.start) nat_cmp d.messages.items) }
     ensures items { IfOk result (λ d. AreDeclarations reading.now d.items.items) }
 {
-    let mut evaluator = Evaluator::new(alloc, reading, ShaderStage::Const, false)?;
+    let settings = Settings {
+        stage: ShaderStage::Const,
+        is_strict: false,
+        dialect: Dialect::Wgsl,
+    };
+    resolve_in(alloc, reading, settings)
+}
+
+/// The same with these settings.
+pub fn resolve_in(
+    alloc: Global,
+    reading: &Reading<'_>,
+    settings: Settings,
+) -> Result<Declarations, AllocError> {
+    let mut evaluator = Evaluator::new(alloc, reading, settings)?;
     evaluator.declare_all()?;
     evaluator.into_declarations()
 }
@@ -120,7 +135,7 @@ fn kind_of(declared: Option<Declared>, meaning: Answer) -> ItemKind
         },
         Answer::Value(value) => ItemKind::Value(value.instance),
         Answer::Variable(variable) => ItemKind::Variable(variable),
-        Answer::Skipped(_) => ItemKind::Skipped,
+        Answer::Skipped(skip) => ItemKind::Skipped(skip),
         Answer::Named(_) | Answer::Bitcast(_) | Answer::Wrong(_, _) | Answer::Faulty => {
             ItemKind::Faulty
         }

@@ -42,7 +42,7 @@ impl Evaluator<'_> {
             Some(Declared::Alias(ty)) => self.alias(ty),
             Some(Declared::Struct { first, end }) => self.structure(name, first, end),
             Some(Declared::Variable(variable)) => self.variable(name, variable),
-            Some(Declared::Function) => Ok(self.skipped(name, Need::NotConstant)),
+            Some(Declared::Function) => Ok(self.skipped(name, Need::Function)),
             None => Ok(Answer::Faulty),
         }
     }
@@ -140,10 +140,10 @@ impl Evaluator<'_> {
         ensures answer { IfOk result IsAnswer }
     {
         let Some(span) = value else {
-            return Ok(self.skipped(name, Need::NotConstant));
+            return Ok(self.skipped(name, Need::Override));
         };
         if self.stage == ShaderStage::Const {
-            return Ok(self.skipped(name, Need::NotConstant));
+            return Ok(self.skipped(name, Need::Override));
         }
         let answer = self.constant(ty, span)?;
         match answer {

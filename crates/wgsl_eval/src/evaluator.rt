@@ -22,8 +22,10 @@ ghost use Rattle.wgsl_eval.specs.Runs.{IsFound};
 ghost use Rattle.wgsl_eval.specs.TypeNames.{predeclared_type};
 
 use crate::answer::{Answer, Guard, Need, Size, SizedType, Skip, Value};
+use crate::assertions::Assertion;
 use crate::message::{Message, Messages};
 use crate::opaque::is_opaque;
+use crate::settings::{Dialect, Settings};
 use crate::types::predeclared;
 use crate::waiting::popped_waiting;
 use std::alloc::{AllocError, Global};
@@ -31,7 +33,7 @@ use wgsl_apply::{
     Asked, against_operator, automatic, has_rank, is_of_numbers, is_short, refusal_text,
 };
 use wgsl_source::{
-    Callee, Declared, Extent, Literal, Predeclared, Reading, Span, Step, language_name,
+    Callee, Declared, Literal, Predeclared, Reading, Scalar, Span, Step, language_name,
 };
 use wgsl_types::{
     BinaryOperator, Error, Instance, LiteralInstance, ShaderStage, Type, UnaryOperator,
@@ -40,11 +42,18 @@ use wgsl_types::{
 /// The most parts of values that are made and named in all.
 const WORK: usize = 1 << 22;
 
-/// The values of a source and what is told of them, in its order; of many messages the first that
-/// are found.
+/// How many characters a name has at most that is told.
+const NAMED: usize = 40;
+
+/// What is told of integers of 64 bits.
+const WIDE: &str = "WGSL has no 64-bit integers";
+
+/// The values of a source, what is found of its assertions, and what is told of them, each in its order.
+/// Of many faults and of many warnings the first that are found are told, and faults before warnings.
 #[derive(Debug, PartialEq, Eq, Drop)]
 pub struct Evaluation {
     pub values: Vec<Evaluated>,
+    pub asserts: Vec<Assertion>,
     pub messages: Vec<Message>,
 }
 
@@ -73,13 +82,14 @@ pub(crate) struct Evaluator<'a> {
     pub(crate) stage: ShaderStage,
     /// Whether what the standard refuses is a fault.
     pub(crate) is_strict: bool,
+    pub(crate) dialect: Dialect,
     pub(crate) messages: Messages,
     pub(crate) meanings: Vec<Answer>,
     /// How many parts may still be made.
     work: usize,
 }
 
-/// The values of the declarations of a source, and what is wrong in them. In another stage than
+/// The values of the declarations of a source in WGSL, and what is wrong in them. In another stage than
 /// `Const` the values of overrides are evaluated too, as if no host had given others.
 ///
 /// A type of a source has 4,096 types at most, and a value 64 others inside each other: a stack of 8 MiB is enough.
@@ -97,10 +107,24 @@ pub fn evaluate(
     ensures values { IfOk result (λ e. AreEvaluated reading.now stage is_strict e.values.items) }
     ensures sound { IfOk result (λ e. All (λ v. IsSoundOutcome v.outcome) e.values.items) }
 {
-    let mut evaluator = Evaluator::new(alloc, reading, stage, is_strict)?;
+    let settings = Settings {
+        stage,
+        is_strict,
+        dialect: Dialect::Wgsl,
+    };
+    evaluate_in(alloc, reading, settings)
+}
+
+/// The same with these settings.
+pub fn evaluate_in(
+    alloc: Global,
+    reading: &Reading<'_>,
+    settings: Settings,
+) -> Result<Evaluation, AllocError> {
+    let mut evaluator = Evaluator::new(alloc, reading, settings)?;
     evaluator.declare_all()?;
-    evaluator.assert_all()?;
-    evaluator.into_evaluation()
+    let asserts = evaluator.assert_all()?;
+    evaluator.into_evaluation(asserts)
 }
 
 impl<'a> Evaluator<'a> {
@@ -108,8 +132,7 @@ impl<'a> Evaluator<'a> {
     pub(crate) fn new(
         alloc: Global,
         reading: &'a Reading<'a>,
-        stage: ShaderStage,
-        is_strict: bool,
+        settings: Settings,
     ) -> Result<Evaluator<'a>, AllocError>
         ensures unknown { IfOk result (λ e. setting_of e ≡ setting_before reading.entry.now stage is_strict) }
         ensures answers { IfOk result (λ e. AreAnswers e.meanings.items) }
@@ -117,8 +140,9 @@ impl<'a> Evaluator<'a> {
         Ok(Evaluator {
             alloc,
             reading,
-            stage,
-            is_strict,
+            stage: settings.stage,
+            is_strict: settings.is_strict,
+            dialect: settings.dialect,
             messages: Messages::new(alloc),
             meanings: unknown(alloc, reading.len())?,
             work: WORK,
@@ -139,18 +163,7 @@ impl<'a> Evaluator<'a> {
         Ok(())
     }
 
-    fn assert_all(&mut self) -> Result<(), AllocError>
-        requires { AreAnswers self.old.meanings.items }
-        ensures { setting_of self.new ≡ setting_of self.old }
-    {
-        let asserts = self.reading.asserts();
-        for span in asserts {
-            self.assert(*span)?;
-        }
-        Ok(())
-    }
-
-    fn into_evaluation(self) -> Result<Evaluation, AllocError>
+    fn into_evaluation(self, asserts: Vec<Assertion>) -> Result<Evaluation, AllocError>
         requires { AreAnswers self.meanings.items }
         ensures count { IfOk result (λ e. vec_len e.messages ≤ 100) }
         ensures sorted { IfOk result (λ e. IsSortedByKey (λ m. m.start) nat_cmp e.messages.items) }
@@ -163,6 +176,7 @@ impl<'a> Evaluator<'a> {
             reading,
             stage,
             is_strict: _,
+            dialect: _,
             messages,
             mut meanings,
             work: _,
@@ -175,7 +189,11 @@ impl<'a> Evaluator<'a> {
             let is_value = is_value(reading.declared(number), stage);
             add_value(&mut values, is_value, reading.name(number), meaning)?;
         }
-        Ok(Evaluation { values, messages })
+        Ok(Evaluation {
+            values,
+            asserts,
+            messages,
+        })
     }
 
     /// What an expression stands for.
@@ -291,9 +309,27 @@ impl Evaluator<'_> {
         if self.is_strict {
             return Ok(self.wrong(token, Guard::Guarded, text));
         }
-        let extent = self.reading.extent(token);
-        self.messages.add(Message::warning(extent, text))?;
+        self.messages.add_warning(self.reading.extent(token), text)?;
         Ok(Answer::Value(value))
+    }
+
+    /// An answer that WGSL does not have: it stays with a warning, or is a fault of types where the standard is to be
+    /// obeyed. In the other dialect nothing is said.
+    pub(crate) fn beyond(
+        &mut self,
+        token: usize,
+        answer: Answer,
+        text: &str,
+    ) -> Result<Answer, AllocError> {
+        if self.dialect == Dialect::Crate {
+            return Ok(answer);
+        }
+        let text = String::from_str(self.alloc, text)?;
+        if self.is_strict {
+            return Ok(self.wrong(token, Guard::Never, text));
+        }
+        self.messages.add_warning(self.reading.extent(token), text)?;
+        Ok(answer)
     }
 
     /// Whether so much more may be made.
@@ -318,14 +354,22 @@ impl Evaluator<'_> {
         self.wrong_text(token, "this has too many parts to be evaluated")
     }
 
-    fn number(&self, token: usize) -> Result<Answer, AllocError>
+    fn number(&mut self, token: usize) -> Result<Answer, AllocError>
         ensures number { IfOk result (IsOfNumber (word_at self.now.reading.now token)) }
         ensures answer { IfOk result IsAnswer }
     {
         match self.reading.literal(token) {
-            Literal::Integer(literal) => Ok(value_of(literal)),
+            Literal::Integer(literal) => self.integer(token, literal),
             Literal::Float => Ok(self.skipped(token, Need::Float)),
             Literal::Wrong => self.wrong_text(token, "this is no number of its kind"),
+        }
+    }
+
+    fn integer(&mut self, token: usize, literal: LiteralInstance) -> Result<Answer, AllocError> {
+        let answer = value_of(literal);
+        match literal {
+            LiteralInstance::I64(_) | LiteralInstance::U64(_) => self.beyond(token, answer, WIDE),
+            _ => Ok(answer),
         }
     }
 
@@ -344,11 +388,12 @@ impl Evaluator<'_> {
     }
 
     // What the language has for a name.
-    fn of_language(&self, token: usize) -> Result<Answer, AllocError>
+    fn of_language(&mut self, token: usize) -> Result<Answer, AllocError>
         ensures value { IfOk result (λ a. value_in a ≡ language_value (word_at self.now.reading.now token)) }
         ensures answer { IfOk result IsAnswer }
     {
-        let name = self.reading.word(token);
+        let reading = self.reading;
+        let name = reading.word(token);
         match name {
             "true" => return Ok(value_of(LiteralInstance::Bool(true))),
             "false" => return Ok(value_of(LiteralInstance::Bool(false))),
@@ -356,9 +401,23 @@ impl Evaluator<'_> {
         }
         match language_name(name) {
             Some(named) => self.language_type(token, named),
-            None if is_opaque(name) => Ok(self.skipped(token, Need::NotConstant)),
-            None => self.wrong_text(token, "nothing has this name"),
+            None if is_opaque(name) => Ok(self.skipped(token, Need::Opaque)),
+            None => self.nothing_named(token),
         }
+    }
+
+    /// A name that nothing has.
+    pub(crate) fn nothing_named(&self, token: usize) -> Result<Answer, AllocError>
+        ensures fault { IfOk result IsFault }
+        ensures answer { IfOk result IsAnswer }
+    {
+        let word = self.reading.word(token);
+        if word.chars().count() > NAMED {
+            return self.wrong_text(token, "nothing has this name");
+        }
+        let mut text = String::new(self.alloc);
+        write!(text, "nothing is named {word}")?;
+        Ok(self.wrong(token, Guard::Never, text))
     }
 
     // What a declaration was found to stand for. A value with parts is named by it, and copied where all of it is taken.
@@ -405,7 +464,7 @@ impl Evaluator<'_> {
     }
 
     pub(crate) fn language_type(
-        &self,
+        &mut self,
         token: usize,
         named: Predeclared,
     ) -> Result<Answer, AllocError>
@@ -414,6 +473,7 @@ impl Evaluator<'_> {
         ensures answer { IfOk result IsAnswer }
     {
         match predeclared(self.alloc, named)? {
+            Some(ty) if is_wide(named) => self.beyond(token, Answer::Type(ty), WIDE),
             Some(ty) => Ok(Answer::Type(ty)),
             None => self.wrong_text(token, "this type takes a template list"),
         }
@@ -441,7 +501,7 @@ impl Evaluator<'_> {
         match self.meanings.get(number) {
             Some(Answer::Value(value)) => Ok(Answer::Value(value.copy(self.alloc)?)),
             Some(Answer::Type(ty)) => Ok(Answer::Type(ty.copy(self.alloc)?)),
-            Some(Answer::Variable(_)) => Ok(self.skipped(token, Need::NotConstant)),
+            Some(Answer::Variable(_)) => Ok(self.skipped(token, Need::Variable)),
             Some(Answer::Skipped(skip)) => Ok(self.skipped(token, skip.need)),
             _ => Ok(Answer::Faulty),
         }
@@ -546,7 +606,7 @@ impl Evaluator<'_> {
             Answer::Type(_) | Answer::Bitcast(_) => {
                 self.wrong_text(token, "a type stands where a value belongs")
             }
-            Answer::Variable(_) => Ok(self.skipped(token, Need::NotConstant)),
+            Answer::Variable(_) => Ok(self.skipped(token, Need::Variable)),
             other => Ok(other),
         }
     }
@@ -602,34 +662,20 @@ impl Evaluator<'_> {
         Ok(self.wrong(token, guard, text))
     }
 
-    /// The condition of a `const_assert`.
-    fn assert(&mut self, span: Span) -> Result<(), AllocError>
-        requires { AreAnswers self.old.meanings.items }
-        ensures { setting_of self.new ≡ setting_of self.old }
-    {
-        let answer = self.expression(span)?;
-        let answer = match answer {
-            Answer::Value(value) => match value.instance {
-                Instance::Literal(LiteralInstance::Bool(true)) => return Ok(()),
-                Instance::Literal(LiteralInstance::Bool(false)) => {
-                    self.wrong_text(span.token, "this is asserted and false")?
-                }
-                _ => self.wrong_text(span.token, "what is asserted is no bool")?,
-            },
-            other => self.unready(span.token, other)?,
-        };
-        self.tell(answer)
-    }
-
     /// Tells what is wrong.
     pub(crate) fn tell(&mut self, answer: Answer) -> Result<(), AllocError>
         ensures { setting_of self.new ≡ setting_of self.old }
     {
         match answer {
-            Answer::Wrong(message, _) => self.messages.add(message),
+            Answer::Wrong(message, _) => self.messages.add_fault(message),
             _ => Ok(()),
         }
     }
+}
+
+// Whether it is a type of integers of 64 bits.
+fn is_wide(named: Predeclared) -> bool {
+    matches!(named, Predeclared::Scalar(Scalar::I64 | Scalar::U64))
 }
 
 /// A literal as an answer.

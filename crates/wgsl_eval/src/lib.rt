@@ -3,6 +3,7 @@
 #![tactic(auto)]
 
 mod answer;
+mod assertions;
 mod attribute;
 mod call;
 mod construct;
@@ -13,14 +14,17 @@ mod literals;
 mod message;
 mod opaque;
 mod part;
+mod settings;
 mod steps;
 mod structure;
 mod types;
 mod variable;
 mod waiting;
 
-pub use answer::{Need, Skip};
-pub use declarations::{Declarations, Item, ItemKind, resolve};
-pub use evaluator::{Evaluated, Evaluation, Outcome, evaluate};
+pub use answer::{Need, Part, Skip};
+pub use assertions::Assertion;
+pub use declarations::{Declarations, Item, ItemKind, resolve, resolve_in};
+pub use evaluator::{Evaluated, Evaluation, Outcome, evaluate, evaluate_in};
 pub use message::{Message, Severity};
+pub use settings::{Dialect, Settings};
 pub use variable::Variable;

@@ -1,8 +1,9 @@
 //! What is told of a source.
 
-ghost use Rattle.std.specs.Prelude.{◌≡◌, ◌≤◌, IfOk, vec_len};
+ghost use Rattle.std.specs.Prelude.{◌≡◌, ◌≤◌, All, IfOk, IsPermutation, OnErr, OnOk, vec_len};
 ghost use Rattle.std.specs.List.Sorted.{IsSortedByKey};
 ghost use Rattle.std.specs.Ordering.{nat_cmp};
+ghost use Rattle.wgsl_eval.specs.Messages.{AreTold, IsWarning, added};
 
 use std::alloc::{AllocError, Global};
 use wgsl_source::Extent;
@@ -17,6 +18,8 @@ pub enum Severity {
     Fault,
     /// The standard refuses it.
     Warning,
+    /// It is left out; a program that prints what is found tells so.
+    Note,
 }
 
 /// Bytes of a source, and what is said of them.
@@ -52,34 +55,60 @@ impl Message {
     }
 }
 
-/// What was found, of many messages the first.
+/// What was found, of many faults and of many warnings the first.
 #[derive(Drop)]
 pub(crate) struct Messages {
-    messages: Vec<Message>,
-    ghost bounded: { vec_len messages ≤ 100 },
+    pub(crate) faults: Vec<Message>,
+    warnings: Vec<Message>,
+    ghost bounded: { vec_len faults ≤ 100 },
+    ghost warned: { All IsWarning warnings.items },
 }
 
 impl Messages {
-    pub(crate) fn new(alloc: Global) -> Self {
+    pub(crate) fn new(alloc: Global) -> Self
+        ensures { result.faults.items ≡ [] }
+    {
         Messages {
-            messages: Vec::new(alloc),
+            faults: Vec::new(alloc),
+            warnings: Vec::new(alloc),
         }
     }
 
-    /// One more, where there are not too many.
-    pub(crate) fn add(&mut self, message: Message) -> Result<(), AllocError> {
-        if self.messages.len() < MESSAGES {
-            self.messages.push(message)?;
+    /// One fault more, where there are not too many.
+    pub(crate) fn add_fault(&mut self, fault: Message) -> Result<(), AllocError>
+        ensures added { OnOk result (self.new.faults.items ≡ added self.old.faults.items fault) }
+    {
+        if self.faults.len() < MESSAGES {
+            self.faults.push(fault)?;
         }
         Ok(())
     }
 
-    /// All of them, as they stand in the source.
+    /// One warning more, where there are not too many.
+    pub(crate) fn add_warning(&mut self, extent: Extent, text: String) -> Result<(), AllocError>
+        ensures { self.new.faults.items ≡ self.old.faults.items }
+    {
+        if self.warnings.len() < MESSAGES {
+            self.warnings.push(Message::warning(extent, text))?;
+        }
+        Ok(())
+    }
+
+    /// All faults, and as many warnings as may be told beside them, as they stand in the source.
     pub(crate) fn into_sorted(self) -> Result<Vec<Message>, AllocError>
         ensures count { IfOk result (λ messages. vec_len messages ≤ 100) }
         ensures sorted { IfOk result (λ messages. IsSortedByKey (λ m. m.start) nat_cmp messages.items) }
+        ensures told { IfOk result (λ messages. AreTold self.faults.items messages.items) }
     {
-        let mut messages = self.messages;
+        let Messages {
+            faults: mut messages,
+            warnings,
+        } = self;
+        for warning in warnings {
+            if messages.len() < MESSAGES {
+                messages.push(warning)?;
+            }
+        }
         messages.sort_by_key(|message| message.start)?;
         Ok(messages)
     }

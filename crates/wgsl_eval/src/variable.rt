@@ -39,7 +39,7 @@ impl Evaluator<'_> {
         ensures answer { IfOk result IsAnswer }
     {
         let Some(span) = declared.ty else {
-            return Ok(self.skipped(name, Need::NotConstant));
+            return Ok(self.skipped(name, Need::Variable));
         };
         let answer = self.expression(span)?;
         match answer {

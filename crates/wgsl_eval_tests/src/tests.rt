@@ -24,6 +24,7 @@ macro_rules! answered {
 mod answers;
 mod equal;
 mod growth;
+mod skips;
 mod standard;
 mod texts;
 mod using;

@@ -21,6 +21,7 @@ starts_in faults messages = map (λ f. f.start) faults ++ map (λ m. m.start) me
 abbrev pub is_severe : Severity → Bool
 is_severe severities.Fault = true
 is_severe severities.Warning = false
+is_severe severities.Note = false
 
 abbrev pub is_fault : Message → Bool
 is_fault message = is_severe message.severity

@@ -27,7 +27,7 @@ is_laid_out (kinds.Struct t) = is_structure (type_view t)
 is_laid_out (kinds.Variable v) = is_shared_space v.space
 is_laid_out (kinds.Alias t) = false
 is_laid_out (kinds.Value n) = false
-is_laid_out kinds.Skipped = false
+is_laid_out (kinds.Skipped s) = false
 is_laid_out kinds.Faulty = false
 
 -- a reason is told of the others, but for those whose fault is
@@ -36,5 +36,5 @@ is_left_out (kinds.Struct t) = false
 is_left_out (kinds.Variable v) = not (is_shared_space v.space)
 is_left_out (kinds.Alias t) = true
 is_left_out (kinds.Value n) = true
-is_left_out kinds.Skipped = true
+is_left_out (kinds.Skipped s) = true
 is_left_out kinds.Faulty = false

@@ -18,7 +18,11 @@ pub(crate) fn values_of(
         Subject::File(_) => Reading::of_module(alloc, text)?,
         Subject::Expression(_) => Reading::of_expression(alloc, text)?,
     };
-    let Evaluation { values, messages } = evaluate(alloc, &reading, asked.stage, asked.is_strict)?;
+    let Evaluation {
+        values,
+        messages,
+        ..
+    } = evaluate(alloc, &reading, asked.stage, asked.is_strict)?;
     let mut output = String::new(alloc);
     for value in &values {
         match asked.subject {

@@ -116,6 +116,6 @@ fn why_left_out(kind: &ItemKind) -> Option<&'static str>
         ItemKind::Variable(_) => Some("is skipped: it is no variable in storage or uniform space"),
         ItemKind::Alias(_) => Some("is skipped: it is another name for a type"),
         ItemKind::Value(_) => Some("is skipped: it is a value, which has no layout"),
-        ItemKind::Skipped => Some("is skipped: it has no layout here"),
+        ItemKind::Skipped(_) => Some("is skipped: it has no layout here"),
     }
 }

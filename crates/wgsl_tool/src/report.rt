@@ -174,6 +174,7 @@ fn add_message(
     let kind = match message.severity {
         Severity::Fault => "error",
         Severity::Warning => "warning",
+        Severity::Note => "note",
     };
     writeln!(errors, "{file}:{line}:{column}: {kind}: {said}")?;
     add_line(errors, lines.line(text, line), column.saturating_sub(1))

@@ -111,7 +111,7 @@ fn laid_of(item: &Item) -> Option<Laid<'_>>
             Some(Laid::Variable(item.name.as_str(), variable))
         }
         ItemKind::Variable(_) | ItemKind::Alias(_) | ItemKind::Value(_) => None,
-        ItemKind::Skipped | ItemKind::Faulty => None,
+        ItemKind::Skipped(_) | ItemKind::Faulty => None,
     }
 }
 

@@ -122,7 +122,7 @@ fn add_outcome(alloc: Global, outcome: &Outcome, digest: &mut Digest) -> Result<
         Outcome::Skipped(skip) => {
             digest.add(match skip.need {
                 Need::Float => 1,
-                Need::NotConstant => 2,
+                _ => 2,
             });
             digest.add_extent(skip.start, skip.end);
         }

@@ -186,7 +186,7 @@ fn add_item(alloc: Global, item: &Item, digest: &mut Digest) -> Result<(), Alloc
         ItemKind::Variable(variable) => add_variable_found(alloc, variable, digest),
         ItemKind::Alias(ty) => add_measures(alloc, ty, digest),
         ItemKind::Value(value) => digest.add_value(alloc, value),
-        ItemKind::Skipped | ItemKind::Faulty => Ok(()),
+        ItemKind::Skipped(_) | ItemKind::Faulty => Ok(()),
     }
 }
 
@@ -196,7 +196,7 @@ fn kind_of(kind: &ItemKind) -> u64 {
         ItemKind::Variable(_) => 1,
         ItemKind::Alias(_) => 2,
         ItemKind::Value(_) => 3,
-        ItemKind::Skipped => 4,
+        ItemKind::Skipped(_) => 4,
         ItemKind::Faulty => 5,
     }
 }

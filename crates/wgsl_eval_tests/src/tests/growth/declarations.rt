@@ -55,7 +55,7 @@ fn add_item(text: &mut String, item: &Item) -> Result<(), AllocError> {
         ItemKind::Struct(ty) | ItemKind::Alias(ty) => write!(text, " = {ty}"),
         ItemKind::Value(value) => write!(text, " = {value}"),
         ItemKind::Variable(variable) => add_variable(text, variable),
-        ItemKind::Skipped => text.push_str(" skipped"),
+        ItemKind::Skipped(_) => text.push_str(" skipped"),
         ItemKind::Faulty => text.push_str(" faulty"),
     }
 }

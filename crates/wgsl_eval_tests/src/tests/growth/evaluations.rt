@@ -21,6 +21,7 @@ const_assert A.x == 7;
 
 const WANTED: &str = "\
 vec2(6u, 4u); 3; vec2(4u, 6u); 4; mat2x2(vec2(0u, 0u), vec2(0u, 0u)); faulty; 3u; skipped; \
+WGSL has no matrices of integers; WGSL has no matrices of integers; \
 division by zero: 1 / 0; the standard shifts by less than the width (WGSL: bit expressions); \
 this is asserted and false";
 

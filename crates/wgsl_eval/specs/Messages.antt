@@ -1,0 +1,19 @@
+-- What is told of a source.
+use Rattle.std.specs.Prelude.{◌≡◌, List, [], ◌∷◌, ◌++◌, All, IsPermutation, length, if◌then◌else◌}
+use Rattle.std.specs.Nat.{nat_lt}
+use Rattle.wgsl_eval.specs.declared.message.Message.{Message}
+use Rattle.wgsl_eval.specs.declared.message.Severity.TheVariants as severities
+
+abbrev pub IsFaultMessage : Message → Type 0
+IsFaultMessage m = m.severity ≡ severities.Fault
+
+abbrev pub IsWarning : Message → Type 0
+IsWarning m = m.severity ≡ severities.Warning
+
+-- the faults with one more, where fewer than 100 are told
+abbrev pub added : List Message → Message → List Message
+added faults m = if nat_lt (length faults) 100 then faults ++ m ∷ [] else faults
+
+-- these are told: all the faults, and warnings beside them
+abbrev pub AreTold : List Message → List Message → Type 0
+AreTold faults messages = (warnings : List Message) × All IsWarning warnings × IsPermutation (faults ++ warnings) messages
