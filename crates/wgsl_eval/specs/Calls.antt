@@ -1,12 +1,11 @@
 -- What template lists and calls give (WGSL: template lists; function call expression).
-use Rattle.std.specs.Prelude.{◌≡◌, ◌⊎◌, ℕ, List, [], ◌∷◌, map, Option, Some, None, IfSome, MatchOption, codes}
-use Rattle.std.specs.Option.{option_map, option_and_then}
+use Rattle.std.specs.Prelude.{◌≡◌, ◌⊎◌, ℕ, IsTrue, List, [], ◌∷◌, map, Option, Some, None, MatchBool, MatchOption, codes}
 use Rattle.std.specs.Result.{result_ok}
 use Rattle.wgsl_apply.specs.Literals.{natural_of}
-use Rattle.wgsl_functions.specs.Functions.{bitcast_to, of_values}
+use Rattle.wgsl_functions.specs.Functions.{bitcast_to, count_of, of_values}
 use Rattle.wgsl_functions.specs.Names.{IsNameOf}
 use Rattle.wgsl_functions.specs.declared.builtin.Builtin.{Builtin}
-use Rattle.wgsl_rules.specs.Types.{Ty, array}
+use Rattle.wgsl_rules.specs.Types.{Ty}
 use Rattle.wgsl_rules.specs.Values.{Val}
 use Rattle.wgsl_rules.specs.View.{type_view}
 use Rattle.wgsl_rules.specs.declared.syntax.ShaderStage.{ShaderStage}
@@ -17,13 +16,18 @@ use Rattle.wgsl_source.specs.declared.names.Generator.TheVariants as generators
 use Rattle.wgsl_source.specs.declared.names.Predeclared.{Predeclared}
 use Rattle.wgsl_source.specs.declared.names.Predeclared.TheVariants as named
 use Rattle.wgsl_values.specs.View.{value_of}
-use Rattle.wgsl_eval.specs.Answers.{AreSound, IsAnswer, meaning_at, value_in}
-use Rattle.wgsl_eval.specs.Constructors.{MayBe, constructed, inferred_of}
+use Rattle.wgsl_eval.specs.Answers.{AreSound, IsAnswer, IsFault, IsNoType, IsSkippedFor, IsUnready, meaning_at, value_in}
+use Rattle.wgsl_eval.specs.Constructors.{IsInferred, MayBe, constructed}
 use Rattle.wgsl_eval.specs.Evaluators.{Setting}
 use Rattle.wgsl_eval.specs.Lists.{each_of}
+use Rattle.wgsl_eval.specs.Messages.{IsFaultMessage}
+use Rattle.wgsl_eval.specs.Opaque.{is_opaque}
+use Rattle.wgsl_eval.specs.Reasons.{has_floats, need_of}
 use Rattle.wgsl_eval.specs.TypeNames.{generated_type, predeclared_type}
 use Rattle.wgsl_eval.specs.declared.answer.Answer.{Answer}
 use Rattle.wgsl_eval.specs.declared.answer.Answer.TheVariants as answers
+use Rattle.wgsl_eval.specs.declared.answer.Need.TheVariants as needs
+use Rattle.wgsl_eval.specs.declared.answer.Part.TheVariants as parts
 use Rattle.wgsl_eval.specs.declared.call.Arguments.{Arguments}
 use Rattle.wgsl_eval.specs.declared.call.Arguments.TheVariants as arguments
 
@@ -33,52 +37,83 @@ use Rattle.wgsl_eval.specs.declared.call.Arguments.TheVariants as arguments
 abbrev pub values_of : List Answer → Option (List Val)
 values_of = each_of value_in
 
--- these are the values, and may be stored; or there is an answer in their place that is no value
-abbrev pub AreValues : Option (List Val) → Arguments → Type 0
-AreValues vs (arguments.Values is size) = (vs ≡ Some (map value_of is.items)) × AreSound is.items
-AreValues vs (arguments.Other answer) = (value_in answer ≡ None) × IsAnswer answer
+-- what the first that is no value leaves where values belong
+abbrev pub IsNoValue : List Answer → Answer → Type 0
+IsNoValue [] answer = ⊥
+IsNoValue (answers.Value v ∷ given) answer = IsNoValue given answer
+IsNoValue (a ∷ given) answer = IsUnready a answer
 
--- an answer that is a value is what this gives for the values of the arguments
+-- these are the values, and may be stored; or what there is in their place
+abbrev pub AreValues : List Answer → Arguments → Type 0
+AreValues given (arguments.Values is size) = (values_of given ≡ Some (map value_of is.items)) × AreSound is.items
+AreValues given (arguments.Other answer) = IsNoValue given answer × IsAnswer answer
+
+-- these values, which may be stored, or a fault in their place
+abbrev pub AreConverted : Option (List Val) → Arguments → Type 0
+AreConverted vs (arguments.Values is size) = (vs ≡ Some (map value_of is.items)) × AreSound is.items
+AreConverted vs (arguments.Other answer) = IsFault answer
+
+-- what is said of the values of the arguments, or what the first that is none leaves
+abbrev pub IsForValues : List Answer → (List Val → Answer → Type 0) → Answer → Type 0
+IsForValues given P answer = MatchOption (values_of given) (IsNoValue given answer) (λ vs. P vs answer)
+
+-- what this gives for the values of the arguments
 abbrev pub IsOfValuesOf : (List Val → Option Val) → List Answer → Answer → Type 0
-IsOfValuesOf f given answer = MayBe (option_and_then f (values_of given)) answer
+IsOfValuesOf f given answer = IsForValues given (λ vs. MayBe (f vs)) answer
 
 -- ---- template lists
-
--- the type of a generator of the answers in a list
-abbrev pub type_generated : Generator → List Answer → Option Ty
-type_generated g (answers.Type t ∷ []) = Some (generated_type g (type_view t.ty) None)
-type_generated generators.Array (answers.Type t ∷ answers.Value v ∷ []) =
-    option_map (λ n. array (type_view t.ty) (Some n)) (natural_of (value_of v.instance))
-type_generated g given = None
 
 -- the type of an answer that is one
 abbrev pub type_in : Answer → Option Ty
 type_in (answers.Type t) = Some (type_view t.ty)
 type_in a = None
 
--- an answer that is a type is that of the generator of the inner one, with the count, and none is a value
-abbrev pub IsGeneratedOf : Generator → Answer → Option ℕ → Answer → Type 0
-IsGeneratedOf g inner count (answers.Type t) = option_map (λ u. generated_type g u count) (type_in inner) ≡ Some (type_view t.ty)
-IsGeneratedOf g inner count (answers.Bitcast t) = ⊥
-IsGeneratedOf g inner count answer = value_in answer ≡ None
+-- the type, or a fault in its place
+abbrev pub IsTypeOr : Ty → Answer → Type 0
+IsTypeOr t (answers.Type u) = type_view u.ty ≡ t
+IsTypeOr t (answers.Wrong m guard) = IsFaultMessage m
+IsTypeOr t answer = ⊥
 
--- an answer that is a type is that of the generator, and none is a value
+-- the type of the generator of the inner one, with the count
+abbrev pub IsGeneratedOf : Generator → Answer → Option ℕ → Answer → Type 0
+IsGeneratedOf g (answers.Type t) count answer = IsTypeOr (generated_type g (type_view t.ty) count) answer
+IsGeneratedOf g inner count answer = IsNoType inner answer
+
+-- an array of as many elements as a number says, which is one from 1 on
+abbrev pub IsCounted : Answer → Option ℕ → Answer → Type 0
+IsCounted inner None answer = IsFault answer
+IsCounted inner (Some n) answer = IsGeneratedOf generators.Array inner (Some n) answer
+
+-- what a count that is no value leaves: one that is skipped is so as a count
+abbrev pub IsNotCounted : Answer → Answer → Type 0
+IsNotCounted (answers.Skipped s) answer = answer ≡ answers.Skipped (record s { part = parts.Count })
+IsNotCounted (answers.Variable v) (answers.Skipped s) = (s.need ≡ needs.Variable) × (s.part ≡ parts.Count)
+IsNotCounted (answers.Variable v) answer = ⊥
+IsNotCounted count answer = IsUnready count answer
+
+-- what a generator gives for the answers in a list
 abbrev pub IsGenerated : Generator → List Answer → Answer → Type 0
-IsGenerated g given (answers.Type t) = type_generated g given ≡ Some (type_view t.ty)
-IsGenerated g given (answers.Bitcast t) = ⊥
-IsGenerated g given answer = value_in answer ≡ None
+IsGenerated g (inner ∷ []) answer = IsGeneratedOf g inner None answer
+IsGenerated generators.Array (inner ∷ answers.Value v ∷ []) answer = IsCounted inner (natural_of (value_of v.instance)) answer
+IsGenerated generators.Array (inner ∷ count ∷ []) answer = IsNotCounted count answer
+IsGenerated g given answer = IsFault answer
 
 abbrev pub IsBitcastOf : List Answer → Answer → Type 0
-IsBitcastOf given (answers.Bitcast t) = given ≡ answers.Type t ∷ []
-IsBitcastOf given (answers.Type t) = ⊥
-IsBitcastOf given answer = value_in answer ≡ None
+IsBitcastOf (answers.Type t ∷ []) answer = answer ≡ answers.Bitcast t
+IsBitcastOf given answer = IsFault answer
 
--- the word is that of a generator, or `bitcast`
+-- what a name of the language gives with a list: that of a generator, `bitcast`, or a type without constants
 abbrev pub IsTemplateOf : List ℕ → List Answer → Answer → Type 0
-IsTemplateOf word given (answers.Type t) =
-    (g : Generator) × Names word (named.Generator g) × (type_generated g given ≡ Some (type_view t.ty))
-IsTemplateOf word given (answers.Bitcast t) = (word ≡ codes "bitcast") × (given ≡ answers.Type t ∷ [])
-IsTemplateOf word given answer = value_in answer ≡ None
+IsTemplateOf word given answer =
+    IsFault answer
+    ⊎ (((word ≡ codes "bitcast") × IsBitcastOf given answer)
+    ⊎ (((g : Generator) × Names word (named.Generator g) × IsGenerated g given answer)
+    ⊎ (IsTrue (is_opaque word) × IsSkippedFor needs.Opaque answer)))
+
+-- a name of a declaration takes none
+abbrev pub IsTemplate : Setting → List ℕ → List Answer → Answer → Type 0
+IsTemplate s word given answer =
+    MatchOption (first_named s.source word) (IsTemplateOf word given answer) (λ number. IsFault answer)
 
 -- ---- calls of answers
 
@@ -87,35 +122,62 @@ abbrev pub bitcast_alone : Ty → List Val → Option Val
 bitcast_alone t (v ∷ []) = result_ok (bitcast_to t v)
 bitcast_alone t vs = None
 
+-- what this gives for values, or needs floats where the type has them
+abbrev pub IsOfType : Ty → (List Val → Option Val) → List Val → Answer → Type 0
+IsOfType t f vs answer = MatchBool (has_floats t) (IsSkippedFor needs.Float answer) (MayBe (f vs) answer)
+
 -- a type is called for a value of it, and `bitcast` for one with the bits of another
 abbrev pub IsCallOf : Answer → List Answer → Answer → Type 0
-IsCallOf (answers.Type t) given answer = IsOfValuesOf (constructed (type_view t.ty)) given answer
-IsCallOf (answers.Bitcast t) given answer = IsOfValuesOf (bitcast_alone (type_view t.ty)) given answer
-IsCallOf callee given answer = value_in answer ≡ None
+IsCallOf (answers.Type t) given answer = IsForValues given (IsOfType (type_view t.ty) (constructed (type_view t.ty))) answer
+IsCallOf (answers.Bitcast t) given answer = IsForValues given (IsOfType (type_view t.ty) (bitcast_alone (type_view t.ty))) answer
+IsCallOf (answers.Value v) given answer = IsFault answer
+IsCallOf callee given answer = answer ≡ callee
 
 -- ---- calls of names
 
 abbrev pub function_of : Builtin → ShaderStage → List Val → Option Val
 function_of f stage vs = result_ok (of_values f stage vs)
 
--- what a name of the language makes of values
-abbrev pub called : Predeclared → List Val → Option Val
-called (named.Generator g) vs = inferred_of g vs
-called p vs = option_and_then (λ t. constructed t vs) (predeclared_type p)
+-- a builtin function of integers gives what it gives for the values; another one is skipped
+abbrev pub IsFunctionCall : Setting → Builtin → List Answer → Answer → Type 0
+IsFunctionCall s f given answer =
+    MatchOption (count_of f) (IsSkippedFor (need_of f) answer) (λ n. IsOfValuesOf (function_of f s.stage) given answer)
 
--- the word names a builtin function, or a type, that gives v for the values
-abbrev pub GivesFor : ShaderStage → List ℕ → List Val → Val → Type 0
-GivesFor stage word vs v =
-    ((f : Builtin) × IsNameOf f word × (function_of f stage vs ≡ Some v))
-    ⊎ ((p : Predeclared) × Names word p × (called p vs ≡ Some v))
+-- a type that the language names; a name that needs a template list is a fault
+abbrev pub IsLanguageType : Option Ty → Answer → Type 0
+IsLanguageType o answer = MatchOption o (IsFault answer) (λ t. IsTypeOr t answer)
 
-abbrev pub IsLanguageCall : ShaderStage → List ℕ → List Answer → Answer → Type 0
-IsLanguageCall stage word given answer =
-    IfSome (value_in answer) (λ v. (vs : List Val) × (values_of given ≡ Some vs) × GivesFor stage word vs v)
+-- a call of an answer of which this holds
+abbrev pub IsSomeCall : (Answer → Type 0) → List Answer → Answer → Type 0
+IsSomeCall P given answer = (callee : Answer) × P callee × IsCallOf callee given answer
+
+-- a type by its name makes values in it, and a generator those in the type that they give
+abbrev pub IsTypeCall : Setting → Predeclared → List Answer → Answer → Type 0
+IsTypeCall s (named.Generator g) given answer = IsForValues given (IsInferred s.dialect g) answer
+IsTypeCall s p given answer = IsSomeCall (IsLanguageType (predeclared_type p)) given answer
+
+-- the word names a builtin function, or a type
+abbrev pub IsLanguageCall : Setting → List ℕ → List Answer → Answer → Type 0
+IsLanguageCall s word given answer =
+    IsFault answer
+    ⊎ (((f : Builtin) × IsNameOf f word × IsFunctionCall s f given answer)
+    ⊎ ((p : Predeclared) × Names word p × IsTypeCall s p given answer))
+
+-- a name of a declaration stands for what that was found to be; what names a variable or what is skipped is skipped,
+-- a fault is told once, and what is too large to be copied is one
+abbrev pub IsCopy : Answer → Answer → Type 0
+IsCopy m (answers.Wrong message guard) = IsFaultMessage message
+IsCopy (answers.Value v) (answers.Value w) = value_of w.instance ≡ value_of v.instance
+IsCopy (answers.Type t) (answers.Type u) = type_view u.ty ≡ type_view t.ty
+IsCopy (answers.Skipped s) answer = IsSkippedFor s.need answer
+IsCopy (answers.Variable v) answer = IsSkippedFor needs.Variable answer
+IsCopy (answers.Value v) answer = ⊥
+IsCopy (answers.Type t) answer = ⊥
+IsCopy m answer = answer ≡ answers.Faulty
 
 -- what a declaration of the name was found to be is called, or what the language gives the name
 abbrev pub IsCall : Setting → List ℕ → List Answer → Answer → Type 0
 IsCall s word given answer =
     MatchOption (first_named s.source word)
-    (IsLanguageCall s.stage word given answer)
-    (λ number. IsCallOf (meaning_at s.meanings number) given answer)
+    (IsLanguageCall s word given answer)
+    (λ number. IsSomeCall (IsCopy (meaning_at s.meanings number)) given answer)

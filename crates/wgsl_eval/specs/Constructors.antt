@@ -1,10 +1,11 @@
 -- What constructors make of values (WGSL: value constructor built-in functions; zero value built-in functions).
-use Rattle.std.specs.Prelude.{◌≡◌, ℕ, zero, suc, ◌*◌, ◌==◌, false, List, [], ◌∷◌, ◌++◌, length, map, take, drop, replicate, Option, Some, None, IfSome, if◌then◌else◌}
+use Rattle.std.specs.Prelude.{◌≡◌, ℕ, zero, suc, ◌*◌, ◌==◌, Bool, true, false, MatchBool, MatchOption, List, [], ◌∷◌, ◌++◌, length, map, take, drop, replicate, Option, Some, None, if◌then◌else◌}
 use Rattle.std.specs.Option.{option_map, option_and_then}
 use Rattle.wgsl_apply.specs.Zeros.{zero_of}
 use Rattle.wgsl_functions.specs.Written.{written}
 use Rattle.wgsl_rules.specs.Converted.{converted}
 use Rattle.wgsl_rules.specs.InCommon.{all_in_common, prepended}
+use Rattle.wgsl_rules.specs.Kinds as kinds
 use Rattle.wgsl_rules.specs.Types as types
 use Rattle.wgsl_rules.specs.Types.{Ty, Fields, no_fields, field}
 use Rattle.wgsl_rules.specs.Values.{Val, truth, number, record_of, array_of, vector, matrix, Vals, no_vals, val}
@@ -12,17 +13,20 @@ use Rattle.wgsl_scalar.specs.Literals.{literal_of}
 use Rattle.wgsl_values.specs.View.{vals_of}
 use Rattle.wgsl_source.specs.declared.names.Generator.{Generator}
 use Rattle.wgsl_source.specs.declared.names.Generator.TheVariants as generators
-use Rattle.wgsl_eval.specs.Answers.{value_in, IsFault}
+use Rattle.wgsl_eval.specs.Answers.{IsFault, IsSkippedOr, IsValueWith}
 use Rattle.wgsl_eval.specs.Lists.{each_of}
 use Rattle.wgsl_eval.specs.declared.answer.Answer.{Answer}
+use Rattle.wgsl_eval.specs.declared.answer.Need.TheVariants as needs
 use Rattle.wgsl_eval.specs.declared.literals.Conversion.{Conversion}
 use Rattle.wgsl_eval.specs.declared.literals.Conversion.TheVariants as conversions
 use Rattle.wgsl_eval.specs.declared.literals.Scalars.{Scalars}
 use Rattle.wgsl_eval.specs.declared.literals.Scalars.TheVariants as scalars
+use Rattle.wgsl_eval.specs.declared.settings.Dialect.{Dialect}
+use Rattle.wgsl_eval.specs.declared.settings.Dialect.TheVariants as dialects
 
--- an answer that is a value is this one
+-- this value, or a fault in its place
 abbrev pub MayBe : Option Val → Answer → Type 0
-MayBe o answer = IfSome (value_in answer) (λ v. o ≡ Some v)
+MayBe o = IsValueWith (λ v. o ≡ Some v)
 
 -- the list, where it is of so many
 abbrev pub of_length : ℕ → List Val → Option (List Val)
@@ -130,16 +134,40 @@ common_vector n [] = zero_of (types.vec n types.abstract_int)
 common_vector n (v ∷ vs) =
     option_map vector_of (option_and_then (all_in_common converted) (of_length n (components_for n (v ∷ vs))))
 
-abbrev pub common_matrix : ℕ → ℕ → List Val → Option Val
-common_matrix columns rows vs =
-    option_map (matrix_of columns rows) (option_and_then (all_in_common converted) (of_length (columns * rows) (scalars_of vs)))
+-- the scalars of a matrix in their common type
+abbrev pub common_scalars : ℕ → ℕ → List Val → Option (List Val)
+common_scalars columns rows vs = option_and_then (all_in_common converted) (of_length (columns * rows) (scalars_of vs))
 
 abbrev pub common_array : List Val → Option Val
 common_array vs = option_map (λ ws. array_of false (vals_of ws)) (all_in_common converted vs)
 
--- what a generator makes of values in their common type
+-- what a generator of no matrices makes of values in their common type
 abbrev pub inferred_of : Generator → List Val → Option Val
 inferred_of (generators.Vec n) vs = common_vector n vs
-inferred_of (generators.Mat c r) vs = common_matrix c r vs
 inferred_of generators.Array vs = common_array vs
-inferred_of generators.Atomic vs = None
+inferred_of g vs = None
+
+abbrev pub is_abstract : Val → Bool
+is_abstract (number kinds.abstract_int z) = true
+is_abstract v = false
+
+-- scalars of one type, which is that of abstract integers
+abbrev pub are_abstract : List Val → Bool
+are_abstract [] = false
+are_abstract (v ∷ vs) = is_abstract v
+
+-- whether the scalars of a matrix are taken for floats: WGSL has no matrices of integers, and abstract ones convert
+abbrev pub are_floats : Dialect → List Val → Bool
+are_floats dialects.Wgsl vs = are_abstract vs
+are_floats dialects.Crate vs = false
+
+-- the matrix of scalars in their common type
+abbrev pub IsMatrixOf : Dialect → ℕ → ℕ → List Val → Answer → Type 0
+IsMatrixOf d columns rows vs answer =
+    MatchBool (are_floats d vs) (IsSkippedOr needs.Float answer) (MayBe (Some (matrix_of columns rows vs)) answer)
+
+-- what a generator makes of values, or why it makes nothing
+abbrev pub IsInferred : Dialect → Generator → List Val → Answer → Type 0
+IsInferred d (generators.Mat c r) vs answer =
+    MatchOption (common_scalars c r vs) (IsFault answer) (λ ws. IsMatrixOf d c r ws answer)
+IsInferred d g vs answer = MayBe (inferred_of g vs) answer

@@ -1,7 +1,6 @@
 -- What is told of a source: its declarations with what they are found to be.
-use Rattle.std.specs.Prelude.{◌≡◌, ℕ, Bool, false, Option, Some, List, length, replicate, slice_get, string_bytes}
+use Rattle.std.specs.Prelude.{◌≡◌, ℕ, Bool, Option, Some, List, [], length, replicate, slice_get, string_bytes}
 use Rattle.wgsl_rules.specs.declared.syntax.ShaderStage.{ShaderStage}
-use Rattle.wgsl_rules.specs.declared.syntax.ShaderStage.TheVariants as stages
 use Rattle.wgsl_source.specs.Readings.{Outline, extent_at, word_at}
 use Rattle.wgsl_source.specs.declared.module.Declared.{Declared}
 use Rattle.wgsl_source.specs.declared.module.Declared.TheVariants as declareds
@@ -9,22 +8,34 @@ use Rattle.wgsl_eval.specs.Answers.{meaning_at, outcome_in}
 use Rattle.wgsl_eval.specs.Evaluation.{has_value, name_at}
 use Rattle.wgsl_eval.specs.Evaluators.{Setting}
 use Rattle.wgsl_eval.specs.Lists.{AllFrom, told_from}
+use Rattle.wgsl_eval.specs.Assertions.{AreAsserted}
 use Rattle.wgsl_eval.specs.Meanings.{AreDeclared}
+use Rattle.wgsl_eval.specs.Messages.{AreTold}
 use Rattle.wgsl_eval.specs.declared.answer.Answer.{Answer}
 use Rattle.wgsl_eval.specs.declared.answer.Answer.TheVariants as answers
+use Rattle.wgsl_eval.specs.declared.declarations.Declarations.{Declarations}
 use Rattle.wgsl_eval.specs.declared.declarations.Item.{Item}
 use Rattle.wgsl_eval.specs.declared.declarations.ItemKind.{ItemKind}
 use Rattle.wgsl_eval.specs.declared.declarations.ItemKind.TheVariants as items
 use Rattle.wgsl_eval.specs.declared.evaluator.Evaluated.{Evaluated}
+use Rattle.wgsl_eval.specs.declared.evaluator.Evaluation.{Evaluation}
+use Rattle.wgsl_eval.specs.declared.settings.Dialect.TheVariants as dialects
+use Rattle.wgsl_eval.specs.declared.settings.Settings.{Settings}
 
--- nothing is known of the declarations
-abbrev pub setting_before : Outline → ShaderStage → Bool → Setting
-setting_before o stage is_strict = record {
+-- nothing is known of the declarations, and nothing is told
+abbrev pub setting_before : Outline → Settings → Setting
+setting_before o given = record {
   source = o;
-  stage = stage;
-  is_strict = is_strict;
+  stage = given.stage;
+  is_strict = given.is_strict;
+  dialect = given.dialect;
   meanings = replicate (length o.declared) answers.Faulty;
+  faults = [];
 }
+
+-- the settings of WGSL
+abbrev pub of_wgsl : ShaderStage → Bool → Settings
+of_wgsl stage is_strict = record { stage = stage; is_strict = is_strict; dialect = dialects.Wgsl }
 
 -- ---- values
 
@@ -35,10 +46,15 @@ evaluated_at s number = record { token = name_at s.source number; outcome = outc
 abbrev pub values_of : Setting → ℕ → List Declared → List Evaluated
 values_of s = told_from (has_value s.stage) (evaluated_at s)
 
--- these are the values of the declarations, each of which has its meaning in the order of the source
-abbrev pub AreEvaluated : Outline → ShaderStage → Bool → List Evaluated → Type 0
-AreEvaluated o stage is_strict values =
-    (after : Setting) × AreDeclared (setting_before o stage is_strict) o.order after × (values ≡ values_of after 0 o.declared)
+-- the settings behind the declarations, each of which has its meaning in the order of the source, and behind the
+-- assertions; the values are those of the declarations, and all faults that were found are told
+pub record IsEvaluated (o : Outline) (given : Settings) (e : Evaluation) : Type 0 where
+  pub after : Setting
+  pub declared : AreDeclared (setting_before o given) o.order after
+  pub values : e.values.items ≡ values_of after 0 o.declared
+  pub last : Setting
+  pub asserts : AreAsserted after o.asserts e.asserts.items last
+  pub messages : AreTold last.faults e.messages.items
 
 -- ---- declarations
 
@@ -48,7 +64,7 @@ kind_in (Some (declareds.Struct first end)) (answers.Type t) = items.Struct t.ty
 kind_in d (answers.Type t) = items.Alias t.ty
 kind_in d (answers.Value v) = items.Value v.instance
 kind_in d (answers.Variable v) = items.Variable v
-kind_in d (answers.Skipped s) = items.Skipped
+kind_in d (answers.Skipped s) = items.Skipped s
 kind_in d a = items.Faulty
 
 -- the declaration of a number that was found to be this: its name, the bytes of that, and what is declared
@@ -66,7 +82,10 @@ IsItemAt s number item = IsItem s.source (meaning_at s.meanings number) number i
 abbrev pub AreItems : Setting → List Item → Type 0
 AreItems s items = (length items ≡ length s.source.declared) × AllFrom (IsItemAt s) 0 items
 
--- these are the declarations, each of which has its meaning in the order of the source
-abbrev pub AreDeclarations : Outline → List Item → Type 0
-AreDeclarations o items =
-    (after : Setting) × AreDeclared (setting_before o stages.Const false) o.order after × AreItems after items
+-- these are the declarations, each of which has its meaning in the order of the source, and all faults that were found
+-- are told
+pub record AreDeclarations (o : Outline) (given : Settings) (d : Declarations) : Type 0 where
+  pub after : Setting
+  pub declared : AreDeclared (setting_before o given) o.order after
+  pub items : AreItems after d.items.items
+  pub messages : AreTold after.faults d.messages.items

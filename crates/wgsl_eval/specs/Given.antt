@@ -1,5 +1,5 @@
 -- What each step of an expression gives for the answers before it (WGSL: expressions).
-use Rattle.std.specs.Prelude.{◌≡◌, ◌-◌, ℕ, zero, suc, Bool, true, false, ◌&&◌, Option, Some, None, List, [], ◌∷◌, ◌++◌, ⊤, MatchBool, MatchOption, MatchResult, length, take, slice_get, unwrap_or, codes, Contains, if◌then◌else◌}
+use Rattle.std.specs.Prelude.{◌≡◌, ◌-◌, ℕ, zero, suc, Bool, true, false, ◌&&◌, IsTrue, Option, Some, None, List, [], ◌∷◌, ◌++◌, ⊤, MatchBool, MatchOption, MatchResult, length, take, slice_get, unwrap_or, codes, Contains, if◌then◌else◌}
 use Rattle.std.specs.Str.{bytes_eq}
 use Rattle.wgsl_rules.specs.Converted.{converted}
 use Rattle.wgsl_rules.specs.Types.{Ty}
@@ -13,17 +13,23 @@ use Rattle.wgsl_scalar.specs.Literals.{literal_of}
 use Rattle.wgsl_values.specs.View.{value_of}
 use Rattle.wgsl_apply.specs.Calls.{operated, prefixed}
 use Rattle.wgsl_apply.specs.Standard.{is_against}
+use Rattle.wgsl_source.specs.Names.{Names}
 use Rattle.wgsl_source.specs.Numbers.{Means}
 use Rattle.wgsl_source.specs.Readings.{Outline, extent_at, first_named, word_at}
 use Rattle.wgsl_source.specs.declared.expression.Callee.TheVariants as callees
 use Rattle.wgsl_source.specs.declared.expression.Step.{Step}
 use Rattle.wgsl_source.specs.declared.expression.Step.TheVariants as steps
+use Rattle.wgsl_source.specs.declared.names.Predeclared.{Predeclared}
 use Rattle.wgsl_source.specs.declared.literal.Literal.{Literal}
 use Rattle.wgsl_source.specs.declared.literal.Literal.TheVariants as literals
-use Rattle.wgsl_eval.specs.Answers.{meaning_at, value_in, IsFault, IsFaultOf, IsSkipped, IsUnready}
-use Rattle.wgsl_eval.specs.Calls.{IsCall, IsCallOf, IsTemplateOf}
+use Rattle.wgsl_eval.specs.Answers.{meaning_at, value_in, IsFault, IsFaultOf, IsSkippedFor, IsUnready, IsValueWith}
+use Rattle.wgsl_eval.specs.Calls.{IsCall, IsCallOf, IsCopy, IsTemplate}
+use Rattle.wgsl_eval.specs.Messages.{IsFaultMessage}
+use Rattle.wgsl_eval.specs.Opaque.{is_opaque}
+use Rattle.wgsl_eval.specs.Reasons.{has_floats, is_wide}
+use Rattle.wgsl_eval.specs.TypeNames.{predeclared_type}
 use Rattle.wgsl_eval.specs.Parts.{IsElementOf, IsMemberOf}
-use Rattle.wgsl_eval.specs.Evaluators.{Setting}
+use Rattle.wgsl_eval.specs.Evaluators.{Setting, is_obeyed}
 use Rattle.wgsl_eval.specs.declared.answer.Answer.{Answer}
 use Rattle.wgsl_eval.specs.declared.answer.Answer.TheVariants as answers
 use Rattle.wgsl_eval.specs.declared.answer.Guard.TheVariants as guards
@@ -60,30 +66,18 @@ rest_of (steps.Index token) before = below (below before)
 
 -- ---- numbers
 
-abbrev pub IsOfLiteral : Literal → Answer → Type 0
-IsOfLiteral (literals.Integer x) answer = value_in answer ≡ Some (literal_of x)
-IsOfLiteral literals.Float answer = IsSkipped answer
-IsOfLiteral literals.Wrong answer = IsFault answer
+-- an integer, which is a fault where it has 64 bits and WGSL is to be obeyed
+abbrev pub IsOfLiteral : Setting → Literal → Answer → Type 0
+IsOfLiteral s (literals.Integer x) answer =
+    MatchBool (is_wide x && is_obeyed s.dialect s.is_strict) (IsFault answer) (value_in answer ≡ Some (literal_of x))
+IsOfLiteral s literals.Float answer = IsSkippedFor needs.Float answer
+IsOfLiteral s literals.Wrong answer = IsFault answer
 
 -- a number is the literal that the text writes
-abbrev pub IsOfNumber : List ℕ → Answer → Type 0
-IsOfNumber text answer = (x : Literal) × Means text x × IsOfLiteral x answer
+abbrev pub IsOfNumber : Setting → List ℕ → Answer → Type 0
+IsOfNumber s text answer = (x : Literal) × Means text x × IsOfLiteral s x answer
 
 -- ---- names
-
--- a name of a declaration stands for what that was found to be; a variable is no constant, a fault is told
--- once, and what is too large to be copied is one
-abbrev pub IsCopy : Answer → Answer → Type 0
-IsCopy m (answers.Wrong message guard) = ⊤
-IsCopy (answers.Value v) (answers.Value w) = value_of w.instance ≡ value_of v.instance
-IsCopy (answers.Type t) (answers.Type u) = type_view u.ty ≡ type_view t.ty
-IsCopy (answers.Skipped s) (answers.Skipped t) = t.need ≡ s.need
-IsCopy (answers.Variable v) (answers.Skipped t) = t.need ≡ needs.NotConstant
-IsCopy (answers.Value v) answer = ⊥
-IsCopy (answers.Type t) answer = ⊥
-IsCopy (answers.Skipped s) answer = ⊥
-IsCopy (answers.Variable v) answer = ⊥
-IsCopy m answer = answer ≡ answers.Faulty
 
 -- the value of a name that the language gives one
 abbrev pub language_value : List ℕ → Option Val
@@ -91,10 +85,18 @@ language_value name =
     if bytes_eq name (codes "true") then Some (truth true) else
     (if bytes_eq name (codes "false") then Some (truth false) else None)
 
+-- what the language has for a name: a value, a type, or a type without constants
+abbrev pub IsLanguageName : List ℕ → Answer → Type 0
+IsLanguageName name (answers.Value v) = language_value name ≡ Some (value_of v.instance)
+IsLanguageName name (answers.Type t) = (p : Predeclared) × Names name p × (predeclared_type p ≡ Some (type_view t.ty))
+IsLanguageName name (answers.Skipped s) = IsTrue (is_opaque name) × IsSkippedFor needs.Opaque (answers.Skipped s)
+IsLanguageName name (answers.Wrong m guard) = IsFaultMessage m × (language_value name ≡ None)
+IsLanguageName name answer = ⊥
+
 abbrev pub IsNamed : Setting → List ℕ → Answer → Type 0
 IsNamed s name answer =
     MatchOption (first_named s.source name)
-    (value_in answer ≡ language_value name)
+    (IsLanguageName name answer)
     (λ number. IsCopy (meaning_at s.meanings number) answer)
 
 -- ---- operators
@@ -141,27 +143,17 @@ IsOfTwo s op (answers.Value v) (answers.Wrong message guards.Guarded) answer =
 IsOfTwo s op (answers.Value v) right answer = IsUnready right answer
 IsOfTwo s op left right answer = IsUnready left answer
 
--- ---- types
-
-abbrev pub IsTypeOf : Ty → Answer → Type 0
-IsTypeOf t (answers.Type u) = type_view u.ty ≡ t
-IsTypeOf t answer = ⊥
-
--- a type that the language names; a name that needs a template list is a fault
-abbrev pub IsLanguageType : Option Ty → Answer → Type 0
-IsLanguageType o answer = MatchOption o (IsFault answer) (λ t. IsTypeOf t answer)
-
 -- ---- a step
 
 -- what the step gives for the answers before it
 abbrev pub IsGiven : Setting → Step → List Answer → Answer → Type 0
 IsGiven s (steps.Name token) before answer = IsNamed s (word_at s.source token) answer
-IsGiven s (steps.Number token) before answer = IsOfNumber (word_at s.source token) answer
+IsGiven s (steps.Number token) before answer = IsOfNumber s (word_at s.source token) answer
 IsGiven s (steps.Unary op token) before answer =
     UnlessRefused s.source token answer (IsOfOne op (top before) answer)
 IsGiven s (steps.Binary op token) before answer =
     UnlessRefused s.source token answer (IsOfTwo s op (top (below before)) (top before) answer)
-IsGiven s (steps.Template token n) before answer = IsTemplateOf (word_at s.source token) (last_ones n before) answer
+IsGiven s (steps.Template token n) before answer = IsTemplate s (word_at s.source token) (last_ones n before) answer
 IsGiven s (steps.Call token callees.Name n) before answer = IsCall s (word_at s.source token) (last_ones n before) answer
 IsGiven s (steps.Call token callees.Answer n) before answer = IsCallOf (top (without n before)) (last_ones n before) answer
 IsGiven s (steps.Member token) before answer = IsMemberOf (word_at s.source token) (top before) answer
@@ -169,9 +161,7 @@ IsGiven s (steps.Index token) before answer = IsElementOf (top (below before)) (
 
 -- ---- conversions
 
--- the value in the type to which it converts by itself
+-- the value in the type to which it converts by itself; a type of floats has no values here
 abbrev pub IsConverted : Val → Ty → Answer → Type 0
-IsConverted v t (answers.Value w) = converted v t ≡ Some (value_of w.instance)
-IsConverted v t (answers.Wrong message guard) = ⊤
-IsConverted v t (answers.Skipped s) = ⊤
-IsConverted v t answer = ⊥
+IsConverted v t answer =
+    MatchBool (has_floats t) (IsSkippedFor needs.Float answer) (IsValueWith (λ w. converted v t ≡ Some w) answer)

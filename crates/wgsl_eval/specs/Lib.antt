@@ -1,4 +1,5 @@
 pub mod Answers
+pub mod Assertions
 pub mod Calls
 pub mod Constructors
 pub mod Evaluated
@@ -10,6 +11,7 @@ pub mod Meanings
 pub mod Messages
 pub mod Opaque
 pub mod Parts
+pub mod Reasons
 pub mod Runs
 pub mod Structures
 pub mod TypeNames

@@ -11,14 +11,16 @@ use Rattle.wgsl_source.specs.Readings.{Outline, first_named, word_at}
 use Rattle.wgsl_source.specs.declared.expression.Span.{Span}
 use Rattle.wgsl_source.specs.declared.module.Declared.{Declared}
 use Rattle.wgsl_source.specs.declared.module.Declared.TheVariants as declareds
-use Rattle.wgsl_eval.specs.Answers.{IsFault, IsSkipped, IsUnready, meaning_at}
+use Rattle.wgsl_eval.specs.Answers.{IsFault, IsNoType, IsSkippedFor, IsUnready, meaning_at}
 use Rattle.wgsl_eval.specs.Evaluation.{name_at}
 use Rattle.wgsl_eval.specs.Evaluators.{Setting}
 use Rattle.wgsl_eval.specs.Given.{IsConverted}
+use Rattle.wgsl_eval.specs.Messages.{IsFaultMessage, faults_with}
 use Rattle.wgsl_eval.specs.Runs.{IsFound}
 use Rattle.wgsl_eval.specs.Structures.{IsStructure, IsVariable}
 use Rattle.wgsl_eval.specs.declared.answer.Answer.{Answer}
 use Rattle.wgsl_eval.specs.declared.answer.Answer.TheVariants as answers
+use Rattle.wgsl_eval.specs.declared.answer.Need.TheVariants as needs
 use Rattle.wgsl_eval.specs.declared.answer.SizedType.{SizedType}
 
 -- ---- what a declaration is found to be
@@ -26,13 +28,6 @@ use Rattle.wgsl_eval.specs.declared.answer.SizedType.{SizedType}
 abbrev pub is_first : ShaderStage → Bool
 is_first stages.Const = true
 is_first stage = false
-
--- what an answer that is no type leaves where a type belongs
-abbrev pub IsNoType : Answer → Answer → Type 0
-IsNoType (answers.Value v) answer = IsFault answer
-IsNoType (answers.Bitcast t) answer = IsFault answer
-IsNoType (answers.Variable v) answer = IsFault answer
-IsNoType a answer = answer ≡ a
 
 -- the value in the type that is given
 abbrev pub IsOfType : Val → Answer → Answer → Type 0
@@ -61,9 +56,9 @@ IsConcrete a answer = answer ≡ a
 
 -- an override has a value where one is given for it and the stage is not the first
 abbrev pub IsOverride : Setting → Option Span → Option Span → Answer → Type 0
-IsOverride s ty None answer = IsSkipped answer
+IsOverride s ty None answer = IsSkippedFor needs.Override answer
 IsOverride s ty (Some value) answer =
-    MatchBool (is_first s.stage) (IsSkipped answer) ((a : Answer) × IsConstant s ty value a × IsConcrete a answer)
+    MatchBool (is_first s.stage) (IsSkippedFor needs.Override answer) ((a : Answer) × IsConstant s ty value a × IsConcrete a answer)
 
 abbrev pub IsAlias : Setting → Span → Answer → Type 0
 IsAlias s ty answer = (a : Answer) × IsFound s ty a × IsNoType a answer
@@ -74,7 +69,7 @@ IsDeclared s name (Some (declareds.Const ty value)) answer = IsConstant s ty val
 IsDeclared s name (Some (declareds.Override ty value)) answer = IsOverride s ty value answer
 IsDeclared s name (Some (declareds.Alias ty)) answer = IsAlias s ty answer
 IsDeclared s name (Some (declareds.Variable v)) answer = IsVariable s v answer
-IsDeclared s name (Some declareds.Function) answer = IsSkipped answer
+IsDeclared s name (Some declareds.Function) answer = IsSkippedFor needs.Function answer
 IsDeclared s name (Some (declareds.Struct first end)) answer = IsStructure s name first end answer
 IsDeclared s name None answer = answer ≡ answers.Faulty
 
@@ -90,7 +85,7 @@ IsSecond o number = IsSomeAnd (first_named o (word_at o (name_at o number))) (λ
 -- the type, or a fault where it is too large
 abbrev pub IsLimited : SizedType → Answer → Type 0
 IsLimited of (answers.Type t) = t ≡ of
-IsLimited of (answers.Wrong message guard) = ⊤
+IsLimited of (answers.Wrong message guard) = IsFaultMessage message
 IsLimited of answer = ⊥
 
 -- the place of this declaration alone changes
@@ -98,6 +93,7 @@ pub record IsPlaced (before : Setting) (number : ℕ) (after : Setting) : Type 0
   pub source : after.source ≡ before.source
   pub stage : after.stage ≡ before.stage
   pub is_strict : after.is_strict ≡ before.is_strict
+  pub dialect : after.dialect ≡ before.dialect
   pub count : length after.meanings ≡ length before.meanings
   pub others : (k : ℕ) → k ≢ number → slice_get after.meanings k ≡ slice_get before.meanings k
 
@@ -105,12 +101,17 @@ pub record IsPlaced (before : Setting) (number : ℕ) (after : Setting) : Type 0
 abbrev pub with_meaning : Setting → ℕ → Answer → Setting
 with_meaning s number m = record s { meanings = slice_set s.meanings number m }
 
--- the place of the declaration has what it stands for; of two with one name only the first has any
+-- with the fault that an answer is, where it is one
+abbrev pub with_faults : Setting → Answer → Setting
+with_faults s a = record s { faults = faults_with s.faults a }
+
+-- the place of the declaration has what it stands for, and its fault is told, where fewer than 100 are; of two with one
+-- name only the first has any
 pub record IsFoundAt (before : Setting) (number : ℕ) (after : Setting) : Type 0 where
   pub others : IsPlaced before number after
   pub second : IsSecond before.source number → after ≡ before
   pub first : ¬ IsSecond before.source number
-      → (a : Answer) × IsDeclared before (name_at before.source number) (slice_get before.source.declared number) a × (number < length before.meanings → meaning_at after.meanings number ≡ told a)
+      → (a : Answer) × IsDeclared before (name_at before.source number) (slice_get before.source.declared number) a × (number < length before.meanings → meaning_at after.meanings number ≡ told a) × (after.faults ≡ faults_with before.faults a)
 
 -- the declarations of these numbers have their meanings, one after the other
 abbrev pub AreDeclared : Setting → List ℕ → Setting → Type 0

@@ -1,6 +1,8 @@
 -- What is told of a source.
 use Rattle.std.specs.Prelude.{◌≡◌, List, [], ◌∷◌, ◌++◌, All, IsPermutation, length, if◌then◌else◌}
 use Rattle.std.specs.Nat.{nat_lt}
+use Rattle.wgsl_eval.specs.declared.answer.Answer.{Answer}
+use Rattle.wgsl_eval.specs.declared.answer.Answer.TheVariants as answers
 use Rattle.wgsl_eval.specs.declared.message.Message.{Message}
 use Rattle.wgsl_eval.specs.declared.message.Severity.TheVariants as severities
 
@@ -13,6 +15,11 @@ IsWarning m = m.severity ≡ severities.Warning
 -- the faults with one more, where fewer than 100 are told
 abbrev pub added : List Message → Message → List Message
 added faults m = if nat_lt (length faults) 100 then faults ++ m ∷ [] else faults
+
+-- the faults with that of an answer, where it is one
+abbrev pub faults_with : List Message → Answer → List Message
+faults_with faults (answers.Wrong m guard) = added faults m
+faults_with faults a = faults
 
 -- these are told: all the faults, and warnings beside them
 abbrev pub AreTold : List Message → List Message → Type 0

@@ -1,11 +1,11 @@
 -- Parts of values (WGSL: composite value decomposition expressions).
-use Rattle.std.specs.Prelude.{◌≡◌, ℕ, ◌==◌, ◌⊎◌, pos, List, [], ◌∷◌, Option, Some, None, Ok, IfSome, IsSomeAnd, codes}
+use Rattle.std.specs.Prelude.{◌≡◌, ℕ, ◌==◌, ◌⊎◌, pos, List, [], ◌∷◌, Option, Some, None, Ok, IsSomeAnd, codes}
 use Rattle.std.specs.List.{position}
 use Rattle.std.specs.Option.{option_and_then, option_map}
 use Rattle.wgsl_rules.specs.Paths.{viewed}
 use Rattle.wgsl_rules.specs.Values.{Val, number, vector, Vals, item, member, index}
 use Rattle.wgsl_values.specs.View.{value_of}
-use Rattle.wgsl_eval.specs.Answers.{IsUnready, value_in}
+use Rattle.wgsl_eval.specs.Answers.{IsUnready, IsValueWith}
 use Rattle.wgsl_eval.specs.Constructors.{vector_of}
 use Rattle.wgsl_eval.specs.Lists.{each_of}
 use Rattle.wgsl_eval.specs.declared.answer.Answer.{Answer}
@@ -28,10 +28,10 @@ IsPosition v p = position_in v ≡ None
 abbrev pub IsElement : Val → Val → Val → Type 0
 IsElement v i w = IsSomeAnd (position_in i) (λ n. viewed (index n ∷ []) v ≡ Ok w)
 
--- an answer that is a value is the element, for the answers of the whole and of the index
+-- the element, for the answers of the whole and of the index
 abbrev pub IsElementOf : Answer → Answer → Answer → Type 0
 IsElementOf (answers.Value v) (answers.Value i) answer =
-    IfSome (value_in answer) (IsElement (value_of v.instance) (value_of i.instance))
+    IsValueWith (IsElement (value_of v.instance) (value_of i.instance)) answer
 IsElementOf (answers.Value v) i answer = IsUnready i answer
 IsElementOf v i answer = IsUnready v answer
 
@@ -62,7 +62,7 @@ abbrev pub IsMember : List ℕ → Val → Val → Type 0
 IsMember name (vector vs) w = IsSwizzle name vs w
 IsMember name v w = viewed (member name ∷ []) v ≡ Ok w
 
--- an answer that is a value is the member, for the answer of the whole
+-- the member, for the answer of the whole
 abbrev pub IsMemberOf : List ℕ → Answer → Answer → Type 0
-IsMemberOf name (answers.Value v) answer = IfSome (value_in answer) (IsMember name (value_of v.instance))
+IsMemberOf name (answers.Value v) answer = IsValueWith (IsMember name (value_of v.instance)) answer
 IsMemberOf name v answer = IsUnready v answer

@@ -1,5 +1,5 @@
 -- What structures and variables are found to be (WGSL: structure types; variable declarations; attributes).
-use Rattle.std.specs.Prelude.{◌≡◌, ◌-◌, ℕ, Bool, true, Option, Some, None, List, ⊤, length, slice_get, IsSomeAnd}
+use Rattle.std.specs.Prelude.{◌≡◌, ◌-◌, ◌≤◌, ◌<◌, ◌⊎◌, ℕ, Bool, true, Option, Some, None, MatchOption, List, ⊤, length, slice_get, IsSomeAnd}
 use Rattle.std.specs.Int.{is_power_of_two}
 use Rattle.std.specs.Option.{option_and_then}
 use Rattle.wgsl_apply.specs.Literals.{natural_of}
@@ -12,13 +12,16 @@ use Rattle.wgsl_source.specs.Readings.{word_at}
 use Rattle.wgsl_source.specs.declared.expression.Span.{Span}
 use Rattle.wgsl_source.specs.declared.module.DeclaredVariable.{DeclaredVariable}
 use Rattle.wgsl_source.specs.declared.module.Field.{Field}
-use Rattle.wgsl_eval.specs.Answers.{IsAnswer, value_in}
-use Rattle.wgsl_eval.specs.Calls.{type_in}
+use Rattle.wgsl_eval.specs.Answers.{IsAnswer, IsFault, IsNoType, IsSkippedFor, value_in}
+use Rattle.wgsl_eval.specs.Calls.{IsTypeOr, type_in}
 use Rattle.wgsl_eval.specs.Evaluators.{Setting}
 use Rattle.wgsl_eval.specs.Lists.{AllFrom}
+use Rattle.wgsl_eval.specs.Reasons.{has_floats}
 use Rattle.wgsl_eval.specs.Runs.{IsFound}
 use Rattle.wgsl_eval.specs.declared.answer.Answer.{Answer}
 use Rattle.wgsl_eval.specs.declared.answer.Answer.TheVariants as answers
+use Rattle.wgsl_eval.specs.declared.answer.Need.TheVariants as needs
+use Rattle.wgsl_eval.specs.declared.answer.Part.TheVariants as parts
 use Rattle.wgsl_eval.specs.declared.attribute.Attribute.{Attribute}
 use Rattle.wgsl_eval.specs.declared.attribute.Attribute.TheVariants as attributes
 use Rattle.wgsl_eval.specs.declared.attribute.Use.{Use}
@@ -53,14 +56,27 @@ IsNumberGiven s None valid n = n ≡ None
 IsNumberGiven s (Some span) valid n =
     (a : Answer) × IsFound s span a × (option_and_then natural_of (value_in a) ≡ n) × IsSomeAnd n (λ k. valid k ≡ true)
 
+-- what there is in place of the number: what needs floats is skipped as an attribute, or is a fault as all else that is
+-- no constant; a fault stays
+abbrev pub IsNoNumber : Answer → Answer → Type 0
+IsNoNumber (answers.Skipped s) answer =
+    IsFault answer ⊎ ((s.need ≡ needs.Float) × (answer ≡ answers.Skipped (record s { part = parts.Attribute })))
+IsNoNumber (answers.Wrong m guard) answer = answer ≡ answers.Wrong m guard
+IsNoNumber answers.Faulty answer = answer ≡ answers.Faulty
+IsNoNumber a answer = IsFault answer
+
+abbrev pub IsNotGiven : Setting → Option Span → Answer → Type 0
+IsNotGiven s None answer = ⊥
+IsNotGiven s (Some span) answer = (a : Answer) × IsFound s span a × IsNoNumber a answer
+
 abbrev pub IsAttribute : Setting → Option Span → (ℕ → Bool) → Attribute → Type 0
 IsAttribute s span valid (attributes.Number n) = IsNumberGiven s span valid n
-IsAttribute s span valid (attributes.Other a) = IsAnswer a × IsNone a
+IsAttribute s span valid (attributes.Other a) = IsAnswer a × IsNone a × IsNotGiven s span a
 
 -- the number that a value is, where it is valid
 abbrev pub IsNumberOf : Val → (ℕ → Bool) → Attribute → Type 0
 IsNumberOf v valid (attributes.Number n) = (natural_of v ≡ n) × IsSomeAnd n (λ k. valid k ≡ true)
-IsNumberOf v valid (attributes.Other a) = IsAnswer a × IsNone a
+IsNumberOf v valid (attributes.Other a) = IsFault a
 
 -- ---- structures
 
@@ -71,23 +87,35 @@ pub record IsMember (s : Setting) (f : Field) (m : Member) : Type 0 where
   pub size : IsNumberGiven s f.size (λ n. is_at_least n (size_of m.ty)) m.size
   pub align : IsNumberGiven s f.align is_power_of_two m.align
 
+-- what there is in place of the type that the expression would stand for
+abbrev pub IsNotTyped : Setting → Span → Answer → Type 0
+IsNotTyped s span answer = (a : Answer) × IsFound s span a × IsNoType a answer
+
+-- why there is no member: its type, or an attribute
+abbrev pub IsNoMember : Setting → Field → Answer → Type 0
+IsNoMember s f answer = IsNotTyped s f.ty answer ⊎ (IsNotGiven s f.size answer ⊎ IsNotGiven s f.align answer)
+
 abbrev pub IsFoundMember : Setting → Field → FoundMember → Type 0
-IsFoundMember s f (founds.Member m of) = IsMember s f (member_view m)
-IsFoundMember s f (founds.Other a) = IsAnswer a × IsNone a
+IsFoundMember s f (founds.Member m of) = IsMember s f (member_view m) × (of.has_float ≡ has_floats (member_view m).ty)
+IsFoundMember s f (founds.Other a) = IsAnswer a × IsNone a × IsNoMember s f a
 
 -- the member of a number
 abbrev pub IsMemberAt : Setting → ℕ → Member → Type 0
 IsMemberAt s number m = IsSomeAnd (slice_get s.source.fields number) (λ f. IsMember s f m)
 
--- an answer that is a type is the structure of these members
+-- the structure of these members
 abbrev pub IsStructureOf : List ℕ → List Member → Answer → Type 0
-IsStructureOf name ms (answers.Type t) = type_view t.ty ≡ struct name (fields_of ms)
-IsStructureOf name ms answer = IsNone answer
+IsStructureOf name ms answer = IsTypeOr (struct name (fields_of ms)) answer
+
+-- a member of these numbers, the end one not, is none
+abbrev pub IsWithout : Setting → ℕ → ℕ → Answer → Type 0
+IsWithout s first end answer =
+    (n : ℕ) × (first ≤ n) × (n < end) × IsSomeAnd (slice_get s.source.fields n) (λ f. IsNoMember s f answer)
 
 abbrev pub IsStructure : Setting → ℕ → ℕ → ℕ → Answer → Type 0
 IsStructure s name first end (answers.Type t) =
     (ms : List Member) × (type_view t.ty ≡ struct (word_at s.source name) (fields_of ms)) × (length ms ≡ end - first) × AllFrom (IsMemberAt s) first ms
-IsStructure s name first end answer = IsNone answer
+IsStructure s name first end answer = IsNone answer × (IsFault answer ⊎ IsWithout s first end answer)
 
 -- ---- variables
 
@@ -99,6 +127,13 @@ pub record IsVariableOf (s : Setting) (d : DeclaredVariable) (v : Variable) : Ty
   pub group : IsNumberGiven s d.group (λ n. true) v.group
   pub binding : IsNumberGiven s d.binding (λ n. true) v.binding
 
+-- why there is no variable: it has no type, or its type or an attribute is none
+abbrev pub IsNoVariable : Setting → DeclaredVariable → Answer → Type 0
+IsNoVariable s d answer =
+    MatchOption d.ty
+    (IsSkippedFor needs.Variable answer)
+    (λ span. IsFault answer ⊎ (IsNotTyped s span answer ⊎ (IsNotGiven s d.group answer ⊎ IsNotGiven s d.binding answer)))
+
 abbrev pub IsVariable : Setting → DeclaredVariable → Answer → Type 0
 IsVariable s d (answers.Variable v) = IsVariableOf s d v
-IsVariable s d answer = IsNone answer
+IsVariable s d answer = IsNone answer × IsNoVariable s d answer

@@ -1,5 +1,5 @@
 -- The types that names and template lists stand for (WGSL: predeclared types and type-generators).
-use Rattle.std.specs.Prelude.{ℕ, Option, Some, None, ⊤}
+use Rattle.std.specs.Prelude.{ℕ, Option, Some, None}
 use Rattle.wgsl_rules.specs.Types as types
 use Rattle.wgsl_rules.specs.Types.{Ty}
 use Rattle.wgsl_source.specs.Names.{scalar_type}
@@ -21,11 +21,3 @@ predeclared_type (named.Scalar s) = Some (scalar_type s)
 predeclared_type (named.Vec n s) = Some (types.vec n (scalar_type s))
 predeclared_type (named.Mat c r s) = Some (types.mat c r (scalar_type s))
 predeclared_type (named.Generator g) = None
-
--- a type of floats
-abbrev pub IsFloatType : Ty → Type 0
-IsFloatType types.f32 = ⊤
-IsFloatType types.f16 = ⊤
-IsFloatType types.f64 = ⊤
-IsFloatType types.abstract_float = ⊤
-IsFloatType t = ⊥

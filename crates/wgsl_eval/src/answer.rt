@@ -2,9 +2,10 @@
 
 ghost use Rattle.std.specs.Prelude.{◌≡◌, ◌+◌, ◌*◌, ◌-◌, ◌/◌, ◌<◌, ◌↔◌, ◌⊎◌, max, IfOk, IsTrue};
 ghost use Rattle.wgsl_rules.specs.View.{type_view};
+ghost use Rattle.wgsl_source.specs.Names.{scalar_type};
 ghost use Rattle.wgsl_values.specs.View.{value_of};
 ghost use Rattle.wgsl_eval.specs.Answers.{at_most_largest};
-ghost use Rattle.wgsl_eval.specs.TypeNames.{IsFloatType};
+ghost use Rattle.wgsl_eval.specs.Reasons.{has_floats};
 ghost use Rattle.wgsl_eval.specs.Waitings.{work_of};
 
 use crate::message::Message;
@@ -12,7 +13,7 @@ use crate::types::is_float;
 use crate::variable::Variable;
 use std::alloc::{AllocError, Global};
 use std::fmt;
-use wgsl_source::Extent;
+use wgsl_source::{Extent, Scalar};
 use wgsl_types::{Instance, Type};
 
 /// The most types in a type, those of members included.
@@ -52,6 +53,7 @@ pub(crate) struct SizedType {
     pub(crate) has_float: bool,
     /// Whether each align attribute in it is a multiple of the alignment of its member's type.
     pub(crate) is_aligned: bool,
+    ghost floats: { has_float ≡ has_floats (type_view ty) },
 }
 
 /// What a step leaves.
@@ -210,13 +212,12 @@ impl Value {
 }
 
 impl SizedType {
-    pub(crate) fn scalar(ty: Type) -> SizedType
-        ensures ty { result.ty ≡ ty }
-        ensures floats { IsTrue result.has_float ↔ IsFloatType (type_view ty) }
+    pub(crate) fn scalar(scalar: Scalar) -> SizedType
+        ensures { type_view result.ty ≡ scalar_type scalar }
     {
-        let has_float = is_float(&ty);
+        let has_float = is_float(scalar);
         SizedType {
-            ty,
+            ty: scalar.ty(),
             nodes: 1,
             size: Size::ONE,
             has_float,
@@ -227,7 +228,6 @@ impl SizedType {
     pub(crate) fn copy(&self, alloc: Global) -> Result<SizedType, AllocError>
         ensures ty { IfOk result (λ t. type_view t.ty ≡ type_view self.now.ty) }
         ensures size { IfOk result (λ t. t.size ≡ self.now.size) }
-        ensures floats { IfOk result (λ t. t.has_float ≡ self.now.has_float) }
     {
         Ok(SizedType {
             ty: self.ty.clone(alloc)?,

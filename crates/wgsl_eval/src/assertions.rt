@@ -1,7 +1,9 @@
 //! What a source asserts (WGSL: const_assert statement).
 
-ghost use Rattle.std.specs.Prelude.{◌≡◌, IfOk};
+ghost use Rattle.std.specs.Prelude.{◌≡◌, IfOk, OnOk};
+ghost use Rattle.wgsl_values.specs.View.{value_of};
 ghost use Rattle.wgsl_eval.specs.Answers.{AreAnswers, IsAnswer};
+ghost use Rattle.wgsl_eval.specs.Assertions.{AreAsserted, IsAsserted, IsAssertion, IsHeld, IsTold, is_truth};
 ghost use Rattle.wgsl_eval.specs.Evaluators.{setting_of};
 
 use crate::answer::{Answer, Skip};
@@ -24,6 +26,8 @@ impl Evaluator<'_> {
     /// What is found of each assertion, one after the other.
     pub(crate) fn assert_all(&mut self) -> Result<Vec<Assertion>, AllocError>
         requires { AreAnswers self.old.meanings.items }
+        ensures asserted { IfOk result (λ found. AreAsserted (setting_of self.old) self.old.reading.now.asserts found.items (setting_of self.new)) }
+        ensures answers { OnOk result (AreAnswers self.new.meanings.items) }
     {
         let asserts = self.reading.asserts();
         let mut found = Vec::with_capacity(self.alloc, asserts.len())?;
@@ -36,38 +40,55 @@ impl Evaluator<'_> {
 
     fn assert(&mut self, span: Span) -> Result<Assertion, AllocError>
         requires { AreAnswers self.old.meanings.items }
+        ensures { IfOk result (λ found. IsAsserted (setting_of self.old) span found (setting_of self.new)) }
     {
         let answer = self.expression(span)?;
-        match answer {
-            Answer::Value(value) => self.asserted(span.token, &value.instance),
-            other => {
-                let answer = self.unready(span.token, other)?;
-                self.not_asserted(answer)
-            }
-        }
+        self.assertion_of(span.token, answer)
     }
 
-    // The assertion of a value.
-    fn asserted(&mut self, token: usize, value: &Instance) -> Result<Assertion, AllocError> {
-        let text = match value {
-            Instance::Literal(LiteralInstance::Bool(true)) => return Ok(Assertion::Holds),
-            Instance::Literal(LiteralInstance::Bool(false)) => "this is asserted and false",
-            _ => "what is asserted is no bool",
-        };
-        let fault = self.wrong_text(token, text)?;
-        self.not_asserted(fault)
-    }
-
-    // The assertion of what is no value.
-    fn not_asserted(&mut self, answer: Answer) -> Result<Assertion, AllocError>
+    // What is found of an assertion of this answer.
+    fn assertion_of(&mut self, token: usize, answer: Answer) -> Result<Assertion, AllocError>
         requires { IsAnswer answer }
+        ensures { IfOk result (λ found. IsAssertion (setting_of self.old) answer found (setting_of self.new)) }
     {
         match answer {
+            Answer::Value(value) => self.held(token, &value.instance),
             Answer::Skipped(skip) => Ok(Assertion::Skipped(skip)),
-            other => {
-                self.tell(other)?;
+            Answer::Wrong(message, guard) => {
+                self.tell(Answer::Wrong(message, guard))?;
                 Ok(Assertion::Faulty)
             }
+            Answer::Faulty => Ok(Assertion::Faulty),
+            _ => self.refuted(token, "a type stands where a value belongs"),
         }
     }
+
+    // Whether the value that is asserted is true.
+    fn held(&mut self, token: usize, value: &Instance) -> Result<Assertion, AllocError>
+        ensures { IfOk result (λ found. IsHeld (setting_of self.old) (value_of value.now) found (setting_of self.new)) }
+    {
+        if is_truth(value) {
+            return Ok(Assertion::Holds);
+        }
+        match value {
+            Instance::Literal(LiteralInstance::Bool(_)) => {
+                self.refuted(token, "this is asserted and false")
+            }
+            _ => self.refuted(token, "what is asserted is no bool"),
+        }
+    }
+
+    fn refuted(&mut self, token: usize, text: &str) -> Result<Assertion, AllocError>
+        ensures { IfOk result (λ found. (found ≡ Assertion.Faulty) × IsTold (setting_of self.old) (setting_of self.new)) }
+    {
+        let fault = self.wrong_text(token, text)?;
+        self.tell(fault)?;
+        Ok(Assertion::Faulty)
+    }
+}
+
+fn is_truth(value: &Instance) -> bool
+    ensures { result ≡ is_truth (value_of value.now) }
+{
+    matches!(value, Instance::Literal(LiteralInstance::Bool(true)))
 }

@@ -5,7 +5,7 @@ ghost use Rattle.wgsl_rules.specs.Layout.{is_at_least};
 ghost use Rattle.wgsl_values.specs.View.{value_of};
 ghost use Rattle.wgsl_eval.specs.Answers.{AreAnswers, IsAnswer, value_in};
 ghost use Rattle.wgsl_eval.specs.Evaluators.{setting_of};
-ghost use Rattle.wgsl_eval.specs.Structures.{IsAttribute, IsNone, IsNumberOf, is_valid_for};
+ghost use Rattle.wgsl_eval.specs.Structures.{IsAttribute, IsNoNumber, IsNone, IsNumberOf, is_valid_for};
 
 use crate::answer::{Answer, Need, Part, Skip};
 use crate::call::natural_in;
@@ -80,21 +80,22 @@ impl Evaluator<'_> {
         requires none { value_in answer ≡ None }
         requires answer { IsAnswer answer }
         ensures none { IfOk result IsNone }
+        ensures number { IfOk result (IsNoNumber answer) }
         ensures answer { IfOk result IsAnswer }
     {
         match answer {
             Answer::Skipped(skip) => self.skipped_number(span, skip),
+            Answer::Wrong(message, guard) => Ok(Answer::Wrong(message, guard)),
+            Answer::Faulty => Ok(Answer::Faulty),
             Answer::Variable(_) => self.wrong_text(span.token, "an attribute is a constant"),
-            Answer::Type(_) | Answer::Bitcast(_) => {
-                self.wrong_text(span.token, "a type stands where a value belongs")
-            }
-            other => Ok(other),
+            _ => self.wrong_text(span.token, "a type stands where a value belongs"),
         }
     }
 
     // What needs floats may yet be an integer.
     fn skipped_number(&self, span: Span, skip: Skip) -> Result<Answer, AllocError>
         ensures none { IfOk result IsNone }
+        ensures number { IfOk result (IsNoNumber (Answer.Skipped skip)) }
         ensures answer { IfOk result IsAnswer }
     {
         if skip.need != Need::Float {

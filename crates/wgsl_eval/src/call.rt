@@ -8,21 +8,32 @@ ghost use Rattle.wgsl_eval.specs.Calls.{
   IsBitcastOf,
   IsCall,
   IsCallOf,
+  IsCopy,
+  IsForValues,
+  IsFunctionCall,
   IsGenerated,
   IsGeneratedOf,
+  IsLanguageCall,
+  IsNotCounted,
+  IsOfType,
   IsOfValuesOf,
+  IsSomeCall,
+  IsTemplate,
   IsTemplateOf,
+  IsTypeCall,
+  IsTypeOr,
   bitcast_alone,
   function_of,
-  values_of,
 };
-ghost use Rattle.wgsl_eval.specs.Constructors.{MayBe};
+ghost use Rattle.wgsl_eval.specs.Constructors.{MayBe, constructed};
 ghost use Rattle.wgsl_eval.specs.Evaluators.{setting_of};
+ghost use Rattle.wgsl_eval.specs.Reasons.{need_of};
+ghost use Rattle.wgsl_eval.specs.TypeNames.{generated_type};
 ghost use Rattle.wgsl_rules.specs.View.{type_view};
 ghost use Rattle.wgsl_source.specs.Readings.{word_at};
 ghost use Rattle.wgsl_values.specs.View.{value_of};
 
-use crate::answer::{Answer, Guard, Need, Part, Size, Value};
+use crate::answer::{Answer, Guard, Need, Part, Size, SizedType, Value};
 use crate::evaluator::Evaluator;
 use crate::opaque::is_opaque;
 use crate::types::generated;
@@ -51,14 +62,28 @@ impl Evaluator<'_> {
     ) -> Result<Answer, AllocError>
         requires { AreAnswers arguments.items }
         ensures keeps { setting_of self.new ≡ setting_of self.old }
+        ensures template { IfOk result (IsTemplate (setting_of self.old) (word_at self.old.reading.now token) arguments.items) }
+        ensures answer { IfOk result IsAnswer }
+    {
+        let reading = self.reading;
+        match reading.number_of(reading.word(token)) {
+            Some(_) => self.wrong_text(token, "this takes no template list"),
+            None => self.language_template(token, arguments),
+        }
+    }
+
+    fn language_template(
+        &mut self,
+        token: usize,
+        arguments: Vec<Answer>,
+    ) -> Result<Answer, AllocError>
+        requires { AreAnswers arguments.items }
+        ensures keeps { setting_of self.new ≡ setting_of self.old }
         ensures template { IfOk result (IsTemplateOf (word_at self.old.reading.now token) arguments.items) }
         ensures answer { IfOk result IsAnswer }
     {
         let reading = self.reading;
         let word = reading.word(token);
-        if reading.number_of(word).is_some() {
-            return self.wrong_text(token, "this takes no template list");
-        }
         if word == "bitcast" {
             return self.bitcast_of(token, arguments);
         }
@@ -88,6 +113,7 @@ impl Evaluator<'_> {
         mut arguments: Vec<Answer>,
     ) -> Result<Answer, AllocError>
         requires { AreAnswers arguments.items }
+        ensures keeps { setting_of self.new ≡ setting_of self.old }
         ensures generated { IfOk result (IsGenerated generator arguments.items) }
         ensures answer { IfOk result IsAnswer }
     {
@@ -107,6 +133,7 @@ impl Evaluator<'_> {
     fn counted(&mut self, token: usize, inner: Answer, count: Answer) -> Result<Answer, AllocError>
         requires inner { IsAnswer inner }
         requires count { IsAnswer count }
+        ensures keeps { setting_of self.new ≡ setting_of self.old }
         ensures generated { IfOk result (IsGenerated Generator.Array (inner ∷ count ∷ [])) }
         ensures answer { IfOk result IsAnswer }
     {
@@ -125,12 +152,12 @@ impl Evaluator<'_> {
     // What a count that is no value leaves.
     fn not_counted(&self, token: usize, count: Answer) -> Result<Answer, AllocError>
         requires { IsAnswer count }
+        ensures counted { IfOk result (IsNotCounted count) }
         ensures answer { IfOk result IsAnswer }
     {
-        let answer = self.unready(token, count)?;
-        match answer {
+        match count {
             Answer::Skipped(skip) => Ok(Answer::Skipped(skip.in_part(Part::Count))),
-            other => Ok(other),
+            other => self.unready(token, other),
         }
     }
 
@@ -142,6 +169,7 @@ impl Evaluator<'_> {
         count: Option<u32>,
     ) -> Result<Answer, AllocError>
         requires { IsAnswer inner }
+        ensures keeps { setting_of self.new ≡ setting_of self.old }
         ensures generated { IfOk result (IsGeneratedOf generator inner count) }
         ensures answer { IfOk result IsAnswer }
     {
@@ -150,17 +178,30 @@ impl Evaluator<'_> {
                 if !generator.takes(&inner.ty) {
                     return self.wrong_text(token, "this is no type of a component here");
                 }
-                let is_integral = is_matrix(generator) && !inner.has_float;
-                let of = generated(self.alloc, generator, inner, count)?;
-                let answer = self.limited(token, of)?;
-                if is_integral {
-                    self.beyond(token, answer, INTEGRAL)
-                } else {
-                    Ok(answer)
-                }
+                self.type_of(token, generator, inner, count)
             }
-            Answer::Value(_) | Answer::Bitcast(_) => self.wrong_text(token, "this is no type"),
-            other => Ok(other),
+            other => self.no_type(token, other),
+        }
+    }
+
+    fn type_of(
+        &mut self,
+        token: usize,
+        generator: Generator,
+        inner: SizedType,
+        count: Option<u32>,
+    ) -> Result<Answer, AllocError>
+        ensures keeps { setting_of self.new ≡ setting_of self.old }
+        ensures ty { IfOk result (IsTypeOr (generated_type generator (type_view inner.ty) count)) }
+        ensures answer { IfOk result IsAnswer }
+    {
+        let is_integral = is_matrix(generator) && !inner.has_float;
+        let of = generated(self.alloc, generator, inner, count)?;
+        let answer = self.limited(token, of)?;
+        if is_integral {
+            self.beyond(token, answer, INTEGRAL)
+        } else {
+            Ok(answer)
         }
     }
 }
@@ -179,21 +220,48 @@ impl Evaluator<'_> {
         ensures answer { IfOk result IsAnswer }
     {
         let reading = self.reading;
-        let word = reading.word(token);
-        if let Some(number) = reading.number_of(word) {
-            return self.call_declared(token, number, arguments);
+        match reading.number_of(reading.word(token)) {
+            Some(number) => self.call_declared(token, number, arguments),
+            None => self.call_language(token, arguments),
         }
+    }
+
+    // A call of a name that the language has.
+    fn call_language(&mut self, token: usize, arguments: Vec<Answer>) -> Result<Answer, AllocError>
+        requires { AreAnswers arguments.items }
+        ensures keeps { setting_of self.new ≡ setting_of self.old }
+        ensures call { IfOk result (IsLanguageCall (setting_of self.old) (word_at self.old.reading.now token) arguments.items) }
+        ensures answer { IfOk result IsAnswer }
+    {
+        let reading = self.reading;
+        let word = reading.word(token);
         if let Some(function) = Builtin::named(word) {
             return self.call_function(token, function, arguments);
         }
         match language_name(word) {
-            Some(Predeclared::Generator(generator)) => self.inferred(token, generator, arguments),
-            Some(named) => {
+            Some(named) => self.call_type(token, named, arguments),
+            None if is_opaque(word) => self.wrong_text(token, "no value is made of this"),
+            None => self.nothing_named(token),
+        }
+    }
+
+    fn call_type(
+        &mut self,
+        token: usize,
+        named: Predeclared,
+        arguments: Vec<Answer>,
+    ) -> Result<Answer, AllocError>
+        requires { AreAnswers arguments.items }
+        ensures keeps { setting_of self.new ≡ setting_of self.old }
+        ensures call { IfOk result (IsTypeCall (setting_of self.old) named arguments.items) }
+        ensures answer { IfOk result IsAnswer }
+    {
+        match named {
+            Predeclared::Generator(generator) => self.inferred(token, generator, arguments),
+            _ => {
                 let callee = self.language_type(token, named)?;
                 self.call_answer(token, callee, arguments)
             }
-            None if is_opaque(word) => self.wrong_text(token, "no value is made of this"),
-            None => self.nothing_named(token),
         }
     }
 
@@ -206,7 +274,7 @@ impl Evaluator<'_> {
         requires meanings { AreAnswers self.old.meanings.items }
         requires arguments { AreAnswers arguments.items }
         ensures keeps { setting_of self.new ≡ setting_of self.old }
-        ensures call { IfOk result (IsCallOf (meaning_at self.old.meanings.items number) arguments.items) }
+        ensures call { IfOk result (λ answer. IsSomeCall (IsCopy (meaning_at self.old.meanings.items number)) arguments.items answer) }
         ensures answer { IfOk result IsAnswer }
     {
         let callee = self.copied(token, number)?;
@@ -227,18 +295,48 @@ impl Evaluator<'_> {
         ensures answer { IfOk result IsAnswer }
     {
         match callee {
-            Answer::Type(of) => match self.values(token, arguments)? {
-                Arguments::Values(_, _) if of.has_float => Ok(self.skipped(token, Need::Float)),
-                Arguments::Values(values, size) => self.made(token, &of, values.as_slice(), size),
-                Arguments::Other(answer) => Ok(answer),
-            },
-            Answer::Bitcast(of) => match self.values(token, arguments)? {
-                Arguments::Values(_, _) if of.has_float => Ok(self.skipped(token, Need::Float)),
-                Arguments::Values(values, _) => self.bitcast(token, &of.ty, values.as_slice()),
-                Arguments::Other(answer) => Ok(answer),
-            },
+            Answer::Type(of) => self.called(token, &of, arguments),
+            Answer::Bitcast(of) => self.bitcast_called(token, &of, arguments),
             Answer::Value(_) => self.wrong_text(token, "this is no type and no function"),
             other => Ok(other),
+        }
+    }
+
+    // A call of a type.
+    fn called(
+        &mut self,
+        token: usize,
+        of: &SizedType,
+        arguments: Vec<Answer>,
+    ) -> Result<Answer, AllocError>
+        requires { AreAnswers arguments.items }
+        ensures keeps { setting_of self.new ≡ setting_of self.old }
+        ensures call { IfOk result (IsForValues arguments.items (IsOfType (type_view of.now.ty) (constructed (type_view of.now.ty)))) }
+        ensures answer { IfOk result IsAnswer }
+    {
+        match self.values(token, arguments)? {
+            Arguments::Values(_, _) if of.has_float => Ok(self.skipped(token, Need::Float)),
+            Arguments::Values(values, size) => self.made(token, of, values.as_slice(), size),
+            Arguments::Other(answer) => Ok(answer),
+        }
+    }
+
+    // A call of `bitcast` with the type.
+    fn bitcast_called(
+        &mut self,
+        token: usize,
+        of: &SizedType,
+        arguments: Vec<Answer>,
+    ) -> Result<Answer, AllocError>
+        requires { AreAnswers arguments.items }
+        ensures keeps { setting_of self.new ≡ setting_of self.old }
+        ensures call { IfOk result (IsForValues arguments.items (IsOfType (type_view of.now.ty) (bitcast_alone (type_view of.now.ty)))) }
+        ensures answer { IfOk result IsAnswer }
+    {
+        match self.values(token, arguments)? {
+            Arguments::Values(_, _) if of.has_float => Ok(self.skipped(token, Need::Float)),
+            Arguments::Values(values, _) => self.bitcast(token, &of.ty, values.as_slice()),
+            Arguments::Other(answer) => Ok(answer),
         }
     }
 
@@ -249,7 +347,7 @@ impl Evaluator<'_> {
         arguments: Vec<Answer>,
     ) -> Result<Arguments, AllocError>
         requires { AreAnswers arguments.items }
-        ensures { IfOk result (AreValues (values_of arguments.items)) }
+        ensures { IfOk result (AreValues arguments.items) }
     {
         let mut values = Vec::with_capacity(self.alloc, arguments.len())?;
         let mut size = Size::ONE;
@@ -273,16 +371,28 @@ impl Evaluator<'_> {
     ) -> Result<Answer, AllocError>
         requires { AreAnswers arguments.items }
         ensures keeps { setting_of self.new ≡ setting_of self.old }
+        ensures call { IfOk result (IsFunctionCall (setting_of self.old) function arguments.items) }
+        ensures answer { IfOk result IsAnswer }
+    {
+        match function.count() {
+            Some(count) => self.call_counted(token, function, count, arguments),
+            None => Ok(self.skipped(token, need_of(function))),
+        }
+    }
+
+    // A call of a function of so many values.
+    fn call_counted(
+        &mut self,
+        token: usize,
+        function: Builtin,
+        count: usize,
+        arguments: Vec<Answer>,
+    ) -> Result<Answer, AllocError>
+        requires { AreAnswers arguments.items }
+        ensures keeps { setting_of self.new ≡ setting_of self.old }
         ensures call { IfOk result (IsOfValuesOf (function_of function self.old.stage) arguments.items) }
         ensures answer { IfOk result IsAnswer }
     {
-        let Some(count) = function.count() else {
-            let need = match function {
-                Builtin::Float => Need::Float,
-                _ => Need::Runtime,
-            };
-            return Ok(self.skipped(token, need));
-        };
         match self.values(token, arguments)? {
             Arguments::Values(values, _) if values.len() != count => {
                 self.wrong_count(token, count, values.len())
@@ -376,6 +486,16 @@ impl Evaluator<'_> {
         let mut text = String::new(self.alloc);
         write!(text, "{word} takes {wanted} values, and {given} are given")?;
         Ok(self.wrong(token, Guard::Never, text))
+    }
+}
+
+// What a function needs that is none of integers.
+fn need_of(function: Builtin) -> Need
+    ensures { result ≡ need_of function }
+{
+    match function {
+        Builtin::Float => Need::Float,
+        _ => Need::Runtime,
     }
 }
 

@@ -3,18 +3,21 @@
 
 ghost use Rattle.std.specs.Prelude.{◌≡◌, ◌*◌, IfOk, IfSome, Some, length, map, option_map};
 ghost use Rattle.wgsl_apply.specs.Zeros.{zero_of};
-ghost use Rattle.wgsl_eval.specs.Answers.{AreAnswers, AreSound, IsAnswer, IsFault, value_in};
-ghost use Rattle.wgsl_eval.specs.Calls.{AreValues, IsOfValuesOf};
+ghost use Rattle.wgsl_eval.specs.Answers.{AreAnswers, AreSound, IsAnswer, IsFault, IsMade};
+ghost use Rattle.wgsl_eval.specs.Calls.{AreConverted, IsForValues};
 ghost use Rattle.wgsl_eval.specs.Constructors.{
   AreScalars,
+  IsInferred,
+  IsMatrixOf,
   MayBe,
+  are_abstract,
+  are_floats,
   array_made,
   common_array,
-  common_matrix,
   common_vector,
   components_for,
   constructed,
-  inferred_of,
+  is_abstract,
   made_of,
   matrix_made,
   matrix_of,
@@ -31,6 +34,7 @@ ghost use Rattle.wgsl_rules.specs.Converted.{converted};
 ghost use Rattle.wgsl_rules.specs.Values.{IsStorable};
 ghost use Rattle.wgsl_rules.specs.View.{members_view, struct_view, type_view};
 ghost use Rattle.wgsl_scalar.specs.Literals.{literal_of as value_of_literal};
+ghost use Rattle.wgsl_source.specs.declared.names.Generator.TheVariants as generators;
 ghost use Rattle.wgsl_values.specs.View.{value_of};
 
 use crate::answer::{Answer, Guard, Need, Size, SizedType, Value};
@@ -145,7 +149,7 @@ impl Evaluator<'_> {
             return self.not_converted(token, value, ty);
         };
         match written(literal, ty) {
-            Some(literal) => Ok(answer_of(Some(Instance::from(literal)), Size::ONE)),
+            Some(literal) => self.made_answer(token, Some(Instance::from(literal)), Size::ONE),
             None => self.not_converted(token, value, ty),
         }
     }
@@ -169,7 +173,7 @@ impl Evaluator<'_> {
         match self.converted_scalars(token, components.as_slice(), scalar, conversion)? {
             Scalars::Of(converted) => {
                 let vector = vector_of(self.alloc, converted.as_slice())?;
-                Ok(answer_of(vector, Size::ONE))
+                self.made_answer(token, vector, Size::ONE)
             }
             Scalars::Other(answer) => Ok(answer),
         }
@@ -210,7 +214,7 @@ impl Evaluator<'_> {
         };
         let conversion = Conversion::Automatic;
         match self.converted_scalars(token, scalars.as_slice(), scalar, conversion)? {
-            Scalars::Of(converted) => self.matrix_of(columns, rows, converted.as_slice()),
+            Scalars::Of(converted) => self.matrix_of(token, columns, rows, converted.as_slice()),
             Scalars::Other(answer) => Ok(answer),
         }
     }
@@ -242,6 +246,7 @@ impl Evaluator<'_> {
     #[tactic(auto, using(crate::proofs::Answered::answered_steps))]
     fn matrix_of(
         &self,
+        token: usize,
         columns: u8,
         rows: u8,
         scalars: &[LiteralInstance],
@@ -251,8 +256,8 @@ impl Evaluator<'_> {
     {
         let (columns, rows) = (usize::from(columns), usize::from(rows));
         match columns_of(self.alloc, columns, rows, scalars)? {
-            Some(columns) => Ok(answer_of(make_matrix(columns), Size::ONE)),
-            None => Ok(Answer::Faulty),
+            Some(columns) => self.made_answer(token, make_matrix(columns), Size::ONE),
+            None => self.made_answer(token, None, Size::ONE),
         }
     }
 
@@ -273,7 +278,7 @@ impl Evaluator<'_> {
             return self.wrong_count(token, count, values.len());
         }
         match self.each_converted(token, values, inner)? {
-            Arguments::Values(elements, _) => Ok(answer_of(make_array(elements), size)),
+            Arguments::Values(elements, _) => self.made_answer(token, make_array(elements), size),
             Arguments::Other(answer) => Ok(answer),
         }
     }
@@ -286,7 +291,7 @@ impl Evaluator<'_> {
         ty: &Type,
     ) -> Result<Arguments, AllocError>
         requires { AreSound values.now }
-        ensures { IfOk result (AreValues (each_of (λ v. converted v (type_view ty.now)) (map value_of values.now))) }
+        ensures { IfOk result (AreConverted (each_of (λ v. converted v (type_view ty.now)) (map value_of values.now))) }
     {
         let mut converted = Vec::with_capacity(self.alloc, values.len())?;
         for value in values {
@@ -318,7 +323,7 @@ impl Evaluator<'_> {
         }
         match self.members_converted(token, ty.members.as_slice(), values)? {
             Arguments::Values(members, _) => {
-                Ok(answer_of(make_structure(ty.clone(self.alloc)?, members), size))
+                self.made_answer(token, make_structure(ty.clone(self.alloc)?, members), size)
             }
             Arguments::Other(answer) => Ok(answer),
         }
@@ -333,7 +338,7 @@ impl Evaluator<'_> {
     ) -> Result<Arguments, AllocError>
         requires sound { AreSound values.now }
         requires count { length values.now ≡ length members.now }
-        ensures { IfOk result (AreValues (members_made (members_view members.now) (map value_of values.now))) }
+        ensures { IfOk result (AreConverted (members_made (members_view members.now) (map value_of values.now))) }
     {
         let mut converted = Vec::with_capacity(self.alloc, values.len())?;
         for (i, value) in values.iter().enumerate() {
@@ -359,7 +364,7 @@ impl Evaluator<'_> {
         arguments: Vec<Answer>,
     ) -> Result<Answer, AllocError>
         requires { AreAnswers arguments.items }
-        ensures value { IfOk result (IsOfValuesOf (inferred_of generator) arguments.items) }
+        ensures value { IfOk result (IsForValues arguments.items (IsInferred self.old.dialect generator)) }
         ensures answer { IfOk result IsAnswer }
         ensures keeps { setting_of self.new ≡ setting_of self.old }
     {
@@ -382,7 +387,8 @@ impl Evaluator<'_> {
         size: Size,
     ) -> Result<Answer, AllocError>
         requires { AreSound values.now }
-        ensures value { IfOk result (MayBe (inferred_of generator (map value_of values.now))) }
+        ensures keeps { setting_of self.new ≡ setting_of self.old }
+        ensures value { IfOk result (IsInferred self.old.dialect generator (map value_of values.now)) }
         ensures answer { IfOk result IsAnswer }
     {
         match generator {
@@ -406,7 +412,7 @@ impl Evaluator<'_> {
     {
         if values.is_empty() {
             let ty = Type::Vec(n, Box::new(self.alloc, Type::AbstractInt)?);
-            return Ok(answer_of(zero(self.alloc, &ty)?, Size::ONE));
+            return self.made_answer(token, zero(self.alloc, &ty)?, Size::ONE);
         }
         let components = match self.components(token, n, values)? {
             Scalars::Of(components) => components,
@@ -415,7 +421,7 @@ impl Evaluator<'_> {
         match convert_all(self.alloc, components.as_slice())? {
             Some(components) => {
                 let vector = vector_of(self.alloc, components.as_slice())?;
-                Ok(answer_of(vector, Size::ONE))
+                self.made_answer(token, vector, Size::ONE)
             }
             None => self.no_common(token),
         }
@@ -430,7 +436,8 @@ impl Evaluator<'_> {
         values: &[Instance],
     ) -> Result<Answer, AllocError>
         requires { AreSound values.now }
-        ensures value { IfOk result (MayBe (common_matrix columns rows (map value_of values.now))) }
+        ensures keeps { setting_of self.new ≡ setting_of self.old }
+        ensures value { IfOk result (IsInferred self.old.dialect (generators.Mat columns rows) (map value_of values.now)) }
         ensures answer { IfOk result IsAnswer }
     {
         let scalars = match self.scalars(token, columns, rows, values)? {
@@ -450,11 +457,15 @@ impl Evaluator<'_> {
         columns: u8,
         rows: u8,
         scalars: &[LiteralInstance],
-    ) -> Result<Answer, AllocError> {
-        if self.dialect == Dialect::Wgsl && begins_abstract(scalars) {
+    ) -> Result<Answer, AllocError>
+        ensures keeps { setting_of self.new ≡ setting_of self.old }
+        ensures value { IfOk result (IsMatrixOf self.old.dialect columns rows (map value_of_literal scalars.now)) }
+        ensures answer { IfOk result IsAnswer }
+    {
+        if is_of_floats(self.dialect, scalars) {
             return Ok(self.skipped(token, Need::Float));
         }
-        let answer = self.matrix_of(columns, rows, scalars)?;
+        let answer = self.matrix_of(token, columns, rows, scalars)?;
         self.beyond(token, answer, INTEGRAL)
     }
 
@@ -473,8 +484,25 @@ impl Evaluator<'_> {
             return self.wrong_text(token, "an array has elements");
         }
         match in_common(self.alloc, values)? {
-            Some(elements) => Ok(answer_of(make_array(elements), size)),
+            Some(elements) => self.made_answer(token, make_array(elements), size),
             None => self.no_common(token),
+        }
+    }
+
+    /// A value that was made of parts, or a fault where they do not fit.
+    pub(crate) fn made_answer(
+        &self,
+        token: usize,
+        value: Option<Instance>,
+        size: Size,
+    ) -> Result<Answer, AllocError>
+        requires { IfSome value (λ v. IsStorable (value_of v)) }
+        ensures made { IfOk result (IsMade (option_map value_of value)) }
+        ensures answer { IfOk result IsAnswer }
+    {
+        match value {
+            Some(instance) => Ok(Answer::Value(Value::answered(instance, size))),
+            None => self.wrong_text(token, "no value is made so"),
         }
     }
 
@@ -485,20 +513,29 @@ impl Evaluator<'_> {
     }
 }
 
-// A value that was made of parts that fit.
-fn answer_of(value: Option<Instance>, size: Size) -> Answer
-    requires { IfSome value (λ v. IsStorable (value_of v)) }
-    ensures value { value_in result ≡ option_map value_of value }
-    ensures answer { IsAnswer result }
+// Whether the dialect takes scalars of one type for floats.
+fn is_of_floats(dialect: Dialect, scalars: &[LiteralInstance]) -> bool
+    ensures { result ≡ are_floats dialect (map value_of_literal scalars.now) }
 {
-    match value {
-        Some(instance) => Answer::Value(Value::answered(instance, size)),
-        None => Answer::Faulty,
+    match dialect {
+        Dialect::Wgsl => begins_abstract(scalars),
+        Dialect::Crate => false,
     }
 }
 
-fn begins_abstract(scalars: &[LiteralInstance]) -> bool {
-    matches!(scalars.first(), Some(LiteralInstance::AbstractInt(_)))
+fn begins_abstract(scalars: &[LiteralInstance]) -> bool
+    ensures { result ≡ are_abstract (map value_of_literal scalars.now) }
+{
+    match scalars.first() {
+        Some(first) => is_abstract(*first),
+        None => false,
+    }
+}
+
+fn is_abstract(literal: LiteralInstance) -> bool
+    ensures { result ≡ is_abstract (value_of_literal literal) }
+{
+    matches!(literal, LiteralInstance::AbstractInt(_))
 }
 
 fn are_columns(values: &[Instance], rows: usize) -> bool {

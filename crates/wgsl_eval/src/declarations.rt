@@ -4,8 +4,9 @@ ghost use Rattle.std.specs.Prelude.{◌≡◌, ◌≤◌, IfOk, vec_len};
 ghost use Rattle.std.specs.List.Sorted.{IsSortedByKey};
 ghost use Rattle.std.specs.Ordering.{nat_cmp};
 ghost use Rattle.wgsl_eval.specs.Answers.{AreAnswers};
-ghost use Rattle.wgsl_eval.specs.Evaluated.{AreDeclarations, AreItems, IsItem, kind_in};
+ghost use Rattle.wgsl_eval.specs.Evaluated.{AreDeclarations, AreItems, IsItem, kind_in, of_wgsl};
 ghost use Rattle.wgsl_eval.specs.Evaluators.{setting_of};
+ghost use Rattle.wgsl_eval.specs.Messages.{AreTold};
 
 use crate::answer::{Answer, Skip};
 use crate::evaluator::{Evaluator, popped};
@@ -61,7 +62,7 @@ pub enum ItemKind {
 pub fn resolve(alloc: Global, reading: &Reading<'_>) -> Result<Declarations, AllocError>
     ensures count { IfOk result (λ d. vec_len d.messages ≤ 100) }
     ensures sorted { IfOk result (λ d. IsSortedByKey (λ m. m.start) nat_cmp d.messages.items) }
-    ensures items { IfOk result (λ d. AreDeclarations reading.now d.items.items) }
+    ensures declared { IfOk result (AreDeclarations reading.now (of_wgsl ShaderStage.Const false)) }
 {
     let settings = Settings {
         stage: ShaderStage::Const,
@@ -76,7 +77,11 @@ pub fn resolve_in(
     alloc: Global,
     reading: &Reading<'_>,
     settings: Settings,
-) -> Result<Declarations, AllocError> {
+) -> Result<Declarations, AllocError>
+    ensures count { IfOk result (λ d. vec_len d.messages ≤ 100) }
+    ensures sorted { IfOk result (λ d. IsSortedByKey (λ m. m.start) nat_cmp d.messages.items) }
+    ensures declared { IfOk result (AreDeclarations reading.now settings) }
+{
     let mut evaluator = Evaluator::new(alloc, reading, settings)?;
     evaluator.declare_all()?;
     evaluator.into_declarations()
@@ -87,6 +92,7 @@ impl Evaluator<'_> {
         requires { AreAnswers self.meanings.items }
         ensures count { IfOk result (λ d. vec_len d.messages ≤ 100) }
         ensures sorted { IfOk result (λ d. IsSortedByKey (λ m. m.start) nat_cmp d.messages.items) }
+        ensures told { IfOk result (λ d. AreTold (setting_of self.entry).faults d.messages.items) }
         ensures items { IfOk result (λ d. AreItems (setting_of self.entry) d.items.items) }
     {
         let Evaluator {

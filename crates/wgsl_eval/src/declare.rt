@@ -1,10 +1,11 @@
 //! Gives declarations their meanings (WGSL: value declarations; type aliases).
 
-ghost use Rattle.std.specs.Prelude.{◌≡◌, ◌≢◌, ◌<◌, ◌↔◌, IfOk, IfSome, IsSomeAnd, IsTrue, OnOk, slice_get, vec_len};
+ghost use Rattle.std.specs.Prelude.{◌≡◌, ◌≢◌, ◌<◌, ◌↔◌, IfOk, IfSome, IsSomeAnd, IsTrue, OnErr, OnOk, slice_get, vec_len};
 ghost use Rattle.wgsl_values.specs.View.{value_of};
-ghost use Rattle.wgsl_eval.specs.Answers.{AreAnswers, IsAnswer, IsSoundValue, meaning_at};
+ghost use Rattle.wgsl_eval.specs.Answers.{AreAnswers, IsAnswer, IsNoType, IsSoundValue, meaning_at};
 ghost use Rattle.wgsl_eval.specs.Evaluation.{name_at};
-ghost use Rattle.wgsl_eval.specs.Meanings.{IsAlias, IsConcreteValue, IsConstant, IsDeclared, IsFoundAt, IsLimited, IsNoType, IsOverride, IsPlaced, IsSecond, IsTypedBy, told, with_meaning};
+ghost use Rattle.wgsl_eval.specs.Meanings.{IsAlias, IsConcreteValue, IsConstant, IsDeclared, IsFoundAt, IsLimited, IsOverride, IsPlaced, IsSecond, IsTypedBy, told, with_faults, with_meaning};
+ghost use Rattle.wgsl_eval.specs.Messages.{faults_with};
 ghost use Rattle.wgsl_eval.specs.Evaluators.{setting_of};
 
 use crate::answer::{Answer, Guard, Need, SizedType, Value};
@@ -59,6 +60,7 @@ impl Evaluator<'_> {
         requires answers { AreAnswers self.old.meanings.items }
         requires answer { IsAnswer meaning }
         ensures others { IsPlaced (setting_of self.old) number (setting_of self.new) }
+        ensures faults { OnOk result ((setting_of self.new).faults ≡ faults_with (setting_of self.old).faults meaning) }
         ensures there { OnOk result (number < vec_len self.old.meanings → meaning_at self.new.meanings.items number ≡ told meaning) }
         ensures answers { AreAnswers self.new.meanings.items }
     {
@@ -73,7 +75,8 @@ impl Evaluator<'_> {
     // Tells a fault, which is told once.
     fn told(&mut self, meaning: Answer) -> Result<Answer, AllocError>
         requires { IsAnswer meaning }
-        ensures keeps { setting_of self.new ≡ setting_of self.old }
+        ensures faults { OnOk result (setting_of self.new ≡ with_faults (setting_of self.old) meaning) }
+        ensures kept { OnErr result (setting_of self.new ≡ setting_of self.old) }
         ensures told { IfOk result (λ a. a ≡ told meaning) }
         ensures answer { IfOk result IsAnswer }
     {

@@ -1,6 +1,6 @@
 //! Walks the steps of expressions, whose answers wait on a stack of their own.
 
-ghost use Rattle.std.specs.Prelude.{if◌then◌else◌, [], ◌∷◌, ◌++◌, ◌≡◌, ◌<◌, ◌≤◌, ◌+◌, ◌&&◌, All, IfOk, IsSome, MatchBool, None, OnOk, Some, false, is_some, map, replicate, unwrap_or, vec_len};
+ghost use Rattle.std.specs.Prelude.{if◌then◌else◌, [], ◌∷◌, ◌++◌, ◌≡◌, ◌<◌, ◌≤◌, ◌+◌, ◌&&◌, All, IfOk, IsSome, MatchBool, None, OnErr, OnOk, Some, false, is_some, map, replicate, unwrap_or, vec_len};
 ghost use Rattle.std.specs.Bool.{OnTrue};
 ghost use Rattle.std.specs.List.Sorted.{IsSortedByKey};
 ghost use Rattle.std.specs.Option.{option_map};
@@ -11,17 +11,21 @@ ghost use Rattle.wgsl_apply.specs.Refused.{is_of_numbers as is_number_refusal};
 ghost use Rattle.wgsl_scalar.specs.Literals.{literal_of};
 ghost use Rattle.wgsl_values.specs.View.{value_of as val_of};
 ghost use Rattle.wgsl_source.specs.Readings.{extent_at, word_at};
-ghost use Rattle.wgsl_eval.specs.Answers.{AreAnswers, IsAnswer, IsFault, IsFaultOf, IsFaultWith, IsSkipped, IsSoundOutcome, IsSoundValue, IsUnready, guard_for, meaning_at, outcome_in, value_in};
-ghost use Rattle.wgsl_eval.specs.Evaluated.{AreEvaluated, setting_before, values_of};
+ghost use Rattle.wgsl_source.specs.declared.literal.Literal.TheVariants as literals;
+ghost use Rattle.wgsl_eval.specs.Answers.{AreAnswers, IsAnswer, IsFault, IsFaultOf, IsFaultWith, IsSkippedFor, IsSoundOutcome, IsSoundValue, IsUnready, guard_for, meaning_at, outcome_in, value_in};
+ghost use Rattle.wgsl_eval.specs.Calls.{IsCopy, IsLanguageType};
+ghost use Rattle.wgsl_eval.specs.Evaluated.{IsEvaluated, of_wgsl, setting_before, values_of};
 ghost use Rattle.wgsl_eval.specs.Evaluation.{has_value, value_names};
-ghost use Rattle.wgsl_eval.specs.Evaluators.{setting_of};
-ghost use Rattle.wgsl_eval.specs.Given.{IsConverted, IsCopy, IsJudged, IsLanguageType, IsNamed, IsOfNumber, IsOfOne, IsOfTwo, IsOfValue, IsOfValues, UnlessRefused, below, is_decided, language_value, top};
+ghost use Rattle.wgsl_eval.specs.Evaluators.{is_obeyed, setting_of};
+ghost use Rattle.wgsl_eval.specs.Given.{IsConverted, IsJudged, IsLanguageName, IsNamed, IsOfLiteral, IsOfNumber, IsOfOne, IsOfTwo, IsOfValue, IsOfValues, UnlessRefused, below, is_decided, top};
 ghost use Rattle.wgsl_eval.specs.Waitings.{AreWaiting, IsCharged, IsDone, IsWaiting, Stands, work_of};
-ghost use Rattle.wgsl_eval.specs.Meanings.{AreDeclared};
+ghost use Rattle.wgsl_eval.specs.Meanings.{AreDeclared, with_faults};
+ghost use Rattle.wgsl_eval.specs.Messages.{AreTold};
+ghost use Rattle.wgsl_eval.specs.Reasons.{is_wide};
 ghost use Rattle.wgsl_eval.specs.Runs.{IsFound};
 ghost use Rattle.wgsl_eval.specs.TypeNames.{predeclared_type};
 
-use crate::answer::{Answer, Guard, Need, Size, SizedType, Skip, Value};
+use crate::answer::{Answer, Guard, Need, Part, Size, SizedType, Skip, Value};
 use crate::assertions::Assertion;
 use crate::message::{Message, Messages};
 use crate::opaque::is_opaque;
@@ -104,7 +108,7 @@ pub fn evaluate(
     ensures count { IfOk result (λ e. vec_len e.messages ≤ 100) }
     ensures sorted { IfOk result (λ e. IsSortedByKey (λ m. m.start) nat_cmp e.messages.items) }
     ensures names { IfOk result (λ e. map (λ v. v.token) e.values.items ≡ value_names reading.now stage 0 reading.now.declared) }
-    ensures values { IfOk result (λ e. AreEvaluated reading.now stage is_strict e.values.items) }
+    ensures evaluated { IfOk result (IsEvaluated reading.now (of_wgsl stage is_strict)) }
     ensures sound { IfOk result (λ e. All (λ v. IsSoundOutcome v.outcome) e.values.items) }
 {
     let settings = Settings {
@@ -120,7 +124,13 @@ pub fn evaluate_in(
     alloc: Global,
     reading: &Reading<'_>,
     settings: Settings,
-) -> Result<Evaluation, AllocError> {
+) -> Result<Evaluation, AllocError>
+    ensures count { IfOk result (λ e. vec_len e.messages ≤ 100) }
+    ensures sorted { IfOk result (λ e. IsSortedByKey (λ m. m.start) nat_cmp e.messages.items) }
+    ensures names { IfOk result (λ e. map (λ v. v.token) e.values.items ≡ value_names reading.now settings.stage 0 reading.now.declared) }
+    ensures evaluated { IfOk result (IsEvaluated reading.now settings) }
+    ensures sound { IfOk result (λ e. All (λ v. IsSoundOutcome v.outcome) e.values.items) }
+{
     let mut evaluator = Evaluator::new(alloc, reading, settings)?;
     evaluator.declare_all()?;
     let asserts = evaluator.assert_all()?;
@@ -134,7 +144,7 @@ impl<'a> Evaluator<'a> {
         reading: &'a Reading<'a>,
         settings: Settings,
     ) -> Result<Evaluator<'a>, AllocError>
-        ensures unknown { IfOk result (λ e. setting_of e ≡ setting_before reading.entry.now stage is_strict) }
+        ensures unknown { IfOk result (λ e. setting_of e ≡ setting_before reading.entry.now settings) }
         ensures answers { IfOk result (λ e. AreAnswers e.meanings.items) }
     {
         Ok(Evaluator {
@@ -167,6 +177,8 @@ impl<'a> Evaluator<'a> {
         requires { AreAnswers self.meanings.items }
         ensures count { IfOk result (λ e. vec_len e.messages ≤ 100) }
         ensures sorted { IfOk result (λ e. IsSortedByKey (λ m. m.start) nat_cmp e.messages.items) }
+        ensures told { IfOk result (λ e. AreTold (setting_of self.entry).faults e.messages.items) }
+        ensures asserts { IfOk result (λ e. e.asserts ≡ asserts) }
         ensures names { IfOk result (λ e. map (λ v. v.token) e.values.items ≡ value_names self.entry.reading.now self.entry.stage 0 self.entry.reading.now.declared) }
         ensures values { IfOk result (λ e. e.values.items ≡ values_of (setting_of self.entry) 0 self.entry.reading.now.declared) }
         ensures sound { IfOk result (λ e. All (λ v. IsSoundOutcome v.outcome) e.values.items) }
@@ -263,8 +275,9 @@ impl Evaluator<'_> {
           start = (extent_at self.now.reading.now token).start;
           end = (extent_at self.now.reading.now token).end;
           need = need;
+          part = Part.Expression;
         }) }
-        ensures skipped { IsSkipped result }
+        ensures skipped { IsSkippedFor need result }
         ensures answer { IsAnswer result }
     {
         Answer::Skipped(Skip::new(self.reading.extent(token), need))
@@ -320,7 +333,12 @@ impl Evaluator<'_> {
         token: usize,
         answer: Answer,
         text: &str,
-    ) -> Result<Answer, AllocError> {
+    ) -> Result<Answer, AllocError>
+        requires { IsAnswer answer }
+        ensures keeps { setting_of self.new ≡ setting_of self.old }
+        ensures beyond { IfOk result (λ a. MatchBool (is_obeyed self.old.dialect self.old.is_strict) (IsFault a) (a ≡ answer)) }
+        ensures answer { IfOk result IsAnswer }
+    {
         if self.dialect == Dialect::Crate {
             return Ok(answer);
         }
@@ -355,7 +373,8 @@ impl Evaluator<'_> {
     }
 
     fn number(&mut self, token: usize) -> Result<Answer, AllocError>
-        ensures number { IfOk result (IsOfNumber (word_at self.now.reading.now token)) }
+        ensures keeps { setting_of self.new ≡ setting_of self.old }
+        ensures number { IfOk result (IsOfNumber (setting_of self.old) (word_at self.old.reading.now token)) }
         ensures answer { IfOk result IsAnswer }
     {
         match self.reading.literal(token) {
@@ -365,11 +384,16 @@ impl Evaluator<'_> {
         }
     }
 
-    fn integer(&mut self, token: usize, literal: LiteralInstance) -> Result<Answer, AllocError> {
+    fn integer(&mut self, token: usize, literal: LiteralInstance) -> Result<Answer, AllocError>
+        ensures keeps { setting_of self.new ≡ setting_of self.old }
+        ensures literal { IfOk result (IsOfLiteral (setting_of self.old) (literals.Integer literal)) }
+        ensures answer { IfOk result IsAnswer }
+    {
         let answer = value_of(literal);
-        match literal {
-            LiteralInstance::I64(_) | LiteralInstance::U64(_) => self.beyond(token, answer, WIDE),
-            _ => Ok(answer),
+        if is_wide(literal) {
+            self.beyond(token, answer, WIDE)
+        } else {
+            Ok(answer)
         }
     }
 
@@ -389,7 +413,8 @@ impl Evaluator<'_> {
 
     // What the language has for a name.
     fn of_language(&mut self, token: usize) -> Result<Answer, AllocError>
-        ensures value { IfOk result (λ a. value_in a ≡ language_value (word_at self.now.reading.now token)) }
+        ensures keeps { setting_of self.new ≡ setting_of self.old }
+        ensures named { IfOk result (IsLanguageName (word_at self.old.reading.now token)) }
         ensures answer { IfOk result IsAnswer }
     {
         let reading = self.reading;
@@ -468,12 +493,12 @@ impl Evaluator<'_> {
         token: usize,
         named: Predeclared,
     ) -> Result<Answer, AllocError>
+        ensures keeps { setting_of self.new ≡ setting_of self.old }
         ensures ty { IfOk result (IsLanguageType (predeclared_type named)) }
-        ensures none { IfOk result (λ a. value_in a ≡ None) }
         ensures answer { IfOk result IsAnswer }
     {
         match predeclared(self.alloc, named)? {
-            Some(ty) if is_wide(named) => self.beyond(token, Answer::Type(ty), WIDE),
+            Some(ty) if is_wide_type(named) => self.beyond(token, Answer::Type(ty), WIDE),
             Some(ty) => Ok(Answer::Type(ty)),
             None => self.wrong_text(token, "this type takes a template list"),
         }
@@ -664,7 +689,8 @@ impl Evaluator<'_> {
 
     /// Tells what is wrong.
     pub(crate) fn tell(&mut self, answer: Answer) -> Result<(), AllocError>
-        ensures { setting_of self.new ≡ setting_of self.old }
+        ensures told { OnOk result (setting_of self.new ≡ with_faults (setting_of self.old) answer) }
+        ensures kept { OnErr result (setting_of self.new ≡ setting_of self.old) }
     {
         match answer {
             Answer::Wrong(message, _) => self.messages.add_fault(message),
@@ -674,8 +700,14 @@ impl Evaluator<'_> {
 }
 
 // Whether it is a type of integers of 64 bits.
-fn is_wide(named: Predeclared) -> bool {
+fn is_wide_type(named: Predeclared) -> bool {
     matches!(named, Predeclared::Scalar(Scalar::I64 | Scalar::U64))
+}
+
+fn is_wide(literal: LiteralInstance) -> bool
+    ensures { result ≡ is_wide literal }
+{
+    matches!(literal, LiteralInstance::I64(_) | LiteralInstance::U64(_))
 }
 
 /// A literal as an answer.

@@ -1,6 +1,6 @@
 //! What is told of a source.
 
-ghost use Rattle.std.specs.Prelude.{◌≡◌, ◌≤◌, All, IfOk, IsPermutation, OnErr, OnOk, vec_len};
+ghost use Rattle.std.specs.Prelude.{◌≡◌, ◌≤◌, [], All, IfOk, OnErr, OnOk, vec_len};
 ghost use Rattle.std.specs.List.Sorted.{IsSortedByKey};
 ghost use Rattle.std.specs.Ordering.{nat_cmp};
 ghost use Rattle.wgsl_eval.specs.Messages.{AreTold, IsWarning, added};
@@ -77,6 +77,7 @@ impl Messages {
     /// One fault more, where there are not too many.
     pub(crate) fn add_fault(&mut self, fault: Message) -> Result<(), AllocError>
         ensures added { OnOk result (self.new.faults.items ≡ added self.old.faults.items fault) }
+        ensures kept { OnErr result (self.new.faults.items ≡ self.old.faults.items) }
     {
         if self.faults.len() < MESSAGES {
             self.faults.push(fault)?;

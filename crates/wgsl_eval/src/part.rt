@@ -2,7 +2,8 @@
 
 ghost use Rattle.std.specs.Prelude.{[], ◌∷◌, ◌≡◌, ◌==◌, IfOk, IfSome, IsSomeAnd, MatchOption, Ok, map, Some, option_map};
 ghost use Rattle.std.specs.List.{position};
-ghost use Rattle.wgsl_eval.specs.Answers.{IsAnswer, IsFault, value_in};
+ghost use Rattle.wgsl_eval.specs.Answers.{IsAnswer, IsFault, IsValueWith, value_in};
+ghost use Rattle.wgsl_eval.specs.Constructors.{MayBe};
 ghost use Rattle.wgsl_eval.specs.Evaluators.{setting_of};
 ghost use Rattle.wgsl_eval.specs.Lists.{each_of};
 ghost use Rattle.wgsl_eval.specs.Parts.{
@@ -79,7 +80,7 @@ impl Evaluator<'_> {
     ) -> Result<Answer, AllocError>
         requires { IsWhole self.old.meanings.items whole.now }
         ensures keeps { setting_of self.new ≡ setting_of self.old }
-        ensures element { IfOk result (λ answer. IsSomeAnd (value_at self.old.meanings.items whole.now) (λ v. IfSome (value_in answer) (IsElement (value_of v.instance) (value_of index.now)))) }
+        ensures element { IfOk result (λ answer. IsSomeAnd (value_at self.old.meanings.items whole.now) (λ v. IsValueWith (IsElement (value_of v.instance) (value_of index.now)) answer)) }
         ensures answer { IfOk result IsAnswer }
     {
         match position_of(index) {
@@ -92,7 +93,7 @@ impl Evaluator<'_> {
     fn element_at(&mut self, token: usize, whole: &Answer, at: usize) -> Result<Answer, AllocError>
         requires { IsWhole self.old.meanings.items whole.now }
         ensures keeps { setting_of self.new ≡ setting_of self.old }
-        ensures part { IfOk result (λ answer. IsSomeAnd (value_at self.old.meanings.items whole.now) (λ v. IfSome (value_in answer) (λ w. viewed (index at ∷ []) (value_of v.instance) ≡ Ok w))) }
+        ensures part { IfOk result (λ answer. IsSomeAnd (value_at self.old.meanings.items whole.now) (λ v. IsValueWith (λ w. viewed (index at ∷ []) (value_of v.instance) ≡ Ok w) answer)) }
         ensures answer { IfOk result IsAnswer }
     {
         let value = self.whole(whole);
@@ -114,7 +115,7 @@ impl Evaluator<'_> {
         size: Size,
     ) -> Result<Answer, AllocError>
         requires { IsStorable (value_of whole.now) }
-        ensures part { IfOk result (λ answer. IfSome (value_in answer) (λ v. viewed (index at ∷ []) (value_of whole.now) ≡ Ok v)) }
+        ensures part { IfOk result (IsValueWith (λ v. viewed (index at ∷ []) (value_of whole.now) ≡ Ok v)) }
         ensures answer { IfOk result IsAnswer }
     {
         match indexed(whole, at) {
@@ -144,7 +145,7 @@ impl Evaluator<'_> {
         size: Size,
     ) -> Result<Answer, AllocError>
         requires { IsStorable (value_of whole.now) }
-        ensures part { IfOk result (λ answer. IfSome (value_in answer) (λ v. viewed (steps_of view.now) (value_of whole.now) ≡ Ok v)) }
+        ensures part { IfOk result (IsValueWith (λ v. viewed (steps_of view.now) (value_of whole.now) ≡ Ok v)) }
         ensures answer { IfOk result IsAnswer }
     {
         match whole.view(self.alloc, view) {
@@ -171,7 +172,7 @@ impl Evaluator<'_> {
     fn member_of(&mut self, token: usize, whole: &Answer) -> Result<Answer, AllocError>
         requires { IsWhole self.old.meanings.items whole.now }
         ensures keeps { setting_of self.new ≡ setting_of self.old }
-        ensures member { IfOk result (λ answer. IsSomeAnd (value_at self.old.meanings.items whole.now) (λ v. IfSome (value_in answer) (IsMember (word_at self.old.reading.now token) (value_of v.instance)))) }
+        ensures member { IfOk result (λ answer. IsSomeAnd (value_at self.old.meanings.items whole.now) (λ v. IsValueWith (IsMember (word_at self.old.reading.now token) (value_of v.instance)) answer)) }
         ensures answer { IfOk result IsAnswer }
     {
         let value = self.whole(whole);
@@ -185,7 +186,7 @@ impl Evaluator<'_> {
     fn member_at(&mut self, token: usize, whole: &Answer, size: Size) -> Result<Answer, AllocError>
         requires { IsWhole self.old.meanings.items whole.now }
         ensures keeps { setting_of self.new ≡ setting_of self.old }
-        ensures part { IfOk result (λ answer. IsSomeAnd (value_at self.old.meanings.items whole.now) (λ v. IfSome (value_in answer) (λ w. viewed (member (word_at self.old.reading.now token) ∷ []) (value_of v.instance) ≡ Ok w))) }
+        ensures part { IfOk result (λ answer. IsSomeAnd (value_at self.old.meanings.items whole.now) (λ v. IsValueWith (λ w. viewed (member (word_at self.old.reading.now token) ∷ []) (value_of v.instance) ≡ Ok w) answer)) }
         ensures answer { IfOk result IsAnswer }
     {
         if !self.spend(size.parts) {
@@ -199,7 +200,7 @@ impl Evaluator<'_> {
     #[tactic(auto, using(crate::proofs::PartLemmas::part_steps))]
     fn member_named(&self, token: usize, whole: &Instance, size: Size) -> Result<Answer, AllocError>
         requires { IsStorable (value_of whole.now) }
-        ensures part { IfOk result (λ answer. IfSome (value_in answer) (λ v. viewed (member (word_at self.now.reading.now token) ∷ []) (value_of whole.now) ≡ Ok v)) }
+        ensures part { IfOk result (IsValueWith (λ v. viewed (member (word_at self.now.reading.now token) ∷ []) (value_of whole.now) ≡ Ok v)) }
         ensures answer { IfOk result IsAnswer }
     {
         let word = self.reading.word(token);
@@ -214,7 +215,7 @@ impl Evaluator<'_> {
     }
 
     fn swizzle(&self, token: usize, vector: &VecInstance) -> Result<Answer, AllocError>
-        ensures swizzle { IfOk result (λ answer. IfSome (value_in answer) (IsSwizzle (word_at self.now.reading.now token) (parts (vec_view vector.now)))) }
+        ensures swizzle { IfOk result (IsValueWith (IsSwizzle (word_at self.now.reading.now token) (parts (vec_view vector.now)))) }
         ensures answer { IfOk result IsAnswer }
     {
         let word = self.reading.word(token);
@@ -222,9 +223,22 @@ impl Evaluator<'_> {
             return self.wrong_text(token, "components are named by xyzw or by rgba");
         };
         match picked(self.alloc, vector, letters, word.as_bytes())? {
-            Some(components) => components_of(self.alloc, components.as_slice()),
+            Some(components) => self.swizzled(token, components.as_slice()),
             None => self.no_component(token, vector),
         }
+    }
+
+    // One component, or a vector of more.
+    #[tactic(auto, using(crate::proofs::Swizzles::swizzle_steps))]
+    fn swizzled(&self, token: usize, components: &[LiteralInstance]) -> Result<Answer, AllocError>
+        ensures value { IfOk result (MayBe (Some (swizzled (map value_of_literal components.now)))) }
+        ensures answer { IfOk result IsAnswer }
+    {
+        if components.len() == 1 {
+            return Ok(component_answer(components[0]));
+        }
+        let vector = vector_of(self.alloc, components)?;
+        self.made_answer(token, vector, Size::ONE)
     }
 
     fn no_component(&self, token: usize, vector: &VecInstance) -> Result<Answer, AllocError>
@@ -376,32 +390,9 @@ fn position_among(letters: &[u8; 4], letter: u8) -> Option<usize>
     letters.iter().position(|own| *own == letter)
 }
 
-// One component, or a vector of more.
-#[tactic(auto, using(crate::proofs::Swizzles::swizzle_steps))]
-fn components_of(alloc: Global, components: &[LiteralInstance]) -> Result<Answer, AllocError>
-    ensures value { IfOk result (λ answer. IfSome (value_in answer) (λ v. v ≡ swizzled (map value_of_literal components.now))) }
-    ensures answer { IfOk result IsAnswer }
-{
-    if components.len() == 1 {
-        return Ok(component_answer(components[0]));
-    }
-    Ok(vector_answer(vector_of(alloc, components)?))
-}
-
 fn component_answer(component: LiteralInstance) -> Answer
     ensures value { value_in result ≡ Some (value_of_literal component) }
     ensures answer { IsAnswer result }
 {
     Answer::Value(Value::answered(Instance::from(component), Size::ONE))
-}
-
-fn vector_answer(vector: Option<Instance>) -> Answer
-    requires { IfSome vector (λ v. IsStorable (value_of v)) }
-    ensures value { value_in result ≡ option_map value_of vector }
-    ensures answer { IsAnswer result }
-{
-    match vector {
-        Some(vector) => Answer::Value(Value::answered(vector, Size::ONE)),
-        None => Answer::Faulty,
-    }
 }

@@ -1,10 +1,11 @@
 //! The types of structures (WGSL: structure types).
 
 ghost use Rattle.std.specs.Prelude.{◌≡◌, IfOk, map};
-ghost use Rattle.wgsl_rules.specs.View.{member_view, type_view};
+ghost use Rattle.wgsl_rules.specs.View.{fields_of, member_view, type_view};
 ghost use Rattle.wgsl_source.specs.Readings.{word_at};
 ghost use Rattle.wgsl_eval.specs.Answers.{AreAnswers, IsAnswer};
 ghost use Rattle.wgsl_eval.specs.Evaluators.{setting_of};
+ghost use Rattle.wgsl_eval.specs.Reasons.{have_floats};
 ghost use Rattle.wgsl_eval.specs.Structures.{IsFoundMember, IsStructure, IsStructureOf, IsTypeFound};
 
 use crate::answer::{Answer, SizedType};
@@ -42,7 +43,7 @@ impl Evaluator<'_> {
         let mut names = BTreeMap::new(self.alloc);
         for number in first..end {
             let Some(field) = self.reading.field(number) else {
-                return Ok(Answer::Faulty);
+                return self.wrong_text(name, "a member is missing");
             };
             let word = String::from_str(self.alloc, self.reading.word(field.name))?;
             if names.insert(word, ())?.is_some() {
@@ -65,6 +66,7 @@ impl Evaluator<'_> {
         members: Vec<StructMemberType>,
         together: Together,
     ) -> Result<Answer, AllocError>
+        requires { together.has_float ≡ have_floats (fields_of (map member_view members.items)) }
         ensures structure { IfOk result (IsStructureOf (word_at self.now.reading.now name) (map member_view members.items)) }
         ensures answer { IfOk result IsAnswer }
     {

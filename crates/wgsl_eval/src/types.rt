@@ -1,13 +1,15 @@
 //! The types that names and template lists stand for (WGSL: predeclared types and type-generators).
 
-ghost use Rattle.std.specs.Prelude.{◌≡◌, ◌↔◌, ◌||◌, IfOk, IsTrue};
+ghost use Rattle.std.specs.Prelude.{◌≡◌, ◌||◌, IfOk};
 ghost use Rattle.std.specs.Option.{option_map};
 ghost use Rattle.wgsl_rules.specs.View.{struct_view, type_view};
-ghost use Rattle.wgsl_eval.specs.TypeNames.{generated_type, predeclared_type, IsFloatType};
+ghost use Rattle.wgsl_source.specs.Names.{scalar_type};
+ghost use Rattle.wgsl_eval.specs.Reasons.{has_floats};
+ghost use Rattle.wgsl_eval.specs.TypeNames.{generated_type, predeclared_type};
 
 use crate::answer::{Size, SizedType};
 use std::alloc::{AllocError, Global};
-use wgsl_source::{Generator, Predeclared};
+use wgsl_source::{Generator, Predeclared, Scalar};
 use wgsl_types::{StructType, Type};
 
 /// The type that the language gives a name; `None` of a name that needs a template list.
@@ -18,13 +20,13 @@ pub(crate) fn predeclared(
     ensures { IfOk result (λ o. option_map (λ t. type_view t.ty) o ≡ predeclared_type named) }
 {
     match named {
-        Predeclared::Scalar(scalar) => Ok(Some(SizedType::scalar(scalar.ty()))),
+        Predeclared::Scalar(scalar) => Ok(Some(SizedType::scalar(scalar))),
         Predeclared::Vec(n, scalar) => {
-            let inner = SizedType::scalar(scalar.ty());
+            let inner = SizedType::scalar(scalar);
             Ok(Some(generated(alloc, Generator::Vec(n), inner, None)?))
         }
         Predeclared::Mat(columns, rows, scalar) => {
-            let inner = SizedType::scalar(scalar.ty());
+            let inner = SizedType::scalar(scalar);
             let generator = Generator::Mat(columns, rows);
             Ok(Some(generated(alloc, generator, inner, None)?))
         }
@@ -39,8 +41,7 @@ pub(crate) fn generated(
     inner: SizedType,
     count: Option<u32>,
 ) -> Result<SizedType, AllocError>
-    ensures ty { IfOk result (λ t. type_view t.ty ≡ generated_type generator (type_view inner.ty) count) }
-    ensures floats { IfOk result (λ t. t.has_float ≡ inner.has_float) }
+    ensures { IfOk result (λ t. type_view t.ty ≡ generated_type generator (type_view inner.ty) count) }
 {
     let SizedType {
         ty,
@@ -108,8 +109,8 @@ pub(crate) fn structure(
     ty: StructType,
     members: Together,
 ) -> Result<SizedType, AllocError>
-    ensures ty { IfOk result (λ t. type_view t.ty ≡ struct_view ty) }
-    ensures floats { IfOk result (λ t. t.has_float ≡ members.has_float) }
+    requires { members.has_float ≡ has_floats (struct_view ty) }
+    ensures { IfOk result (λ t. type_view t.ty ≡ struct_view ty) }
 {
     let nodes = members.nodes.saturating_add(1);
     Ok(SizedType {
@@ -124,9 +125,9 @@ pub(crate) fn structure(
     })
 }
 
-/// Whether it is a type of floats.
-pub(crate) fn is_float(ty: &Type) -> bool
-    ensures { IsTrue result ↔ IsFloatType (type_view ty.now) }
+/// Whether it is one of floats.
+pub(crate) fn is_float(scalar: Scalar) -> bool
+    ensures { result ≡ has_floats (scalar_type scalar) }
 {
-    matches!(ty, Type::F32 | Type::F16 | Type::F64 | Type::AbstractFloat)
+    matches!(scalar, Scalar::F32 | Scalar::F16 | Scalar::F64)
 }
