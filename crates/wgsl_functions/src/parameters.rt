@@ -33,21 +33,20 @@ ghost use Rattle.wgsl_values.specs.View.{value_of};
 
 use crate::builtin::{Builtin, OfOne, OfThree, OfTwo};
 use std::alloc::{AllocError, Global};
-use wgsl_apply::{automatic, component};
-use wgsl_types::{Instance, LiteralInstance, Ty, Type};
+use wgsl_apply::component;
+use wgsl_types::{Convert, Instance, LiteralInstance, Ty, Type};
 
 /// Whose rules hold where WGSL and the Rust crate differ.
 #[derive(Clone, Copy, Debug, PartialEq, Eq)]
 pub enum Dialect {
-    /// Those of WGSL: a function that has no overload for abstract integers takes an `i32` or a `u32` in their
-    /// place.
+    /// WGSL's: a function that has no overload for abstract integers takes an `i32` or a `u32` in their place.
     Wgsl,
-    /// Those of the Rust crate `wgsl-types`: each value is taken as it is.
+    /// Those of the Rust crate `wgsl-types`: each function takes the values as they are.
     Crate,
 }
 
 /// A value that is none of the type that its parameter takes it as.
-#[derive(Debug, Drop)]
+#[derive(Debug, PartialEq, Eq, Drop)]
 pub struct Unfit {
     pub value: Instance,
     pub ty: Type,
@@ -94,7 +93,7 @@ impl Parameter {
         let Some(ty) = self.type_for(alloc, value)? else {
             return Ok(None);
         };
-        match automatic(alloc, value, &ty)? {
+        match value.convert_to(alloc, &ty)? {
             Some(taken) => {
                 *value = taken;
                 Ok(None)
@@ -107,10 +106,10 @@ impl Parameter {
 impl Builtin {
     /// The values of a call as the parameters of the function take them, or the first that is none of the type
     /// that its parameter takes it as. In WGSL a parameter that is an `i32` or a `u32`, or a vector of them,
-    /// takes abstract integers as `i32`; one that is an `i32` or a `u32` alone takes them as that; and `insertBits`
-    /// takes an abstract one of its first two beside a concrete one as of that one's type. In the Rust crate, and
-    /// where no value is abstract, the values stay as they are, and no memory is taken. Nothing is promised of values
-    /// of which one may not be stored.
+    /// takes abstract integers as `i32`, and one that is an `i32` or a `u32` alone takes them as that; of the first two
+    /// values of `insertBits` an abstract one beside a concrete one stays, since the function converts it. In the
+    /// Rust crate's dialect, and where none is abstract, all values stay as they are, and no memory is taken.
+    /// Nothing is promised where one of them may not be stored.
     pub fn arguments(
         self,
         alloc: Global,
@@ -143,7 +142,7 @@ impl Builtin {
     }
 }
 
-// The first two values of `insertBits` are of one type, so that an abstract one takes that of a concrete one.
+// Those of `insertBits`, whose first two values are of one type.
 fn of_inserted(values: &[Instance]) -> &'static [Parameter]
     ensures { result.now ≡ of_inserted (map value_of values.now) }
 {
@@ -184,9 +183,8 @@ impl OfOne {
     }
 }
 
-/// The value that [`bitcast`](crate::bitcast) is called with as it takes it, or that it is none of that type: in WGSL an
-/// abstract integer, or a vector of them, is taken as `i32`. Nothing is promised of a value that may not be
-/// stored.
+/// The value that [`bitcast`](crate::bitcast) is called with as it takes it, or that it is none of the type: in WGSL
+/// abstract integers are taken as `i32`. Nothing is promised of a value that may not be stored.
 pub fn bitcast_argument(
     alloc: Global,
     dialect: Dialect,
