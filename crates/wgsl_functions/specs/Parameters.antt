@@ -49,14 +49,14 @@ of_one f = Any
 abbrev pub is_of_abstract : Val → Bool
 is_of_abstract v = is_abstract (component_of v 0)
 
--- e, the new bits, offset and count: the first two are of one type, so that an abstract one beside a concrete one is
--- converted with it by the function (WGSL: insertBits)
+-- e, newbits, offset and count. The first two are of one type: where one of them is concrete, the function converts the
+-- other to that type (WGSL: insertBits)
 abbrev pub of_inserted : List Val → List Parameter
 of_inserted (e ∷ bits ∷ vs) =
     if is_of_abstract e && is_of_abstract bits then I32OrU32 ∷ I32OrU32 ∷ U32 ∷ U32 ∷ [] else Any ∷ Any ∷ U32 ∷ U32 ∷ []
 of_inserted vs = Any ∷ Any ∷ U32 ∷ U32 ∷ []
 
--- those of a function that is called with the values, from the left; after them there is none of abstract integers
+-- those of a function that is called with the values, from the left; each after them takes its value as it is
 abbrev pub parameters : Builtin → List Val → List Parameter
 parameters (functions.One f) vs = of_one f ∷ []
 parameters (functions.Two twos.Dot4U8Packed) vs = U32 ∷ U32 ∷ []
@@ -67,8 +67,8 @@ parameters f vs = []
 
 -- ---- arguments
 
--- the type that a parameter takes abstract integers as; an i32 is preferred to a u32 (WGSL: conversion rank), and so
--- what they are by themselves (WGSL: concretization)
+-- the type that a parameter takes abstract integers as. An i32 is nearer to them than a u32 (WGSL: conversion rank),
+-- and is the concrete type of their own (WGSL: concretization)
 abbrev pub type_for : Parameter → Val → Option Ty
 type_for Any v = None
 type_for I32OrU32 v = Some (concretized (type_of v))
