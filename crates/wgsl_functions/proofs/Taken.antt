@@ -3,7 +3,7 @@ use Rattle.std.proofs.Common.{◌≡◌, ◌<◌, ◌≤◌, ◌⊎◌, inl, inr
 use Rattle.std.proofs.lemmas.Bool.{cases_lt}
 use Rattle.std.proofs.lemmas.List.{get_or-map, length-map, map-set}
 use Rattle.std.proofs.lemmas.List.Elements.{All-head, All-map, All-tail}
-use Rattle.wgsl_rules.specs.Refusals.{Outcome, Refusal, and_then}
+use Rattle.wgsl_rules.specs.Refusals.{Refusal}
 use Rattle.wgsl_rules.specs.Values.{Val, IsStorable}
 use Rattle.wgsl_functions.specs.Parameters.{each_taken, taken_as}
 use Rattle.wgsl_functions.specs.declared.parameters.Parameter.{Parameter}

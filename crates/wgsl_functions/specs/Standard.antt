@@ -1,5 +1,5 @@
 -- Where the standard refuses a function that the library answers.
-use Rattle.std.specs.Prelude.{ℕ, ◌+◌, nat_lt, Bool, true, false, not, ◌&&◌, ◌||◌, List, [], ◌∷◌, Option, Some, None, option_and_then, Ok}
+use Rattle.std.specs.Prelude.{ℕ, ◌+◌, nat_lt, Bool, true, false, not, ◌&&◌, ◌||◌, List, [], ◌∷◌, Option, Some, option_and_then, Ok}
 use Rattle.wgsl_apply.specs.Literals.{component_of, natural_of}
 use Rattle.wgsl_apply.specs.Standard.{is_runtime}
 use Rattle.wgsl_rules.specs.Kinds as kinds

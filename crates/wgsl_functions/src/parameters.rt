@@ -4,7 +4,6 @@ ghost use Rattle.std.specs.Prelude.{
   [],
   ◌∷◌,
   ◌≡◌,
-  ◌&&◌,
   All,
   IfOk,
   MatchOption,
@@ -13,7 +12,6 @@ ghost use Rattle.std.specs.Prelude.{
   map,
   option_map,
 };
-ghost use Rattle.wgsl_apply.specs.Literals.{component_of};
 ghost use Rattle.wgsl_functions.specs.Parameters.{
   IsTaken,
   arguments_in,

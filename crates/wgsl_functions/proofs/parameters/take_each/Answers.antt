@@ -1,4 +1,4 @@
-use Rattle.std.proofs.Common.{refl, ◌≡◌, ◌∙◌, ap, sym, rules, arith, ◌<◌, length, map}
+use Rattle.std.proofs.Common.{◌∙◌, arith, ◌<◌, length, map}
 use Rattle.std.proofs.lemmas.List.{length-set, get_or-set_same}
 use Rattle.wgsl_functions.proofs.Taken.{was_refused, was_taken, were_taken}
 use Rattle.wgsl_rules.specs.Refusals.{conv_overflow}
