@@ -1,10 +1,10 @@
 -- Where the standard refuses a function that the library answers.
-use Rattle.std.specs.Prelude.{ℕ, ◌+◌, nat_lt, Bool, true, false, not, ◌&&◌, ◌||◌, List, [], ◌∷◌, Option, Some, None, option_and_then, Ok}
+use Rattle.std.specs.Prelude.{ℕ, ◌+◌, nat_lt, Bool, true, false, not, ◌&&◌, ◌||◌, List, [], ◌∷◌, Option, Some, option_and_then, Ok}
 use Rattle.wgsl_apply.specs.Literals.{component_of, natural_of}
 use Rattle.wgsl_apply.specs.Standard.{is_runtime}
 use Rattle.wgsl_rules.specs.Kinds as kinds
 use Rattle.wgsl_rules.specs.Refusals.{Outcome}
-use Rattle.wgsl_rules.specs.Values.{Val, number}
+use Rattle.wgsl_rules.specs.Values.{Val, truth, number, vector}
 use Rattle.wgsl_rules.specs.declared.syntax.ShaderStage.{ShaderStage}
 use Rattle.wgsl_scalar.specs.Order.{is_greater}
 use Rattle.wgsl_functions.specs.declared.builtin.Builtin.{Builtin}
@@ -28,6 +28,12 @@ is_against_one ones.CountLeadingZeros v = is_abstract (component_of v 0)
 is_against_one ones.CountOneBits v = is_abstract (component_of v 0)
 is_against_one ones.CountTrailingZeros v = is_abstract (component_of v 0)
 is_against_one f v = false
+
+abbrev pub is_scalar_or_vector : Val → Bool
+is_scalar_or_vector (truth b) = true
+is_scalar_or_vector (number k z) = true
+is_scalar_or_vector (vector vs) = true
+is_scalar_or_vector v = false
 
 abbrev pub holds : Outcome Bool → Bool
 holds (Ok b) = b
@@ -55,12 +61,13 @@ abbrev pub is_field_outside : Val → Val → Bool
 is_field_outside offset count =
     is_past_32 (option_and_then natural_of (component_of offset 0)) (option_and_then natural_of (component_of count 0))
 
--- in const-expressions and override-expressions low is at most high, and a field lies inside (WGSL: numeric
--- builtin functions, `clamp`, `extractBits`, `insertBits`)
+-- a choice is between scalars or vectors (WGSL: select); in const-expressions and override-expressions low is at most
+-- high, and a field lies inside (WGSL: numeric builtin functions, `clamp`, `extractBits`, `insertBits`)
 abbrev pub is_against_function : Builtin → ShaderStage → List Val → Bool
 is_against_function (functions.One f) stage (e ∷ []) = is_against_one f e
 is_against_function (functions.Three threes.Clamp) stage (e ∷ low ∷ high ∷ []) =
     not (is_runtime stage) && is_any_above low high
+is_against_function (functions.Three threes.Select) stage (v ∷ w ∷ condition ∷ []) = not (is_scalar_or_vector v)
 is_against_function (functions.Three threes.ExtractBits) stage (e ∷ offset ∷ count ∷ []) =
     not (is_runtime stage) && is_field_outside offset count
 is_against_function functions.InsertBits stage (e ∷ bits ∷ offset ∷ count ∷ []) =

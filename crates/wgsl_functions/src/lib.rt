@@ -5,8 +5,10 @@
 mod builtin;
 mod conversion;
 mod names;
+mod parameters;
 mod standard;
 
 pub use builtin::{Builtin, OfOne, OfThree, OfTwo, bitcast, insert_bits};
 pub use conversion::written;
+pub use parameters::{Dialect, Unfit, bitcast_argument};
 pub use standard::against_function;

@@ -11,6 +11,7 @@ ghost use Rattle.wgsl_functions.specs.Standard.{
   is_against_one,
   is_any_above,
   is_field_outside,
+  is_scalar_or_vector,
   is_u32,
 };
 ghost use Rattle.wgsl_scalar.specs.Literals.{literal_of};
@@ -21,8 +22,9 @@ use wgsl_apply::{component, is_runtime, natural};
 use wgsl_types::{Instance, LiteralInstance, ShaderStage};
 
 /// What the standard says against a function of these values, in a stage, that the library accepts: the sign
-/// of a `u32`; counts of bits of an abstract integer; before a shader runs, a clamp with a component of low
-/// above that of high, and a field of bits past the width of 32.
+/// of a `u32`; counts of bits of an abstract integer, which [`Builtin::arguments`] leaves in the Rust crate's dialect
+/// alone; a choice between values that are no scalars and no vectors; before a shader runs, a clamp with a component
+/// of low above that of high, and a field of bits past the width of 32.
 pub fn against_function(
     function: Builtin,
     stage: ShaderStage,
@@ -33,6 +35,7 @@ pub fn against_function(
     match (function, values.len()) {
         (Builtin::One(function), 1) => against_one(function, &values[0]),
         (Builtin::Three(OfThree::Clamp), 3) => against_clamp(stage, &values[1], &values[2]),
+        (Builtin::Three(OfThree::Select), 3) => against_select(&values[0]),
         (Builtin::Three(OfThree::ExtractBits), 3) => against_field(stage, &values[1], &values[2]),
         (Builtin::InsertBits, 4) => against_field(stage, &values[2], &values[3]),
         _ => None,
@@ -78,6 +81,26 @@ fn against_clamp(stage: ShaderStage, low: &Instance, high: &Instance) -> Option<
         Some("the standard refuses low above high (WGSL: clamp)")
     } else {
         None
+    }
+}
+
+fn against_select(value: &Instance) -> Option<&'static str>
+    ensures { is_some result ≡ not (is_scalar_or_vector (value_of value.now)) }
+{
+    if is_scalar_or_vector(value) {
+        None
+    } else {
+        Some("the standard selects scalars and vectors alone (WGSL: select)")
+    }
+}
+
+fn is_scalar_or_vector(value: &Instance) -> bool
+    ensures { result ≡ is_scalar_or_vector (value_of value.now) }
+{
+    match value {
+        Instance::Literal(_) | Instance::Vec(_) => true,
+        Instance::Struct(_) | Instance::Array(_) | Instance::Mat(_) | Instance::Ptr(_) => false,
+        Instance::Ref(_) | Instance::Atomic(_) | Instance::Deferred(_) => false,
     }
 }
 
