@@ -9,7 +9,7 @@ use Rattle.wgsl_rules.specs.Values.{Val, array_of}
 use Rattle.wgsl_scalar.specs.Literals.{literal_of}
 use Rattle.wgsl_scalar.specs.declared.literal.LiteralInstance.{LiteralInstance}
 use Rattle.wgsl_values.specs.View.{vals_of}
-use Rattle.wgsl_eval.specs.Constructors.{array_made, common_array, common_matrix, common_vector, components_for, constructed, conversion_for, conversion_of, made_of, matrix_made, matrix_of, of_length, scalars_of, vector_made, vector_of}
+use Rattle.wgsl_eval.specs.Constructors.{array_made, common_array, common_scalars, common_vector, components_for, constructed, conversion_for, conversion_of, made_of, matrix_made, matrix_of, of_length, scalars_of, vector_made, vector_of}
 use Rattle.wgsl_eval.specs.Lists.{each_of}
 use Rattle.wgsl_eval.specs.declared.literals.Conversion.{Conversion}
 
@@ -46,9 +46,10 @@ pub common-vector-is : (n : ℕ) (vs cs ws : List Val) → (vs ≡ [] → ⊥) �
 common-vector-is n [] cs ws h k e = absurd (h refl)
 common-vector-is n (v ∷ vs) cs ws h k e = made-through vector_of (all_in_common converted) (of_length n (components_for n (v ∷ vs))) cs ws k e
 
-pub common-matrix-is : (c r : ℕ) (vs cs ws : List Val) → of_length (c * r) (scalars_of vs) ≡ Some cs → all_in_common converted cs ≡ Some ws
-    → common_matrix c r vs ≡ Some (matrix_of c r ws)
-common-matrix-is c r vs cs ws k e = made-through (matrix_of c r) (all_in_common converted) (of_length (c * r) (scalars_of vs)) cs ws k e
+-- the scalars of a matrix, where they have a common type
+pub common-scalars-are : (c r : ℕ) (vs cs ws : List Val) → of_length (c * r) (scalars_of vs) ≡ Some cs → all_in_common converted cs ≡ Some ws
+    → common_scalars c r vs ≡ Some ws
+common-scalars-are c r vs cs ws k e = ap (option_and_then (all_in_common converted)) k ∙ e
 
 pub common-array-is : (vs ws : List Val) → all_in_common converted vs ≡ Some ws → common_array vs ≡ Some (array_of false (vals_of ws))
 common-array-is vs ws e = rw e refl

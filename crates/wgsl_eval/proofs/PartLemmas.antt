@@ -14,7 +14,8 @@ use Rattle.wgsl_values.specs.declared.inst.MatInstance.{MatInstance}
 use Rattle.wgsl_values.specs.declared.inst.StructInstance.{StructInstance}
 use Rattle.wgsl_values.specs.declared.inst.VecInstance.{VecInstance}
 use Rattle.wgsl_values.specs.declared.view.MemView.{MemView, Whole, Member, Index, the_lemmas as view_lemmas}
-use Rattle.wgsl_eval.specs.Answers.{value_in}
+use Rattle.wgsl_eval.proofs.Answered.{fault-with, faults-with, value-with, with-mapped}
+use Rattle.wgsl_eval.specs.Answers.{IsFault, IsSoundValue, IsValueWith, value_in}
 use Rattle.wgsl_eval.specs.Parts.{IsElement, IsMember, IsSwizzle, position_in}
 use Rattle.wgsl_eval.specs.declared.answer.Answer.{Answer}
 use Rattle.wgsl_eval.specs.declared.answer.Value.{Value}
@@ -35,22 +36,35 @@ one_member n b h = steps_of-Member n b ∙ ap (λ (v : MemView). member (string_
 element-is : (v i w : Val) (at : ℕ) → position_in i ≡ Some at → viewed (index at ∷ []) v ≡ Ok w → IsElement v i w
 element-is v i w at h k = rw h k
 
-maybe-element : (v i : Val) (at : ℕ) (o : Option Val) → position_in i ≡ Some at → IfSome o (λ w. viewed (index at ∷ []) v ≡ Ok w) → IfSome o (IsElement v i)
-maybe-element v i at None h k = tt
-maybe-element v i at (Some w) h k = element-is v i w at h k
-
 whole-element : (o : Option Value) (i : Val) (at : ℕ) (a : Answer) → position_in i ≡ Some at
-    → IsSomeAnd o (λ v. IfSome (value_in a) (λ w. viewed (index at ∷ []) (value_of v.instance) ≡ Ok w)) → IsSomeAnd o (λ v. IfSome (value_in a) (IsElement (value_of v.instance) i))
-whole-element (Some v) i at a h k = maybe-element (value_of v.instance) i at (value_in a) h k
+    → IsSomeAnd o (λ v. IsValueWith (λ w. viewed (index at ∷ []) (value_of v.instance) ≡ Ok w) a) → IsSomeAnd o (λ v. IsValueWith (IsElement (value_of v.instance) i) a)
+whole-element (Some v) i at a h k =
+    with-mapped (λ w. viewed (index at ∷ []) (value_of v.instance) ≡ Ok w) (IsElement (value_of v.instance) i) a (λ w e. element-is (value_of v.instance) i w at h e) k
 whole-element None i at a h k = k
 
 pub whole-elements : (o : Option Value) (i : Val) (at : ℕ) (r : Result Answer AllocError) → position_in i ≡ Some at
-    → IfOk r (λ a. IsSomeAnd o (λ v. IfSome (value_in a) (λ w. viewed (index at ∷ []) (value_of v.instance) ≡ Ok w)))
-    → IfOk r (λ a. IsSomeAnd o (λ v. IfSome (value_in a) (IsElement (value_of v.instance) i)))
+    → IfOk r (λ a. IsSomeAnd o (λ v. IsValueWith (λ w. viewed (index at ∷ []) (value_of v.instance) ≡ Ok w) a))
+    → IfOk r (λ a. IsSomeAnd o (λ v. IsValueWith (IsElement (value_of v.instance) i) a))
 whole-elements o i at (Ok a) h k = whole-element o i at a h k
 whole-elements o i at (Err e) h k = tt
 
-pub ruleset element_steps = (whole-elements)
+whole-fault : (o : Option Value) (Q : Val → Val → Type 0) (a : Answer) → IsSomeAnd o IsSoundValue → IsFault a → IsSomeAnd o (λ v. IsValueWith (Q (value_of v.instance)) a)
+whole-fault (Some v) Q a h k = fault-with (Q (value_of v.instance)) a k
+whole-fault None Q a h k = absurd h
+
+-- a fault in place of an element
+pub no-elements : (o : Option Value) (i : Val) (r : Result Answer AllocError) → IsSomeAnd o IsSoundValue → IfOk r IsFault
+    → IfOk r (λ a. IsSomeAnd o (λ v. IsValueWith (IsElement (value_of v.instance) i) a))
+no-elements o i (Ok a) h k = whole-fault o (λ v. IsElement v i) a h k
+no-elements o i (Err e) h k = tt
+
+-- a fault in place of a part
+pub no-parts : (o : Option Value) (steps : List Step) (r : Result Answer AllocError) → IsSomeAnd o IsSoundValue → IfOk r IsFault
+    → IfOk r (λ a. IsSomeAnd o (λ v. IsValueWith (λ w. viewed steps (value_of v.instance) ≡ Ok w) a))
+no-parts o steps (Ok a) h k = whole-fault o (λ v w. viewed steps v ≡ Ok w) a h k
+no-parts o steps (Err e) h k = tt
+
+pub ruleset element_steps = (whole-elements, no-elements)
 
 -- ---- members
 
@@ -59,26 +73,23 @@ member-is : (name : List ℕ) (v w : Val) → viewed (member name ∷ []) v ≡ 
 member-is name (vector vs) w h = cc
 member-is name v w h = h
 
-maybe-member : (name : List ℕ) (v : Val) (o : Option Val) → IfSome o (λ w. viewed (member name ∷ []) v ≡ Ok w) → IfSome o (IsMember name v)
-maybe-member name v None k = tt
-maybe-member name v (Some w) k = member-is name v w k
-
 whole-member : (name : List ℕ) (o : Option Value) (a : Answer)
-    → IsSomeAnd o (λ v. IfSome (value_in a) (λ w. viewed (member name ∷ []) (value_of v.instance) ≡ Ok w)) → IsSomeAnd o (λ v. IfSome (value_in a) (IsMember name (value_of v.instance)))
-whole-member name (Some v) a k = maybe-member name (value_of v.instance) (value_in a) k
+    → IsSomeAnd o (λ v. IsValueWith (λ w. viewed (member name ∷ []) (value_of v.instance) ≡ Ok w) a) → IsSomeAnd o (λ v. IsValueWith (IsMember name (value_of v.instance)) a)
+whole-member name (Some v) a k =
+    with-mapped (λ w. viewed (member name ∷ []) (value_of v.instance) ≡ Ok w) (IsMember name (value_of v.instance)) a (λ w e. member-is name (value_of v.instance) w e) k
 whole-member name None a k = k
 
 pub whole-members : (name : List ℕ) (o : Option Value) (r : Result Answer AllocError)
-    → IfOk r (λ a. IsSomeAnd o (λ v. IfSome (value_in a) (λ w. viewed (member name ∷ []) (value_of v.instance) ≡ Ok w)))
-    → IfOk r (λ a. IsSomeAnd o (λ v. IfSome (value_in a) (IsMember name (value_of v.instance))))
+    → IfOk r (λ a. IsSomeAnd o (λ v. IsValueWith (λ w. viewed (member name ∷ []) (value_of v.instance) ≡ Ok w) a))
+    → IfOk r (λ a. IsSomeAnd o (λ v. IsValueWith (IsMember name (value_of v.instance)) a))
 whole-members name o (Ok a) k = whole-member name o a k
 whole-members name o (Err e) k = tt
 
 pub members-swizzled : (name : List ℕ) (v : Instance) (x : VecInstance) (r : Result Answer AllocError) → v ≡ Vec x
-    → IfOk r (λ a. IfSome (value_in a) (IsSwizzle name (parts (vec_view x)))) → IfOk r (λ a. IfSome (value_in a) (IsMember name (value_of v)))
+    → IfOk r (IsValueWith (IsSwizzle name (parts (vec_view x)))) → IfOk r (IsValueWith (IsMember name (value_of v)))
 members-swizzled name v x r is k =
     let whole : vector (parts (vec_view x)) ≡ value_of v = ap (λ y. vector (parts y)) (vec_view-is x) ∙ sym (vec_view-is x) ∙ sym (value_of-Vec x) ∙ sym (ap value_of is) in
-    subst (λ (y : Val). IfOk r (λ a. IfSome (value_in a) (IsMember name y))) whole k
+    subst (λ (y : Val). IfOk r (IsValueWith (IsMember name y))) whole k
 
 pub ruleset member_steps = (whole-members, members-swizzled)
 
@@ -144,20 +155,19 @@ lent-structure o f name v a is h =
 
 -- ---- answers of parts
 
-part-is : (steps : List Step) (v x : Val) (o : Option Val) → viewed steps v ≡ Ok x → o ≡ Some x → IfSome o (λ w. viewed steps v ≡ Ok w)
-part-is steps v x o h k =
-    let P : Option Val → Type 0 = λ q. IfSome q (λ w. viewed steps v ≡ Ok w) in
-    subst P (sym k) h
-
 pub parts-are : (steps : List Step) (v x : Val) (r : Result Answer AllocError) → viewed steps v ≡ Ok x → IfOk r (λ a. value_in a ≡ Some x)
-    → IfOk r (λ a. IfSome (value_in a) (λ w. viewed steps v ≡ Ok w))
-parts-are steps v x (Ok a) h k = part-is steps v x (value_in a) h k
+    → IfOk r (IsValueWith (λ w. viewed steps v ≡ Ok w))
+parts-are steps v x (Ok a) h k = value-with (λ w. viewed steps v ≡ Ok w) x a k h
 parts-are steps v x (Err e) h k = tt
 
 pub parts-along : (steps : List Step) (v : Val) (view : MemView) (r : Result Answer AllocError) → steps_of view ≡ steps
-    → IfOk r (λ a. IfSome (value_in a) (λ w. viewed (steps_of view) v ≡ Ok w)) → IfOk r (λ a. IfSome (value_in a) (λ w. viewed steps v ≡ Ok w))
+    → IfOk r (IsValueWith (λ w. viewed (steps_of view) v ≡ Ok w)) → IfOk r (IsValueWith (λ w. viewed steps v ≡ Ok w))
 parts-along steps v view r e h =
-    let P : List Step → Type 0 = λ ss. IfOk r (λ a. IfSome (value_in a) (λ w. viewed ss v ≡ Ok w)) in
+    let P : List Step → Type 0 = λ ss. IfOk r (IsValueWith (λ w. viewed ss v ≡ Ok w)) in
     subst P e h
 
-pub ruleset part_steps = (viewed-storable, parts-are, parts-along, one_index, one_member)
+-- a refused part
+pub parts-refused : (steps : List Step) (v : Val) (r : Result Answer AllocError) → IfOk r IsFault → IfOk r (IsValueWith (λ w. viewed steps v ≡ Ok w))
+parts-refused steps v r h = faults-with (λ w. viewed steps v ≡ Ok w) r h
+
+pub ruleset part_steps = (viewed-storable, parts-are, parts-along, parts-refused, one_index, one_member)

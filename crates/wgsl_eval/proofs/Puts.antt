@@ -8,7 +8,8 @@ use Rattle.std.proofs.lemmas.Option.{slice_get-get_or, slice_get_cases, slice_ge
 use Rattle.wgsl_eval.specs.Answers.{meaning_at}
 use Rattle.wgsl_eval.specs.Evaluation.{name_at}
 use Rattle.wgsl_eval.specs.Evaluators.{Setting}
-use Rattle.wgsl_eval.specs.Meanings.{IsDeclared, IsFoundAt, IsPlaced, IsSecond, told, with_meaning}
+use Rattle.wgsl_eval.specs.Meanings.{IsDeclared, IsFoundAt, IsPlaced, IsSecond, told, with_faults, with_meaning}
+use Rattle.wgsl_eval.specs.Messages.{faults_with}
 use Rattle.wgsl_eval.specs.declared.answer.Answer.{Answer}
 use Rattle.wgsl_eval.specs.declared.answer.Answer.TheVariants as answers
 
@@ -22,24 +23,45 @@ slice_get-set_other xs i k v ne =
 pub placed_same : (s t : Setting) (n : ℕ) → t ≡ s → IsPlaced s n t
 placed_same s t n e =
     let P : Setting → Type 0 = λ u. IsPlaced s n u in
-    subst P (sym e) (record { source = refl; stage = refl; is_strict = refl; count = refl; others = λ k ne. refl })
+    subst P (sym e) (record { source = refl; stage = refl; is_strict = refl; dialect = refl; count = refl; others = λ k ne. refl })
+
+-- a fault is told in no place
+pub placed_told : (s t : Setting) (n : ℕ) (a : Answer) → t ≡ with_faults s a → IsPlaced s n t
+placed_told s t n a e =
+    let P : Setting → Type 0 = λ u. IsPlaced s n u in
+    subst P (sym e) (record { source = refl; stage = refl; is_strict = refl; dialect = refl; count = refl; others = λ k ne. refl })
 
 placed : (s : Setting) (n : ℕ) (m : Answer) → IsPlaced s n (with_meaning s n m)
 placed s n m = record {
   source = refl;
   stage = refl;
   is_strict = refl;
+  dialect = refl;
   count = length-set s.meanings n m;
   others = λ k ne. slice_get-set_other s.meanings n k m ne;
 }
 
-pub placed_put : (s t u : Setting) (n : ℕ) (m : Answer) → t ≡ s → u ≡ with_meaning t n m → IsPlaced s n u
-placed_put s t u n m e f =
-    let P : Setting → Type 0 = λ v. IsPlaced s n v in
-    subst P (sym (f ∙ ap (λ x. with_meaning x n m) e)) (placed s n m)
+placed_both : (s t u : Setting) (n : ℕ) → IsPlaced s n t → IsPlaced t n u → IsPlaced s n u
+placed_both s t u n h k = record {
+  source = k.source ∙ h.source;
+  stage = k.stage ∙ h.stage;
+  is_strict = k.is_strict ∙ h.is_strict;
+  dialect = k.dialect ∙ h.dialect;
+  count = k.count ∙ h.count;
+  others = λ i ne. k.others i ne ∙ h.others i ne;
+}
 
-pub meaning_put : (s t u : Setting) (n : ℕ) (m a : Answer) → t ≡ s → u ≡ with_meaning t n m → m ≡ a → n < length s.meanings → meaning_at u.meanings n ≡ a
-meaning_put s t u n m a e f is h =
+pub placed_put : (s t u : Setting) (n : ℕ) (m a : Answer) → t ≡ with_faults s a → u ≡ with_meaning t n m → IsPlaced s n u
+placed_put s t u n m a e f =
+    let P : Setting → Type 0 = λ v. IsPlaced t n v in
+    placed_both s t u n (placed_told s t n a e) (subst P (sym f) (placed t n m))
+
+-- the faults are those behind what was told
+pub faults_put : (s t u : Setting) (n : ℕ) (m a : Answer) → t ≡ with_faults s a → u ≡ with_meaning t n m → u.faults ≡ faults_with s.faults a
+faults_put s t u n m a e f = ap (λ (x : Setting). x.faults) f ∙ ap (λ (x : Setting). x.faults) e
+
+pub meaning_put : (s t u : Setting) (n : ℕ) (m a b : Answer) → t ≡ with_faults s b → u ≡ with_meaning t n m → m ≡ a → n < length s.meanings → meaning_at u.meanings n ≡ a
+meaning_put s t u n m a b e f is h =
     ap (λ (x : Setting). meaning_at x.meanings n) (f ∙ ap (λ x. with_meaning x n m) e)
     ∙ unwrap_or-slice_get (slice_set s.meanings n m) n answers.Faulty
     ∙ get_or-set_same s.meanings n m answers.Faulty h
@@ -54,14 +76,14 @@ found_second s n h = record { others = placed_same s s n refl; second = λ _. re
 
 pub found_first : {T E : Type 0} (result : Result T E) (s t u : Setting) (n len : ℕ) (m : Answer)
     → t ≡ s → length t.meanings ≡ len → IsPlaced t n u → OnOk result (n < len → meaning_at u.meanings n ≡ told m)
-    → IsDeclared s (name_at s.source n) (slice_get s.source.declared n) m → (IsSecond s.source n → ⊥) → OnOk result (IsFoundAt s n u)
-found_first (Ok x) s t u n len m e counted others there declared not =
+    → OnOk result (u.faults ≡ faults_with t.faults m) → IsDeclared s (name_at s.source n) (slice_get s.source.declared n) m → (IsSecond s.source n → ⊥) → OnOk result (IsFoundAt s n u)
+found_first (Ok x) s t u n len m e counted others there faults declared not =
     let P : Setting → Type 0 = λ v. IsPlaced v n u in
     let Q : Setting → Type 0 = λ v. n < length v.meanings in
     let R : ℕ → Type 0 = λ k. n < k in
     record {
       others = subst P e others;
       second = λ h. absurd (not h);
-      first = λ _. (m, declared, λ h. there (subst R counted (subst Q (sym e) h)));
+      first = λ _. (m, declared, λ h. there (subst R counted (subst Q (sym e) h)), faults ∙ ap (λ (x : Setting). faults_with x.faults m) e);
     }
-found_first (Err x) s t u n len m e counted others there declared not = tt
+found_first (Err x) s t u n len m e counted others there faults declared not = tt

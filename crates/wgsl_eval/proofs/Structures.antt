@@ -1,6 +1,6 @@
 -- What is no type, and what is a structure.
 use Rattle.std.specs.declared.alloc.AllocError.{AllocError}
-use Rattle.std.proofs.Common.{◌≡◌, ◌∙◌, ◌+◌, ◌-◌, ◌⊎◌, inl, inr, ℕ, List, [], ◌∷◌, ◌++◌, Option, Some, Result, Ok, Err, IfOk, length, map, refl, sym, ap, subst}
+use Rattle.std.proofs.Common.{◌≡◌, ◌∙◌, ◌+◌, ◌-◌, ◌≤◌, ◌<◌, ◌⊎◌, inl, inr, ℕ, Bool, true, false, ◌||◌, List, [], ◌∷◌, ◌++◌, Option, Some, Result, Ok, Err, IfOk, length, map, refl, sym, ap, subst}
 use Rattle.std.specs.Prelude.{IsSomeAnd, slice_get}
 use Rattle.std.proofs.lemmas.List.{length-map, map-append}
 use Rattle.wgsl_rules.specs.Types.{struct}
@@ -9,11 +9,12 @@ use Rattle.wgsl_rules.specs.declared.ty.StructMemberType.{StructMemberType}
 use Rattle.wgsl_source.specs.Readings.{word_at}
 use Rattle.wgsl_source.specs.declared.module.Field.{Field}
 use Rattle.wgsl_eval.proofs.Told.{all_pushed}
-use Rattle.wgsl_eval.specs.Answers.{IsFault}
+use Rattle.wgsl_eval.specs.Answers.{IsAnswer, IsFault, IsNoType, value_in}
 use Rattle.wgsl_eval.specs.Evaluators.{Setting}
 use Rattle.wgsl_eval.specs.Lists.{AllFrom}
-use Rattle.wgsl_eval.specs.Meanings.{IsNoType}
-use Rattle.wgsl_eval.specs.Structures.{IsMember, IsMemberAt, IsNone, IsStructure, IsStructureOf}
+use Rattle.wgsl_eval.specs.Reasons.{has_floats, have_floats}
+use Rattle.wgsl_eval.specs.Runs.{IsFound}
+use Rattle.wgsl_eval.specs.Structures.{IsFoundMember, IsMember, IsMemberAt, IsNoMember, IsNone, IsNotGiven, IsNotTyped, IsStructure, IsStructureOf, IsWithout}
 use Rattle.wgsl_eval.specs.declared.answer.Answer.{Answer}
 use Rattle.wgsl_eval.specs.declared.answer.Answer.TheVariants as answers
 use Rattle.wgsl_eval.specs.declared.answer.SizedType.{SizedType}
@@ -52,19 +53,37 @@ pub no_types-nothing : (a : Answer) (r : Result Answer AllocError) → ((t : Siz
 no_types-nothing a (Ok b) n h = no_type-nothing a b n h
 no_types-nothing a (Err e) n h = tt
 
-pub nothing-structure : (s : Setting) (name first end : ℕ) (a : Answer) → IsNone a → IsStructure s name first end a
-nothing-structure s name first end (answers.Type t) h = absurd h
-nothing-structure s name first end a h = h
+-- ---- structures
 
-pub nothings-structure : (s : Setting) (name first end : ℕ) (r : Result Answer AllocError) → IfOk r IsNone → IfOk r (IsStructure s name first end)
-nothings-structure s name first end (Ok a) h = nothing-structure s name first end a h
-nothings-structure s name first end (Err e) h = tt
+nothing-structure : (s : Setting) (name first end : ℕ) (a : Answer) → IsNone a → IsFault a ⊎ IsWithout s first end a → IsStructure s name first end a
+nothing-structure s name first end (answers.Type t) h k = absurd h
+nothing-structure s name first end (answers.Value v) h k = absurd h
+nothing-structure s name first end (answers.Named n) h k = (h, k)
+nothing-structure s name first end (answers.Bitcast t) h k = absurd h
+nothing-structure s name first end (answers.Variable v) h k = absurd h
+nothing-structure s name first end (answers.Skipped s0) h k = (h, k)
+nothing-structure s name first end (answers.Wrong m g) h k = (h, k)
+nothing-structure s name first end answers.Faulty h k = (h, k)
+
+pub faults-structure : (s : Setting) (name first end : ℕ) (r : Result Answer AllocError) → IfOk r IsFault → IfOk r (IsStructure s name first end)
+faults-structure s name first end (Ok a) h = nothing-structure s name first end a (fault-nothing a h) (inl h)
+faults-structure s name first end (Err e) h = tt
+
+-- a member is none
+pub member-none : (s t : Setting) (name first end n : ℕ) (o : Option Field) (f : Field) (a : Answer) → t ≡ s → o ≡ slice_get t.source.fields n → o ≡ Some f → first ≤ n → n < end
+    → IsNone a → IsNoMember t f a → IsStructure s name first end a
+member-none s t name first end n o f a same got is from to none h =
+    let P : Setting → Type 0 = λ u. IsNoMember u f a in
+    let Q : Option Field → Type 0 = λ q. IsSomeAnd q (λ g. IsNoMember s g a) in
+    let found : Some f ≡ slice_get s.source.fields n = sym is ∙ got ∙ ap (λ (u : Setting). slice_get u.source.fields n) same in
+    nothing-structure s name first end a none (inr (n, from, to, subst Q found (subst P same h)))
 
 -- the structure of the members that are there
 structured : (s : Setting) (name first end : ℕ) (word : List ℕ) (ms : List Member) (a : Answer) → word ≡ word_at s.source name → length ms ≡ end - first
     → AllFrom (IsMemberAt s) first ms → IsStructureOf word ms a → IsStructure s name first end a
 structured s name first end word ms (answers.Type t) e c m h = (ms, h ∙ ap (λ w. struct w (fields_of ms)) e, c, m)
-structured s name first end word ms a e c m h = h
+structured s name first end word ms (answers.Wrong k g) e c m h = (tt, inl h)
+structured s name first end word ms a e c m h = absurd h
 
 pub structures : (s : Setting) (name first end : ℕ) (word : List ℕ) (ms : List Member) (r : Result Answer AllocError) → word ≡ word_at s.source name
     → length ms ≡ end - first → AllFrom (IsMemberAt s) first ms → IfOk r (IsStructureOf word ms) → IfOk r (IsStructure s name first end)
@@ -89,3 +108,25 @@ members_pushed s t first n ms all m o f same got is h e put before =
     let count : n ≡ first + length (map member_view ms) = e ∙ ap (λ k. first + k) (sym (length-map ms member_view)) in
     let mapped : map member_view ms ++ member_view m ∷ [] ≡ map member_view all = sym (map-append member_view ms (m ∷ [])) ∙ ap (map member_view) (sym put) in
     subst P mapped (all_pushed (IsMemberAt s) first (map member_view ms) (member_view m) before (member_at s t n _ o f (member_view m) same got is count h))
+
+or-false : (b : Bool) → b || false ≡ b
+or-false true = refl
+or-false false = refl
+
+or-in : (a b c : Bool) → (a || b) || c ≡ a || (b || c)
+or-in true b c = refl
+or-in false b c = refl
+
+floats_last : (ms : List StructMemberType) (m : StructMemberType)
+    → have_floats (fields_of (map member_view ms)) || has_floats (member_view m).ty ≡ have_floats (fields_of (map member_view (ms ++ m ∷ [])))
+floats_last [] m = sym (or-false (has_floats (member_view m).ty))
+floats_last (n ∷ ms) m =
+    or-in (has_floats (member_view n).ty) (have_floats (fields_of (map member_view ms))) (has_floats (member_view m).ty)
+    ∙ ap (λ x. has_floats (member_view n).ty || x) (floats_last ms m)
+
+-- floats are in a structure where they are in a member
+pub floats_more : (ms all : List StructMemberType) (m : StructMemberType) (b c d : Bool) → all ≡ ms ++ m ∷ [] → b ≡ have_floats (fields_of (map member_view ms)) → c ≡ has_floats (member_view m).ty
+    → d ≡ (b || c) → d ≡ have_floats (fields_of (map member_view all))
+floats_more ms all m b c d put h k e =
+    let P : List StructMemberType → Type 0 = λ xs. d ≡ have_floats (fields_of (map member_view xs)) in
+    subst P (sym put) (e ∙ ap (λ x. x || c) h ∙ ap (λ x. have_floats (fields_of (map member_view ms)) || x) k ∙ floats_last ms m)

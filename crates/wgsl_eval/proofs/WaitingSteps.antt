@@ -256,9 +256,9 @@ done_call_name s old new list token n a taken given sound =
     done_list s (steps.Call token callees.Name n) n old new list a (λ xs b. IsCall s (word_at s.source token) xs b) (λ before b g. g) (λ before. refl) taken given sound
 
 pub done_call_answer : (s : Setting) (old mid new list : List Answer) (token n : ℕ) (o a : Answer)
-    → IsTaken s.meanings n old list mid → IsTaken s.meanings 1 mid (o ∷ []) new → IsCallOf o list a → IsAnswer a → IsDone s (steps.Call token callees.Answer n) old new a
+    → IsTaken s.meanings n old list mid → IsTaken s.meanings 1 mid (o ∷ []) new → IsCallOf s.dialect o list a → IsAnswer a → IsDone s (steps.Call token callees.Answer n) old new a
 done_call_answer s old mid new list token n o a taken one given sound =
-    done_call s (steps.Call token callees.Answer n) n old mid new list o a (λ x xs b. IsCallOf x xs b) (λ before b g. g) (λ before. refl) taken one given sound
+    done_call s (steps.Call token callees.Answer n) n old mid new list o a (λ x xs b. IsCallOf s.dialect x xs b) (λ before b g. g) (λ before. refl) taken one given sound
 
 pub done_member : (s : Setting) (old new : List Answer) (token : ℕ) (o a : Answer)
     → IsTaken s.meanings 1 old (o ∷ []) new → IsMemberOf (word_at s.source token) o a → IsAnswer a → IsDone s (steps.Member token) old new a

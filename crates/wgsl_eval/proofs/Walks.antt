@@ -1,19 +1,27 @@
 -- Walks over steps and declarations, one after the other.
-use Rattle.std.proofs.Common.{◌≡◌, ℕ, Bool, false, Result, Ok, Err, IfOk, suc, ◌+◌, ◌<◌, List, [], ◌∷◌, ◌++◌, length, get_or, drop, refl, sym, ap, ◌∙◌, subst, add-one, drop-cons}
+use Rattle.std.proofs.Common.{◌≡◌, ℕ, Bool, true, false, Result, Ok, Err, IfOk, MatchBool, suc, ◌+◌, ◌<◌, List, [], ◌∷◌, ◌++◌, Global, Vec, length, get_or, drop, refl, sym, ap, ◌∙◌, subst, add-one, append-nil, append_assoc, drop-cons}
 use Rattle.std.proofs.Math.Seq.{drop-length}
-use Rattle.wgsl_rules.specs.declared.syntax.ShaderStage.{ShaderStage}
-use Rattle.wgsl_rules.specs.declared.syntax.ShaderStage.TheVariants as stages
+use Rattle.wgsl_rules.specs.Values.{Val}
+use Rattle.wgsl_values.specs.View.{value_of}
 use Rattle.wgsl_source.specs.Readings.{Outline}
+use Rattle.wgsl_source.specs.declared.expression.Span.{Span}
 use Rattle.wgsl_source.specs.declared.expression.Step.{Step}
-use Rattle.wgsl_eval.specs.Evaluated.{AreDeclarations, AreEvaluated, AreItems, setting_before, values_of}
+use Rattle.wgsl_eval.specs.Answers.{AreAnswers}
+use Rattle.wgsl_eval.specs.Assertions.{AreAsserted, IsAsserted, IsAssertion, IsTold, is_truth}
+use Rattle.wgsl_eval.specs.Evaluated.{AreDeclarations, AreItems, IsEvaluated, setting_before, values_of}
 use Rattle.wgsl_eval.specs.Evaluation.{value_names}
 use Rattle.wgsl_eval.specs.Evaluators.{Setting}
 use Rattle.wgsl_eval.specs.Given.{IsGiven, rest_of}
 use Rattle.wgsl_eval.specs.Meanings.{AreDeclared, IsFoundAt}
+use Rattle.wgsl_eval.specs.Messages.{AreTold}
 use Rattle.wgsl_eval.specs.Runs.{IsRun}
 use Rattle.wgsl_eval.specs.declared.answer.Answer.{Answer}
-use Rattle.wgsl_eval.specs.declared.declarations.Item.{Item}
-use Rattle.wgsl_eval.specs.declared.evaluator.Evaluated.{Evaluated}
+use Rattle.wgsl_eval.specs.declared.answer.Answer.TheVariants as answers
+use Rattle.wgsl_eval.specs.declared.assertions.Assertion.{Assertion}
+use Rattle.wgsl_eval.specs.declared.assertions.Assertion.TheVariants as asserts
+use Rattle.wgsl_eval.specs.declared.declarations.Declarations.{Declarations}
+use Rattle.wgsl_eval.specs.declared.evaluator.Evaluation.{Evaluation}
+use Rattle.wgsl_eval.specs.declared.settings.Settings.{Settings}
 
 dropped_at : {A : Type 0} (xs : List A) (i : ℕ) (d : A) → i < length xs → drop i xs ≡ get_or xs i d ∷ drop (i + 1) xs
 dropped_at xs i d h = rw add-one (drop-cons xs i d h)
@@ -67,8 +75,78 @@ pub same_stage : (ns : List ℕ) (s after : Setting) → AreDeclared s ns after 
 same_stage [] s after e = ap (λ (x : Setting). x.stage) e
 same_stage (n ∷ ns) s after d = same_stage ns d.0 after d.2 ∙ d.1.others.stage
 
+-- ---- assertions
+
+-- the assertions so far, with those that are left, are all of them
+pub record AreAssertedSoFar (s : Setting) (all : List Span) (i : ℕ) (found : List Assertion) (now : Setting) : Type 0 where
+  pub asserted : (left : List Assertion) (last : Setting) → AreAsserted now (drop i all) left last → AreAsserted s all (found ++ left) last
+
+pub asserted_none : (s : Setting) (all : List Span) → AreAssertedSoFar s all 0 [] s
+asserted_none s all = record { asserted = λ left last r. r }
+
+pub asserted_more : (s : Setting) (all : List Span) (i : ℕ) (d span : Span) (found more : List Assertion) (a : Assertion) (now next : Setting)
+    → i < length all → span ≡ get_or all i d → more ≡ found ++ a ∷ [] → AreAssertedSoFar s all i found now → IsAsserted now span a next → AreAssertedSoFar s all (i + 1) more next
+asserted_more s all i d span found more a now next h is added so_far one = record {
+  asserted = λ left last r.
+      let P : List Span → Type 0 = λ ss. AreAsserted now ss (a ∷ left) last in
+      let Q : List Assertion → Type 0 = λ xs. AreAsserted s all xs last in
+      let R : Span → Type 0 = λ x. IsAsserted now x a next in
+      let same : found ++ a ∷ left ≡ more ++ left = sym (append_assoc found (a ∷ []) left) ∙ ap (λ xs. xs ++ left) (sym added) in
+      subst Q same (so_far.asserted (a ∷ left) last (subst P (sym (dropped_at all i d h)) (next, subst R is one, r)));
+}
+
+pub asserted_all : (s : Setting) (all : List Span) (i : ℕ) (found : List Assertion) (now : Setting) → i ≡ length all → AreAssertedSoFar s all i found now → AreAsserted s all found now
+asserted_all s all i found now e so_far =
+    let P : List Span → Type 0 = λ ss. AreAsserted now ss [] now in
+    let Q : List Assertion → Type 0 = λ xs. AreAsserted s all xs now in
+    let none : drop i all ≡ [] = ap (λ k. drop k all) e ∙ drop-length all in
+    subst Q (append-nil found) (so_far.asserted [] now (subst P (sym none) refl))
+
+-- all but the faults stays
+abbrev pub IsLike : Setting → Setting → Type 0
+IsLike s t = t ≡ record s { faults = t.faults }
+
+like_itself : (s t : Setting) → t ≡ s → IsLike s t
+like_itself s t e = let P : Setting → Type 0 = λ u. IsLike s u in subst P (sym e) refl
+
+like_told : (s t : Setting) → IsTold s t → IsLike s t
+like_told s t h = let P : Setting → Type 0 = λ u. IsLike s u in subst P (sym h.told) refl
+
+like_both : (s t u : Setting) → IsLike s t → IsLike t u → IsLike s u
+like_both s t u h k = k ∙ ap (λ (x : Setting). record x { faults = u.faults }) h
+
+held_like : (s t : Setting) (v : Val) (b : Bool) (a : Assertion) → MatchBool b ((a ≡ asserts.Holds) × (t ≡ s)) ((a ≡ asserts.Faulty) × IsTold s t) → IsLike s t
+held_like s t v true a h = like_itself s t h.1
+held_like s t v false a h = like_told s t h.1
+
+assertion_like : (s t : Setting) (x : Answer) (a : Assertion) → IsAssertion s x a t → IsLike s t
+assertion_like s t (answers.Value v) a h = held_like s t (value_of v.instance) (is_truth (value_of v.instance)) a h
+assertion_like s t (answers.Skipped k) a h = like_itself s t h.1
+assertion_like s t (answers.Wrong m g) a h = let P : Setting → Type 0 = λ u. IsLike s u in subst P (sym h.1) refl
+assertion_like s t answers.Faulty a h = like_itself s t h.1
+assertion_like s t (answers.Type u) a h = like_told s t h.1
+assertion_like s t (answers.Bitcast u) a h = like_told s t h.1
+assertion_like s t (answers.Variable v) a h = like_told s t h.1
+assertion_like s t (answers.Named n) a h = like_told s t h.1
+
+pub asserted_like : (s : Setting) (spans : List Span) (xs : List Assertion) (t : Setting) → AreAsserted s spans xs t → IsLike s t
+asserted_like s [] [] t h = like_itself s t h
+asserted_like s (span ∷ spans) (a ∷ xs) t h =
+    like_both s h.0 t (assertion_like s h.0 h.1.0 a h.1.2) (asserted_like h.0 spans xs t h.2)
+asserted_like s [] (a ∷ xs) t h = absurd h
+asserted_like s (span ∷ spans) [] t h = absurd h
+
+-- the meanings are answers still
+pub asserted_answers : (s t : Setting) (span : Span) (a : Assertion) → IsAsserted s span a t → AreAnswers s.meanings → AreAnswers t.meanings
+asserted_answers s t span a h k =
+    let P : List Answer → Type 0 = λ ms. AreAnswers ms in
+    let like : IsLike s t = assertion_like s t h.0 a h.2 in
+    subst P (sym (ap (λ (x : Setting). x.meanings) like)) k
+
+-- ---- all that is told
+
 -- the same declarations have values
-same_names : (ns : List ℕ) (s t u : Setting) → AreDeclared s ns t → u ≡ t
+same_names : (ns : List ℕ) (s t u : Setting) → AreDeclared s ns t → IsLike t u
     → value_names s.source s.stage 0 s.source.declared ≡ value_names u.source u.stage 0 u.source.declared
 same_names ns s t u d e =
     let source : u.source ≡ s.source = ap (λ (x : Setting). x.source) e ∙ same_source ns s t d in
@@ -76,26 +154,37 @@ same_names ns s t u d e =
     sym (ap (λ o. value_names o u.stage 0 o.declared) source ∙ ap (λ g. value_names s.source g 0 s.source.declared) stage)
 
 -- from nothing that is known to all that is told
-pub named : {T E : Type 0} (o : Outline) (stage : ShaderStage) (is_strict : Bool) (f : T → List ℕ) (s t u : Setting) (r : Result T E)
-    → s ≡ setting_before o stage is_strict → AreDeclared s s.source.order t → u ≡ t
-    → IfOk r (λ x. f x ≡ value_names u.source u.stage 0 u.source.declared) → IfOk r (λ x. f x ≡ value_names o stage 0 o.declared)
-named o stage is_strict f s t u (Err x) e d same h = tt
-named o stage is_strict f s t u (Ok x) e d same h =
-    h ∙ sym (same_names s.source.order s t u d same) ∙ ap (λ (v : Setting). value_names v.source v.stage 0 v.source.declared) e
+pub named : {T E : Type 0} (o : Outline) (given : Settings) (f : T → List ℕ) (s t u : Setting) (found : List Assertion) (r : Result T E)
+    → s ≡ setting_before o given → AreDeclared s s.source.order t → AreAsserted t t.source.asserts found u
+    → IfOk r (λ x. f x ≡ value_names u.source u.stage 0 u.source.declared) → IfOk r (λ x. f x ≡ value_names o given.stage 0 o.declared)
+named o given f s t u found (Err x) e d asserted h = tt
+named o given f s t u found (Ok x) e d asserted h =
+    h ∙ sym (same_names s.source.order s t u d (asserted_like t t.source.asserts found u asserted)) ∙ ap (λ (v : Setting). value_names v.source v.stage 0 v.source.declared) e
 
-pub evaluated : {T E : Type 0} (o : Outline) (stage : ShaderStage) (is_strict : Bool) (f : T → List Evaluated) (s t u : Setting) (r : Result T E)
-    → s ≡ setting_before o stage is_strict → AreDeclared s s.source.order t → u ≡ t
-    → IfOk r (λ x. f x ≡ values_of u 0 u.source.declared) → IfOk r (λ x. AreEvaluated o stage is_strict (f x))
-evaluated o stage is_strict f s t u (Err x) e d same h = tt
-evaluated o stage is_strict f s t u (Ok x) e d same h =
+pub evaluated : {E : Type 0} (o : Outline) (given : Settings) (s t u : Setting) (found : Vec Assertion Global) (r : Result Evaluation E)
+    → s ≡ setting_before o given → AreDeclared s s.source.order t → AreAsserted t t.source.asserts found.items u
+    → IfOk r (λ e. e.values.items ≡ values_of u 0 u.source.declared) → IfOk r (λ e. e.asserts ≡ found) → IfOk r (λ e. AreTold u.faults e.messages.items)
+    → IfOk r (IsEvaluated o given)
+evaluated o given s t u found (Err x) e d asserted h k m = tt
+evaluated o given s t u found (Ok x) e d asserted h k m =
     let P : Setting → Type 0 = λ v. AreDeclared v v.source.order t in
     let source : t.source ≡ o = same_source s.source.order s t d ∙ ap (λ (v : Setting). v.source) e in
-    (t, subst P e d, h ∙ ap (λ (v : Setting). values_of v 0 v.source.declared) same ∙ ap (λ (p : Outline). values_of t 0 p.declared) source)
+    let Q : Outline → Type 0 = λ p. AreAsserted t p.asserts found.items u in
+    let R : Vec Assertion Global → Type 0 = λ xs. AreAsserted t o.asserts xs.items u in
+    let like : IsLike t u = asserted_like t t.source.asserts found.items u asserted in
+    record {
+      after = t;
+      declared = subst P e d;
+      last = u;
+      asserts = subst R (sym k) (subst Q source asserted);
+      values = h ∙ ap (λ (p : Outline). values_of u 0 p.declared) (ap (λ (v : Setting). v.source) like ∙ source);
+      messages = m;
+    }
 
-pub declared : {T E : Type 0} (o : Outline) (f : T → List Item) (s t : Setting) (r : Result T E)
-    → s ≡ setting_before o stages.Const false → AreDeclared s s.source.order t
-    → IfOk r (λ x. AreItems t (f x)) → IfOk r (λ x. AreDeclarations o (f x))
-declared o f s t (Err x) e d h = tt
-declared o f s t (Ok x) e d h =
+pub declared : {E : Type 0} (o : Outline) (given : Settings) (s t : Setting) (r : Result Declarations E)
+    → s ≡ setting_before o given → AreDeclared s s.source.order t
+    → IfOk r (λ d. AreItems t d.items.items) → IfOk r (λ d. AreTold t.faults d.messages.items) → IfOk r (AreDeclarations o given)
+declared o given s t (Err x) e d h m = tt
+declared o given s t (Ok x) e d h m =
     let P : Setting → Type 0 = λ v. AreDeclared v v.source.order t in
-    (t, subst P e d, h)
+    record { after = t; declared = subst P e d; items = h; messages = m }

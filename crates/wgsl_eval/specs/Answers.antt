@@ -48,7 +48,7 @@ IsFault (answers.Wrong m guard) = IsFaultMessage m
 IsFault a = ⊥
 
 abbrev pub IsFaultWith : Guard → Answer → Type 0
-IsFaultWith guard (answers.Wrong m g) = g ≡ guard
+IsFaultWith guard (answers.Wrong m g) = IsFaultMessage m × (g ≡ guard)
 IsFaultWith guard a = ⊥
 
 abbrev pub guard_for : Bool → Guard

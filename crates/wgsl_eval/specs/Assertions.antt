@@ -44,5 +44,5 @@ IsAsserted s span assertion next = (a : Answer) × IsFound s span a × IsAsserti
 -- these are found one after the other
 abbrev pub AreAsserted : Setting → List Span → List Assertion → Setting → Type 0
 AreAsserted s [] [] last = last ≡ s
-AreAsserted s (span ∷ spans) (a ∷ as) last = (next : Setting) × IsAsserted s span a next × AreAsserted next spans as last
-AreAsserted s spans as last = ⊥
+AreAsserted s (span ∷ spans) (a ∷ xs) last = (next : Setting) × IsAsserted s span a next × AreAsserted next spans xs last
+AreAsserted s spans xs last = ⊥

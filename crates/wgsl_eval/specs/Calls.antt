@@ -2,9 +2,11 @@
 use Rattle.std.specs.Prelude.{◌≡◌, ◌⊎◌, ℕ, IsTrue, List, [], ◌∷◌, map, Option, Some, None, MatchBool, MatchOption, codes}
 use Rattle.std.specs.Result.{result_ok}
 use Rattle.wgsl_apply.specs.Literals.{natural_of}
-use Rattle.wgsl_functions.specs.Functions.{bitcast_to, count_of, of_values}
+use Rattle.wgsl_functions.specs.Functions.{count_of}
 use Rattle.wgsl_functions.specs.Names.{IsNameOf}
+use Rattle.wgsl_functions.specs.Parameters.{bitcast_in, of_values_in}
 use Rattle.wgsl_functions.specs.declared.builtin.Builtin.{Builtin}
+use Rattle.wgsl_functions.specs.declared.parameters.Dialect.{Dialect}
 use Rattle.wgsl_rules.specs.Types.{Ty}
 use Rattle.wgsl_rules.specs.Values.{Val}
 use Rattle.wgsl_rules.specs.View.{type_view}
@@ -79,28 +81,28 @@ abbrev pub IsGeneratedOf : Generator → Answer → Option ℕ → Answer → Ty
 IsGeneratedOf g (answers.Type t) count answer = IsTypeOr (generated_type g (type_view t.ty) count) answer
 IsGeneratedOf g inner count answer = IsNoType inner answer
 
--- an array of as many elements as a number says, which is one from 1 on
-abbrev pub IsCounted : Answer → Option ℕ → Answer → Type 0
-IsCounted inner None answer = IsFault answer
-IsCounted inner (Some n) answer = IsGeneratedOf generators.Array inner (Some n) answer
-
 -- what a count that is no value leaves: one that is skipped is so as a count
 abbrev pub IsNotCounted : Answer → Answer → Type 0
 IsNotCounted (answers.Skipped s) answer = answer ≡ answers.Skipped (record s { part = parts.Count })
-IsNotCounted (answers.Variable v) (answers.Skipped s) = (s.need ≡ needs.Variable) × (s.part ≡ parts.Count)
-IsNotCounted (answers.Variable v) answer = ⊥
 IsNotCounted count answer = IsUnready count answer
 
--- what a generator gives for the answers in a list
+-- an array of as many elements as the count says, or a fault in its place
+abbrev pub IsCounted : Answer → Answer → Answer → Type 0
+IsCounted inner (answers.Value v) answer =
+    MatchOption (natural_of (value_of v.instance)) (IsFault answer) (λ n. IsFault answer ⊎ IsGeneratedOf generators.Array inner (Some n) answer)
+IsCounted inner count answer = IsNotCounted count answer
+
+-- what a generator gives for the answers in a list: for one, or of an array for two
 abbrev pub IsGenerated : Generator → List Answer → Answer → Type 0
-IsGenerated g (inner ∷ []) answer = IsGeneratedOf g inner None answer
-IsGenerated generators.Array (inner ∷ answers.Value v ∷ []) answer = IsCounted inner (natural_of (value_of v.instance)) answer
-IsGenerated generators.Array (inner ∷ count ∷ []) answer = IsNotCounted count answer
-IsGenerated g given answer = IsFault answer
+IsGenerated g given answer =
+    IsFault answer
+    ⊎ (((inner : Answer) × (given ≡ inner ∷ []) × IsGeneratedOf g inner None answer)
+    ⊎ ((inner : Answer) × (count : Answer) × (g ≡ generators.Array) × (given ≡ inner ∷ count ∷ []) × IsCounted inner count answer))
 
 abbrev pub IsBitcastOf : List Answer → Answer → Type 0
-IsBitcastOf (answers.Type t ∷ []) answer = answer ≡ answers.Bitcast t
-IsBitcastOf given answer = IsFault answer
+IsBitcastOf given (answers.Bitcast t) = given ≡ answers.Type t ∷ []
+IsBitcastOf given (answers.Wrong m guard) = IsFaultMessage m
+IsBitcastOf given answer = ⊥
 
 -- what a name of the language gives with a list: that of a generator, `bitcast`, or a type without constants
 abbrev pub IsTemplateOf : List ℕ → List Answer → Answer → Type 0
@@ -118,43 +120,43 @@ IsTemplate s word given answer =
 -- ---- calls of answers
 
 -- the bits of one value as a value of the type
-abbrev pub bitcast_alone : Ty → List Val → Option Val
-bitcast_alone t (v ∷ []) = result_ok (bitcast_to t v)
-bitcast_alone t vs = None
+abbrev pub bitcast_alone : Dialect → Ty → List Val → Option Val
+bitcast_alone d t (v ∷ []) = result_ok (bitcast_in d t v)
+bitcast_alone d t vs = None
 
 -- what this gives for values, or needs floats where the type has them
 abbrev pub IsOfType : Ty → (List Val → Option Val) → List Val → Answer → Type 0
 IsOfType t f vs answer = MatchBool (has_floats t) (IsSkippedFor needs.Float answer) (MayBe (f vs) answer)
 
 -- a type is called for a value of it, and `bitcast` for one with the bits of another
-abbrev pub IsCallOf : Answer → List Answer → Answer → Type 0
-IsCallOf (answers.Type t) given answer = IsForValues given (IsOfType (type_view t.ty) (constructed (type_view t.ty))) answer
-IsCallOf (answers.Bitcast t) given answer = IsForValues given (IsOfType (type_view t.ty) (bitcast_alone (type_view t.ty))) answer
-IsCallOf (answers.Value v) given answer = IsFault answer
-IsCallOf callee given answer = answer ≡ callee
+abbrev pub IsCallOf : Dialect → Answer → List Answer → Answer → Type 0
+IsCallOf d (answers.Type t) given answer = IsForValues given (IsOfType (type_view t.ty) (constructed (type_view t.ty))) answer
+IsCallOf d (answers.Bitcast t) given answer = IsForValues given (IsOfType (type_view t.ty) (bitcast_alone d (type_view t.ty))) answer
+IsCallOf d (answers.Value v) given answer = IsFault answer
+IsCallOf d callee given answer = answer ≡ callee
 
 -- ---- calls of names
 
-abbrev pub function_of : Builtin → ShaderStage → List Val → Option Val
-function_of f stage vs = result_ok (of_values f stage vs)
+abbrev pub function_of : Dialect → Builtin → ShaderStage → List Val → Option Val
+function_of d f stage vs = result_ok (of_values_in d f stage vs)
 
 -- a builtin function of integers gives what it gives for the values; another one is skipped
 abbrev pub IsFunctionCall : Setting → Builtin → List Answer → Answer → Type 0
 IsFunctionCall s f given answer =
-    MatchOption (count_of f) (IsSkippedFor (need_of f) answer) (λ n. IsOfValuesOf (function_of f s.stage) given answer)
+    MatchOption (count_of f) (IsSkippedFor (need_of f) answer) (λ n. IsOfValuesOf (function_of s.dialect f s.stage) given answer)
 
 -- a type that the language names; a name that needs a template list is a fault
 abbrev pub IsLanguageType : Option Ty → Answer → Type 0
 IsLanguageType o answer = MatchOption o (IsFault answer) (λ t. IsTypeOr t answer)
 
 -- a call of an answer of which this holds
-abbrev pub IsSomeCall : (Answer → Type 0) → List Answer → Answer → Type 0
-IsSomeCall P given answer = (callee : Answer) × P callee × IsCallOf callee given answer
+abbrev pub IsSomeCall : Dialect → (Answer → Type 0) → List Answer → Answer → Type 0
+IsSomeCall d P given answer = (callee : Answer) × P callee × IsCallOf d callee given answer
 
 -- a type by its name makes values in it, and a generator those in the type that they give
 abbrev pub IsTypeCall : Setting → Predeclared → List Answer → Answer → Type 0
 IsTypeCall s (named.Generator g) given answer = IsForValues given (IsInferred s.dialect g) answer
-IsTypeCall s p given answer = IsSomeCall (IsLanguageType (predeclared_type p)) given answer
+IsTypeCall s p given answer = IsSomeCall s.dialect (IsLanguageType (predeclared_type p)) given answer
 
 -- the word names a builtin function, or a type
 abbrev pub IsLanguageCall : Setting → List ℕ → List Answer → Answer → Type 0
@@ -180,4 +182,4 @@ abbrev pub IsCall : Setting → List ℕ → List Answer → Answer → Type 0
 IsCall s word given answer =
     MatchOption (first_named s.source word)
     (IsLanguageCall s word given answer)
-    (λ number. IsSomeCall (IsCopy (meaning_at s.meanings number)) given answer)
+    (λ number. IsSomeCall s.dialect (IsCopy (meaning_at s.meanings number)) given answer)

@@ -21,8 +21,8 @@ use Rattle.wgsl_eval.specs.declared.literals.Conversion.{Conversion}
 use Rattle.wgsl_eval.specs.declared.literals.Conversion.TheVariants as conversions
 use Rattle.wgsl_eval.specs.declared.literals.Scalars.{Scalars}
 use Rattle.wgsl_eval.specs.declared.literals.Scalars.TheVariants as scalars
-use Rattle.wgsl_eval.specs.declared.settings.Dialect.{Dialect}
-use Rattle.wgsl_eval.specs.declared.settings.Dialect.TheVariants as dialects
+use Rattle.wgsl_functions.specs.declared.parameters.Dialect.{Dialect}
+use Rattle.wgsl_functions.specs.declared.parameters.Dialect.TheVariants as dialects
 
 -- this value, or a fault in its place
 abbrev pub MayBe : Option Val → Answer → Type 0

@@ -19,7 +19,7 @@ use Rattle.wgsl_eval.specs.declared.declarations.ItemKind.{ItemKind}
 use Rattle.wgsl_eval.specs.declared.declarations.ItemKind.TheVariants as items
 use Rattle.wgsl_eval.specs.declared.evaluator.Evaluated.{Evaluated}
 use Rattle.wgsl_eval.specs.declared.evaluator.Evaluation.{Evaluation}
-use Rattle.wgsl_eval.specs.declared.settings.Dialect.TheVariants as dialects
+use Rattle.wgsl_functions.specs.declared.parameters.Dialect.TheVariants as dialects
 use Rattle.wgsl_eval.specs.declared.settings.Settings.{Settings}
 
 -- nothing is known of the declarations, and nothing is told
@@ -51,9 +51,9 @@ values_of s = told_from (has_value s.stage) (evaluated_at s)
 pub record IsEvaluated (o : Outline) (given : Settings) (e : Evaluation) : Type 0 where
   pub after : Setting
   pub declared : AreDeclared (setting_before o given) o.order after
-  pub values : e.values.items ≡ values_of after 0 o.declared
   pub last : Setting
   pub asserts : AreAsserted after o.asserts e.asserts.items last
+  pub values : e.values.items ≡ values_of last 0 o.declared
   pub messages : AreTold last.faults e.messages.items
 
 -- ---- declarations

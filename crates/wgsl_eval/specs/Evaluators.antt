@@ -5,8 +5,8 @@ use Rattle.wgsl_source.specs.Readings.{Outline}
 use Rattle.wgsl_eval.specs.declared.answer.Answer.{Answer}
 use Rattle.wgsl_eval.specs.declared.evaluator.Evaluator.{Evaluator}
 use Rattle.wgsl_eval.specs.declared.message.Message.{Message}
-use Rattle.wgsl_eval.specs.declared.settings.Dialect.{Dialect}
-use Rattle.wgsl_eval.specs.declared.settings.Dialect.TheVariants as dialects
+use Rattle.wgsl_functions.specs.declared.parameters.Dialect.{Dialect}
+use Rattle.wgsl_functions.specs.declared.parameters.Dialect.TheVariants as dialects
 
 -- the source, the stage, whether what the standard refuses is a fault, the dialect, what each declaration was
 -- found to stand for, and the faults that are told so far

@@ -155,7 +155,7 @@ IsGiven s (steps.Binary op token) before answer =
     UnlessRefused s.source token answer (IsOfTwo s op (top (below before)) (top before) answer)
 IsGiven s (steps.Template token n) before answer = IsTemplate s (word_at s.source token) (last_ones n before) answer
 IsGiven s (steps.Call token callees.Name n) before answer = IsCall s (word_at s.source token) (last_ones n before) answer
-IsGiven s (steps.Call token callees.Answer n) before answer = IsCallOf (top (without n before)) (last_ones n before) answer
+IsGiven s (steps.Call token callees.Answer n) before answer = IsCallOf s.dialect (top (without n before)) (last_ones n before) answer
 IsGiven s (steps.Member token) before answer = IsMemberOf (word_at s.source token) (top before) answer
 IsGiven s (steps.Index token) before answer = IsElementOf (top (below before)) (top before) answer
 

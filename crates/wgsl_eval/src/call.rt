@@ -1,14 +1,19 @@
 //! Names with template lists, and calls (WGSL: template lists; function call expression).
 
 ghost use Rattle.std.specs.Prelude.{[], ◌∷◌, ◌≡◌, IfOk, IfSome, Some, map};
+ghost use Rattle.std.specs.Result.{result_ok};
 ghost use Rattle.wgsl_apply.specs.Literals.{natural_of};
-ghost use Rattle.wgsl_eval.specs.Answers.{AreAnswers, IsAnswer, IsFault, meaning_at};
+ghost use Rattle.wgsl_functions.specs.Functions.{bitcast_to, of_values};
+ghost use Rattle.wgsl_functions.specs.Parameters.{bitcast_in};
+ghost use Rattle.wgsl_rules.specs.Values.{IsStorable};
+ghost use Rattle.wgsl_eval.specs.Answers.{AreAnswers, AreSound, IsAnswer, IsFault, meaning_at};
 ghost use Rattle.wgsl_eval.specs.Calls.{
   AreValues,
   IsBitcastOf,
   IsCall,
   IsCallOf,
   IsCopy,
+  IsCounted,
   IsForValues,
   IsFunctionCall,
   IsGenerated,
@@ -38,8 +43,9 @@ use crate::evaluator::Evaluator;
 use crate::opaque::is_opaque;
 use crate::types::generated;
 use std::alloc::AllocError;
+use std::slice;
 use wgsl_apply::{Asked, literal_of, natural};
-use wgsl_functions::{Builtin, against_function, bitcast};
+use wgsl_functions::{Builtin, against_function, bitcast, bitcast_argument};
 use wgsl_source::{Generator, Predeclared, language_name};
 use wgsl_types::{Error, Instance, Type};
 
@@ -134,7 +140,7 @@ impl Evaluator<'_> {
         requires inner { IsAnswer inner }
         requires count { IsAnswer count }
         ensures keeps { setting_of self.new ≡ setting_of self.old }
-        ensures generated { IfOk result (IsGenerated Generator.Array (inner ∷ count ∷ [])) }
+        ensures counted { IfOk result (IsCounted inner count) }
         ensures answer { IfOk result IsAnswer }
     {
         let value = match count {
@@ -274,7 +280,7 @@ impl Evaluator<'_> {
         requires meanings { AreAnswers self.old.meanings.items }
         requires arguments { AreAnswers arguments.items }
         ensures keeps { setting_of self.new ≡ setting_of self.old }
-        ensures call { IfOk result (λ answer. IsSomeCall (IsCopy (meaning_at self.old.meanings.items number)) arguments.items answer) }
+        ensures call { IfOk result (IsSomeCall self.old.dialect (IsCopy (meaning_at self.old.meanings.items number)) arguments.items) }
         ensures answer { IfOk result IsAnswer }
     {
         let callee = self.copied(token, number)?;
@@ -291,7 +297,7 @@ impl Evaluator<'_> {
         requires callee { IsAnswer callee }
         requires arguments { AreAnswers arguments.items }
         ensures keeps { setting_of self.new ≡ setting_of self.old }
-        ensures call { IfOk result (IsCallOf callee arguments.items) }
+        ensures call { IfOk result (IsCallOf self.old.dialect callee arguments.items) }
         ensures answer { IfOk result IsAnswer }
     {
         match callee {
@@ -330,12 +336,12 @@ impl Evaluator<'_> {
     ) -> Result<Answer, AllocError>
         requires { AreAnswers arguments.items }
         ensures keeps { setting_of self.new ≡ setting_of self.old }
-        ensures call { IfOk result (IsForValues arguments.items (IsOfType (type_view of.now.ty) (bitcast_alone (type_view of.now.ty)))) }
+        ensures call { IfOk result (IsForValues arguments.items (IsOfType (type_view of.now.ty) (bitcast_alone self.old.dialect (type_view of.now.ty)))) }
         ensures answer { IfOk result IsAnswer }
     {
         match self.values(token, arguments)? {
             Arguments::Values(_, _) if of.has_float => Ok(self.skipped(token, Need::Float)),
-            Arguments::Values(values, _) => self.bitcast(token, &of.ty, values.as_slice()),
+            Arguments::Values(values, _) => self.bitcast(token, &of.ty, values),
             Arguments::Other(answer) => Ok(answer),
         }
     }
@@ -390,16 +396,14 @@ impl Evaluator<'_> {
     ) -> Result<Answer, AllocError>
         requires { AreAnswers arguments.items }
         ensures keeps { setting_of self.new ≡ setting_of self.old }
-        ensures call { IfOk result (IsOfValuesOf (function_of function self.old.stage) arguments.items) }
+        ensures call { IfOk result (IsOfValuesOf (function_of self.old.dialect function self.old.stage) arguments.items) }
         ensures answer { IfOk result IsAnswer }
     {
         match self.values(token, arguments)? {
             Arguments::Values(values, _) if values.len() != count => {
                 self.wrong_count(token, count, values.len())
             }
-            Arguments::Values(values, size) => {
-                self.answered(token, function, values.as_slice(), size)
-            }
+            Arguments::Values(values, size) => self.answered(token, function, values, size),
             Arguments::Other(answer) => Ok(answer),
         }
     }
@@ -408,16 +412,35 @@ impl Evaluator<'_> {
         &mut self,
         token: usize,
         function: Builtin,
-        values: &[Instance],
+        values: Vec<Instance>,
         size: Size,
     ) -> Result<Answer, AllocError>
+        requires { AreSound values.items }
         ensures keeps { setting_of self.new ≡ setting_of self.old }
-        ensures value { IfOk result (MayBe (function_of function self.old.stage (map value_of values.now))) }
+        ensures value { IfOk result (MayBe (function_of self.old.dialect function self.old.stage (map value_of values.items))) }
         ensures answer { IfOk result IsAnswer }
     {
         if !self.spend(size.parts) {
             return self.too_large(token);
         }
+        match function.arguments(self.alloc, self.dialect, values)? {
+            Ok(values) => self.answered_to(token, function, values.as_slice(), size),
+            Err(unfit) => self.not_converted(token, &unfit.value, &unfit.ty),
+        }
+    }
+
+    // What a function answers to the values as it takes them.
+    fn answered_to(
+        &mut self,
+        token: usize,
+        function: Builtin,
+        values: &[Instance],
+        size: Size,
+    ) -> Result<Answer, AllocError>
+        ensures keeps { setting_of self.new ≡ setting_of self.old }
+        ensures value { IfOk result (MayBe (result_ok (of_values function self.old.stage (map value_of values.now)))) }
+        ensures answer { IfOk result IsAnswer }
+    {
         match function.answer(self.alloc, self.stage, values) {
             Ok(answer) => {
                 let against = against_function(function, self.stage, values);
@@ -439,16 +462,42 @@ impl Evaluator<'_> {
         self.refused(token, error, Asked::Function(word, values))
     }
 
-    fn bitcast(&self, token: usize, ty: &Type, values: &[Instance]) -> Result<Answer, AllocError>
-        ensures value { IfOk result (MayBe (bitcast_alone (type_view ty.now) (map value_of values.now))) }
+    fn bitcast(
+        &self,
+        token: usize,
+        ty: &Type,
+        mut values: Vec<Instance>,
+    ) -> Result<Answer, AllocError>
+        requires { AreSound values.items }
+        ensures value { IfOk result (MayBe (bitcast_alone self.now.dialect (type_view ty.now) (map value_of values.items))) }
         ensures answer { IfOk result IsAnswer }
     {
-        if values.len() != 1 {
-            return self.wrong_count(token, 1, values.len());
+        let count = values.len();
+        match values.pop() {
+            Some(value) if count == 1 => self.bitcast_of_one(token, ty, value),
+            _ => self.wrong_count(token, 1, count),
         }
-        match bitcast(self.alloc, ty, &values[0]) {
+    }
+
+    fn bitcast_of_one(&self, token: usize, ty: &Type, value: Instance) -> Result<Answer, AllocError>
+        requires { IsStorable (value_of value) }
+        ensures value { IfOk result (MayBe (result_ok (bitcast_in self.now.dialect (type_view ty.now) (value_of value)))) }
+        ensures answer { IfOk result IsAnswer }
+    {
+        match bitcast_argument(self.alloc, self.dialect, value)? {
+            Ok(value) => self.bitcast_to(token, ty, &value),
+            Err(unfit) => self.not_converted(token, &unfit.value, &unfit.ty),
+        }
+    }
+
+    // The bits of the value as it is taken.
+    fn bitcast_to(&self, token: usize, ty: &Type, value: &Instance) -> Result<Answer, AllocError>
+        ensures value { IfOk result (MayBe (result_ok (bitcast_to (type_view ty.now) (value_of value.now)))) }
+        ensures answer { IfOk result IsAnswer }
+    {
+        match bitcast(self.alloc, ty, value) {
             Ok(answer) => Ok(Answer::Value(Value::answered(answer, Size::ONE))),
-            Err(error) => self.refused_bitcast(token, &error, values),
+            Err(error) => self.refused_bitcast(token, &error, slice::from_ref(value)),
         }
     }
 

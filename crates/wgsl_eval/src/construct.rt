@@ -41,12 +41,11 @@ use crate::answer::{Answer, Guard, Need, Size, SizedType, Value};
 use crate::call::{Arguments, INTEGRAL};
 use crate::evaluator::Evaluator;
 use crate::literals::{Conversion, Scalars, columns_of, components_of, flattened, vector_of};
-use crate::settings::Dialect;
 use std::alloc::AllocError;
 use wgsl_apply::{
     automatic, in_common, literal_of, make_array, make_matrix, make_structure, zero, zero_literal,
 };
-use wgsl_functions::written;
+use wgsl_functions::{Dialect, written};
 use wgsl_source::Generator;
 use wgsl_types::{Instance, LiteralInstance, StructMemberType, StructType, Type, convert_all};
 

@@ -11,9 +11,10 @@ ghost use Rattle.wgsl_eval.specs.Messages.{AreTold};
 use crate::answer::{Answer, Skip};
 use crate::evaluator::{Evaluator, popped};
 use crate::message::Message;
-use crate::settings::{Dialect, Settings};
+use crate::settings::Settings;
 use crate::variable::Variable;
 use std::alloc::{AllocError, Global};
+use wgsl_functions::Dialect;
 use wgsl_source::{Declared, Extent, Reading};
 use wgsl_types::{Instance, ShaderStage, Type};
 

@@ -29,13 +29,14 @@ use crate::answer::{Answer, Guard, Need, Part, Size, SizedType, Skip, Value};
 use crate::assertions::Assertion;
 use crate::message::{Message, Messages};
 use crate::opaque::is_opaque;
-use crate::settings::{Dialect, Settings};
+use crate::settings::Settings;
 use crate::types::predeclared;
 use crate::waiting::popped_waiting;
 use std::alloc::{AllocError, Global};
 use wgsl_apply::{
     Asked, against_operator, automatic, has_rank, is_of_numbers, is_short, refusal_text,
 };
+use wgsl_functions::Dialect;
 use wgsl_source::{
     Callee, Declared, Literal, Predeclared, Reading, Scalar, Span, Step, language_name,
 };
@@ -339,15 +340,15 @@ impl Evaluator<'_> {
         ensures beyond { IfOk result (λ a. MatchBool (is_obeyed self.old.dialect self.old.is_strict) (IsFault a) (a ≡ answer)) }
         ensures answer { IfOk result IsAnswer }
     {
-        if self.dialect == Dialect::Crate {
-            return Ok(answer);
+        match (self.dialect, self.is_strict) {
+            (Dialect::Crate, _) => Ok(answer),
+            (Dialect::Wgsl, true) => self.wrong_text(token, text),
+            (Dialect::Wgsl, false) => {
+                let text = String::from_str(self.alloc, text)?;
+                self.messages.add_warning(self.reading.extent(token), text)?;
+                Ok(answer)
+            }
         }
-        let text = String::from_str(self.alloc, text)?;
-        if self.is_strict {
-            return Ok(self.wrong(token, Guard::Never, text));
-        }
-        self.messages.add_warning(self.reading.extent(token), text)?;
-        Ok(answer)
     }
 
     /// Whether so much more may be made.

@@ -26,5 +26,6 @@ pub use assertions::Assertion;
 pub use declarations::{Declarations, Item, ItemKind, resolve, resolve_in};
 pub use evaluator::{Evaluated, Evaluation, Outcome, evaluate, evaluate_in};
 pub use message::{Message, Severity};
-pub use settings::{Dialect, Settings};
+pub use settings::Settings;
 pub use variable::Variable;
+pub use wgsl_functions::Dialect;

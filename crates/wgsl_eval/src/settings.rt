@@ -1,15 +1,7 @@
 //! How a source is evaluated.
 
+use wgsl_functions::Dialect;
 use wgsl_types::ShaderStage;
-
-/// Which values and types a source may have.
-#[derive(Clone, Copy, Debug, PartialEq, Eq)]
-pub enum Dialect {
-    /// Those of the standard. What the library has beyond it is told.
-    Wgsl,
-    /// All that the library has: matrices of integers, and integers of 64 bits.
-    Crate,
-}
 
 /// How a source is evaluated.
 #[derive(Clone, Copy, Debug, PartialEq, Eq)]
@@ -18,5 +10,7 @@ pub struct Settings {
     pub stage: ShaderStage,
     /// Whether what the standard refuses is a fault.
     pub is_strict: bool,
+    /// In `Wgsl` integers of 64 bits and matrices of integers are warned of, and abstract integers in a matrix are
+    /// floats; in `Crate` all that the library has is taken.
     pub dialect: Dialect,
 }

@@ -60,8 +60,8 @@ const r60 = extractBits(112i, 4u, 4u); // i32 = 7i
 const r61 = extractBits(240u, 0u, 32u); // u32 = 240u
 const r62 = extractBits(240u, 4u, 0u); // u32 = 0u
 const r63 = extractBits(vec2(240u, 31u), 4u, 4u); // vec2<u32> = vec2(15u, 1u)
-const r64 = extractBits(240, 4, 4); // error: an i32 or a u32 is expected
-const r65 = extractBits(240u, -1, 4); // error: an argument does not convert
+const r64 = extractBits(240, 4, 4); // i32 = 15i
+const r65 = extractBits(240u, -1, 4); // error: -1 is no u32
 const r66 = extractBits(240u, 1i, 4u); // error: an argument does not convert
 const r67 = insertBits(0u, 5u, 3, 2); // u32 = 8u
 const r68 = insertBits(0i, -1, 31, 1); // i32 = -2147483648i
@@ -74,7 +74,7 @@ const r74 = firstLeadingBit(8u); // u32 = 3u
 const r75 = firstLeadingBit(-1i); // i32 = -1i
 const r76 = firstLeadingBit(-2i); // i32 = 0i
 const r77 = firstLeadingBit(-2147483647i - 1i); // i32 = 30i
-const r78 = firstLeadingBit(8); // error: an i32 or a u32 is expected
+const r78 = firstLeadingBit(8); // i32 = 3i
 const r79 = firstTrailingBit(8u); // u32 = 3u
 const r80 = firstTrailingBit(0i); // i32 = -1i
 const r81 = firstTrailingBit(-2147483647i - 1i); // i32 = 31i
@@ -109,7 +109,7 @@ const r109 = bitcast<i32>(vec2(1u, 2u)); // error: the arguments have unequal si
 const r110 = bitcast<vec2<u32>>(-1li); // vec2<u32> = vec2(4294967295u, 4294967295u); warning: WGSL has no 64-bit integers
 const r111 = bitcast<vec2<i32>>(vec2(4294967295u, 1u)); // vec2<i32> = vec2(-1i, 1i)
 const r112 = bitcast<vec2i>(vec2(4294967295u, 1u)); // vec2<i32> = vec2(-1i, 1i)
-const r113 = bitcast<i32>(4294967295); // error: 4294967295 is no i32: bitcast(4294967295)
+const r113 = bitcast<i32>(4294967295); // error: 4294967295 is no i32
 const r114 = bitcast<bool>(1u); // error: an i32 or a u32 is expected
 const r115 = bitcast<f32>(1u); // not evaluated: needs floats, `bitcast`
 const r116 = bitcast<u32>(true); // error: a number is expected

@@ -23,3 +23,10 @@ const r22 = 1lu >= 2lu; // bool = false
 const r19 = mat2x2(1, 2, 3, 4); // mat2x2<AbstractInt> = mat2x2(vec2(1, 2), vec2(3, 4))
 const r20 = mat2x2<i32>(1, 2, 3, 4); // mat2x2<i32> = mat2x2(vec2(1i, 2i), vec2(3i, 4i))
 const r23 = mat2x2<u32>() + mat2x2<u32>(); // error: no operator + for mat2x2<u32> and mat2x2<u32>
+// Functions that take abstract integers as they are.
+const r24 = extractBits(240, 4, 4); // error: an i32 or a u32 is expected
+const r25 = extractBits(240u, -1, 4); // error: an argument does not convert
+const r26 = firstLeadingBit(8); // error: an i32 or a u32 is expected
+const r27 = countLeadingZeros(1); // AbstractInt = 63; warning: the standard takes this as an i32 first
+const r28 = countOneBits(7); // AbstractInt = 3; warning: the standard takes this as an i32 first
+const r29 = bitcast<u32>(-1); // error: -1 is no u32: bitcast<u32>(-1); the standard takes it as an i32 first

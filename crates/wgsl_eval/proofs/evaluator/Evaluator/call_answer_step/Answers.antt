@@ -19,6 +19,6 @@ returns-clause-done c =
     let n = c.args.count in
     let one = taken_kept s.meanings between c.keep_last.new.answers.items new callee
     c.in_ok-keep_last.ensures.kept c.popped_waiting-callee.ensures.last c.popped_waiting-callee.ensures.left in
-    if_both c.call_answer.result (IsCallOf callee list) IsAnswer (IsDone s (steps.Call token callees.Answer n) old new)
+    if_both c.call_answer.result (IsCallOf s.dialect callee list) IsAnswer (IsDone s (steps.Call token callees.Answer n) old new)
     (λ a given sound. done_call_answer s old between new list token n callee a c.in_ok-arguments.ensures.taken one given sound)
     c.call_answer.ensures.call c.call_answer.ensures.answer

@@ -11,5 +11,5 @@ returns-clause-found c =
     let ms = c.meaning_of.new.self.meanings in
     let counted : length ms.items ≡ vec_len ms = first_of (search rules, omega (arith, ms.ok.0), grind (arith, common_steps)) in
     found_first c.set_meaning.result s (setting_of c.meaning_of.new.self) (setting_of c.set_meaning.new.self) c.args.number (vec_len ms) c.in_ok-meaning.meaning
-    c.meaning_of.ensures.keeps counted c.set_meaning.ensures.others c.set_meaning.ensures.there c.in_ok-meaning.ensures.declared
+    c.meaning_of.ensures.keeps counted c.set_meaning.ensures.others c.set_meaning.ensures.there c.set_meaning.ensures.faults c.in_ok-meaning.ensures.declared
     (fails c.is_second.result (IsSecond s.source c.args.number) c.is_second.ensures c.if-is_second.false)

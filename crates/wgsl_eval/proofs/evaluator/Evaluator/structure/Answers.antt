@@ -6,7 +6,7 @@ use Rattle.wgsl_source.specs.Readings.{word_at}
 use Rattle.wgsl_eval.specs.Evaluators.{Setting, setting_of}
 use Rattle.wgsl_eval.specs.Structures.{IsFoundMember}
 use Rattle.wgsl_eval.specs.declared.structure.FoundMember.{FoundMember}
-use Rattle.wgsl_eval.proofs.Structures.{members_pushed, structures}
+use Rattle.wgsl_eval.proofs.Structures.{faults-structure, floats_more, member-none, members_pushed, structures}
 use Rattle.wgsl_eval.proofs.evaluator.Evaluator.structure.Goals as goal
 
 pub loop-number-preserved : goal.loop-number-preserved
@@ -23,7 +23,9 @@ loop-number-preserved c =
       count = grind (arith, common_steps);
       within = omega arith;
       members = members_pushed s t c.args.first n members.items c.push.new.self.items c.in-Member.member c.field.result c.in-Some.field c.loop-number.invariant.keeps
-          c.field.ensures c.in-Some.is (subst P c.in-Member.is c.in_ok-member.ensures.found) at c.in_ok-push-in-Member.ensures.items c.loop-number.invariant.members;
+          c.field.ensures c.in-Some.is (subst P c.in-Member.is c.in_ok-member.ensures.found).0 at c.in_ok-push-in-Member.ensures.items c.loop-number.invariant.members;
+      floats = floats_more members.items c.push.new.self.items c.in-Member.member _ _ _ c.in_ok-push-in-Member.ensures.items c.loop-number.invariant.floats
+          (subst P c.in-Member.is c.in_ok-member.ensures.found).1 c.with.ensures;
     }
 
 pub returns-clause-structure : goal.returns-clause-structure

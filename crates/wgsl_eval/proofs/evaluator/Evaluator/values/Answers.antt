@@ -1,4 +1,5 @@
 use Rattle.std.specs.Vec.Iter.{into_iter_items}
+use Rattle.wgsl_eval.proofs.CallSteps.{no-value-among}
 use Rattle.wgsl_eval.proofs.TakenValues.{taken-all, taken-stored, taken-values}
 use Rattle.wgsl_eval.proofs.evaluator.Evaluator.values.Goals as goal
 
