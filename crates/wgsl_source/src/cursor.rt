@@ -14,18 +14,13 @@ use std::alloc::AllocError;
 #[derive(Clone, Copy)]
 pub(crate) enum Stop {
     Memory,
-    At(Fault),
+    /// A fault at the token of this number.
+    At(usize, Reason),
 }
 
 impl From<AllocError> for Stop {
     fn from(_: AllocError) -> Self {
         Stop::Memory
-    }
-}
-
-impl From<Fault> for Stop {
-    fn from(fault: Fault) -> Self {
-        Stop::At(fault)
     }
 }
 
@@ -47,6 +42,17 @@ impl<'a> Cursor<'a> {
             text,
             tokens,
             at: 0,
+        }
+    }
+
+    /// The same tokens from this one on.
+    pub(crate) fn moved_to(self, at: usize) -> Self
+        ensures { result ≡ record self.entry { at = at } }
+    {
+        Cursor {
+            text: self.text,
+            tokens: self.tokens,
+            at,
         }
     }
 
@@ -138,7 +144,7 @@ impl<'a> Cursor<'a> {
     /// Goes on by this character, or stops where another stands.
     pub(crate) fn expect_symbol(&mut self, symbol: u8) -> Result<(), Stop>
         ensures ok { OnOk result (((next_token self.old).kind ≡ TokenKind.Symbol symbol) × (self.new ≡ advanced self.old)) }
-        ensures err { IfErr result (λ stop. (stop ≡ Stop.At (fault_of self.old self.old.at (Reason.Expected (Expected.Symbol symbol)))) × (self.new ≡ self.old)) }
+        ensures err { IfErr result (λ stop. (stop ≡ Stop.At self.old.at (Reason.Expected (Expected.Symbol symbol))) × (self.new ≡ self.old)) }
     {
         if self.take_symbol(symbol) {
             Ok(())
@@ -150,7 +156,7 @@ impl<'a> Cursor<'a> {
     /// Goes on by a name, and answers its number.
     pub(crate) fn expect_name(&mut self) -> Result<usize, Stop>
         ensures ok { IfOk result (λ name. (name ≡ self.old.at) × ((next_token self.old).kind ≡ TokenKind.Name) × (self.new ≡ advanced self.old)) }
-        ensures err { IfErr result (λ stop. (stop ≡ Stop.At (fault_of self.old self.old.at (Reason.Expected Expected.Name))) × (self.new ≡ self.old)) }
+        ensures err { IfErr result (λ stop. (stop ≡ Stop.At self.old.at (Reason.Expected Expected.Name)) × (self.new ≡ self.old)) }
     {
         if self.token().kind == TokenKind::Name {
             Ok(self.advance())
@@ -161,9 +167,9 @@ impl<'a> Cursor<'a> {
 
     /// Something else is expected where the next token stands.
     pub(crate) fn expected(&self, expected: Expected) -> Stop
-        ensures { result ≡ Stop.At (fault_of self.now self.now.at (Reason.Expected expected)) }
+        ensures { result ≡ Stop.At self.now.at (Reason.Expected expected) }
     {
-        Stop::At(self.fault_at(self.at, Reason::Expected(expected)))
+        Stop::At(self.at, Reason::Expected(expected))
     }
 
     /// A fault at the token of this number.

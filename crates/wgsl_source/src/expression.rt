@@ -173,7 +173,7 @@ impl<'a> Expressions<'a> {
     }
 
     fn no_operand(&self) -> Stop
-        ensures { result ≡ Stop.At (fault_of self.now.cursor self.now.cursor.at (Reason.Expected Expected.Expression)) }
+        ensures { result ≡ Stop.At self.now.cursor.at (Reason.Expected Expected.Expression) }
     {
         self.cursor.expected(Expected::Expression)
     }
@@ -342,7 +342,7 @@ impl<'a> Expressions<'a> {
     fn begin(&mut self, open: Open) -> Result<Next, Stop> {
         if self.open.len() >= DEPTH {
             let bracket = self.cursor.position().saturating_sub(1);
-            return Err(self.cursor.fault_at(bracket, Reason::TooDeep).into());
+            return Err(Stop::At(bracket, Reason::TooDeep));
         }
         push_open(&mut self.open, open)?;
         Ok(Next::Operand)

@@ -8,10 +8,12 @@ use crate::cursor::{Cursor, Stop};
 use crate::declaration::{Declaration, Kind, Module, read_module};
 use crate::expression::{Expressions, Span, Step};
 use crate::fault::{Expected, Fault, Faults};
+use crate::identifier::check_names;
 use crate::lexer::{Lexed, tokens_of};
 use crate::literal::{Literal, literal_of};
 use crate::name_table::NameTable;
 use crate::order::{names_of, order_of};
+use crate::piece::Piece;
 use crate::templates::mark_templates;
 use crate::token::Token;
 use std::alloc::{AllocError, Global};
@@ -52,6 +54,7 @@ impl<'a> Model for Reading<'a> {
       fields = map field_in r.module.members.items;
       steps = r.module.steps.items;
       asserts = r.module.asserts.items;
+      pieces = r.module.pieces.items;
       order = r.order.items;
       refused = r.refused.keys;
       faults = r.faults.items;
@@ -122,6 +125,7 @@ impl<'a> Reading<'a> {
         let tokens = marked_tokens(alloc, text, &mut faults)?;
         let cursor = Cursor::new(text, tokens.as_slice());
         let module = read_module(alloc, cursor, &mut faults)?;
+        check_names(&module, cursor, &mut faults)?;
         let names = names_of(alloc, &module, cursor, &mut faults)?;
         let order = order_of(alloc, &module, cursor, &names, &mut faults)?;
         let refused = add_refused(alloc, &module, &mut faults)?;
@@ -226,6 +230,14 @@ impl<'a> Reading<'a> {
         })
     }
 
+    /// What the module is made of, from its first token to its last: each piece begins where the one
+    /// before it ends. An expression has none.
+    pub fn pieces(&self) -> &[Piece]
+        ensures { result.now ≡ self.now.pieces }
+    {
+        self.module.pieces.as_slice()
+    }
+
     /// The numbers of the declarations, each behind those that it names.
     pub fn order(&self) -> &[usize]
         ensures { result.now ≡ self.now.order }
@@ -327,7 +339,7 @@ fn read_expression(
     match whole_expression(&mut expressions) {
         Ok(span) => declarations.push(declaration_of(span))?,
         Err(Stop::Memory) => return Err(AllocError),
-        Err(Stop::At(fault)) => faults.add(fault)?,
+        Err(Stop::At(token, reason)) => faults.add(cursor.fault_at(token, reason))?,
     }
     let (steps, refused) = expressions.into_steps();
     Ok(Module {
@@ -336,6 +348,7 @@ fn read_expression(
         steps,
         asserts: Vec::new(alloc),
         refused,
+        pieces: Vec::new(alloc),
     })
 }
 
