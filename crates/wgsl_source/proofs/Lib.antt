@@ -9,6 +9,7 @@ pub mod NameTableLemmas
 pub mod NamedLemmas
 pub mod Numerals
 pub mod OrderLemmas
+pub mod PieceLemmas
 pub mod Positions
 pub mod ReadingLemmas
 pub mod Suffixes

@@ -1,5 +1,5 @@
 -- What a module is made of, one piece behind the other (WGSL: declaration and scope; directives).
-use Rattle.std.specs.Prelude.{◌≡◌, ℕ, ◌+◌, ◌<◌, ◌≤◌, Option, Some, None, List, [], ◌∷◌, codes, length, slice_index, Contains}
+use Rattle.std.specs.Prelude.{◌≡◌, ℕ, ◌+◌, ◌<◌, ◌≤◌, ⊤, zero, suc, Option, Some, None, List, [], ◌∷◌, ◌++◌, codes, length, slice_index, Contains}
 use Rattle.std.specs.List.{filter_map}
 use Rattle.wgsl_source.specs.Faults.{IsTold}
 use Rattle.wgsl_source.specs.Readings.{word_of, fault_at}
@@ -33,7 +33,21 @@ assertions_in ps = filter_map (λ p. assertion_in p.kind) ps
 abbrev pub directives : List (List ℕ)
 directives = codes "enable" ∷ codes "requires" ∷ codes "diagnostic" ∷ []
 
--- what a piece has in it: of a declaration the token that names it, of a directive its word, and of a fault the token at
--- which it is told, which may be the next one behind the piece
-abbrev pub Holds : List ℕ → List Extent → List ℕ → List Fault → Piece → Type 0
-Holds text tokens names faults p = HoldsOf text tokens names faults p.start p.end p.kind
+-- what a piece has in it: a declaration the token that names it; a directive its word, to begin with; and a fault the
+-- token at which it is told, which may be the next one behind the piece
+abbrev pub Has : List ℕ → List Extent → List ℕ → List Fault → ℕ → ℕ → PieceKind → Type 0
+Has text tokens names faults start end (Declaration number) =
+    (number < length names) × (start ≤ slice_index names number) × (slice_index names number < end)
+Has text tokens names faults start end (Assertion number) = ⊤
+Has text tokens names faults start end Directive = Contains directives (word_of text tokens start)
+Has text tokens names faults start end Semicolon = (end ≡ start + 1) × (word_of text tokens start ≡ codes ";")
+Has text tokens names faults start end (Faulty token reason) =
+    (start ≤ token) × (token ≤ end) × IsTold faults (fault_at text tokens token reason)
+
+abbrev pub IsPiece : List ℕ → List Extent → List ℕ → List Fault → Piece → Type 0
+IsPiece text tokens names faults p = Has text tokens names faults p.start p.end p.kind
+
+-- 0, 1, 2, .. up to this number, which is not among them
+abbrev pub numbers : ℕ → List ℕ
+numbers zero = []
+numbers (suc n) = numbers n ++ n ∷ []

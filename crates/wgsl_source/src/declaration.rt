@@ -1,5 +1,10 @@
 //! Reads the declarations of a module (WGSL: declaration and scope).
 
+ghost use Rattle.std.specs.Prelude.{◌≡◌, ◌+◌, ◌<◌, ◌≤◌, List, [], ◌∷◌, ◌++◌, IfOk, length, map, max, min};
+ghost use Rattle.wgsl_source.specs.Declarations.{IsItem, IsRead};
+ghost use Rattle.wgsl_source.specs.Faults.{KeepsFaults};
+ghost use Rattle.wgsl_source.specs.declared.fault.Fault.{Fault};
+
 use crate::cursor::{Cursor, Stop};
 use crate::expression::{Expressions, Span, Step};
 use crate::fault::{Fault, Faults};
@@ -94,7 +99,11 @@ pub(crate) fn read_module(
     alloc: Global,
     cursor: Cursor<'_>,
     faults: &mut Faults,
-) -> Result<Module, AllocError> {
+) -> Result<Module, AllocError>
+    ensures read { IfOk result (λ m. IsRead cursor.entry m.pieces.items (map (λ d. d.name) m.declarations.items)
+        (length m.asserts.items) faults.new.faults.items (length cursor.entry.tokens.now)) }
+    ensures kept { KeepsFaults faults.old.faults.items faults.new.faults.items }
+{
     let mut reader = Reader {
         expressions: Expressions::new(alloc, cursor),
         declarations: Vec::new(alloc),
@@ -110,7 +119,11 @@ pub(crate) fn read_module(
 }
 
 impl<'a> Reader<'a> {
-    fn into_module(self) -> Module {
+    fn into_module(self) -> Module
+        ensures declarations { result.declarations.items ≡ self.entry.declarations.items }
+        ensures asserts { result.asserts.items ≡ self.entry.asserts.items }
+        ensures pieces { result.pieces.items ≡ self.entry.pieces.items }
+    {
         let Reader {
             expressions,
             declarations,
@@ -135,7 +148,15 @@ impl<'a> Reader<'a> {
         cursor: Cursor<'a>,
         start: usize,
         faults: &mut Faults,
-    ) -> Result<usize, AllocError> {
+    ) -> Result<usize, AllocError>
+        requires within { start < length cursor.tokens.now }
+        requires read { IsRead cursor self.old.pieces.items (map (λ d. d.name) self.old.declarations.items)
+            (length self.old.asserts.items) faults.old.faults.items start }
+        ensures behind { IfOk result (λ end. (start < end) × (end ≤ length cursor.entry.tokens.now)) }
+        ensures read { IfOk result (λ end. IsRead cursor.entry self.new.pieces.items (map (λ d. d.name) self.new.declarations.items)
+            (length self.new.asserts.items) faults.new.faults.items end) }
+        ensures kept { KeepsFaults faults.old.faults.items faults.new.faults.items }
+    {
         self.expressions.cursor = cursor.moved_to(start);
         match self.expressions.item(&mut self.members) {
             Ok(item) => self.add(cursor, start, item),
@@ -145,37 +166,76 @@ impl<'a> Reader<'a> {
                 let end = self.end_of(cursor, start);
                 let token = token.clamp(start, end);
                 faults.add(cursor.fault_at(token, reason))?;
-                let kind = PieceKind::Fault(token);
-                self.pieces.push(Piece { start, end, kind })?;
-                Ok(end)
+                self.add_piece(start, end, PieceKind::Fault(token, reason))
             }
         }
     }
 
-    // Keeps what was read from this token on, and answers where the next piece begins.
-    fn add(&mut self, cursor: Cursor<'a>, start: usize, item: Item) -> Result<usize, AllocError> {
-        let end = self.end_of(cursor, start);
-        let kind = match item {
-            Item::Declaration(declaration) => {
-                let number = self.declarations.len();
-                self.declarations.push(declaration)?;
-                PieceKind::Declaration(number)
-            }
-            Item::Assertion(condition) => {
-                let number = self.asserts.len();
-                self.asserts.push(condition)?;
-                PieceKind::Assertion(number)
-            }
-            Item::Directive => PieceKind::Directive,
-            Item::Semicolon => PieceKind::Semicolon,
-        };
-        self.pieces.push(Piece { start, end, kind })?;
-        Ok(end)
-    }
-
     // Where the piece ends that begins at this token: behind it, and not behind the text.
-    fn end_of(&self, cursor: Cursor<'a>, start: usize) -> usize {
+    fn end_of(&self, cursor: Cursor<'a>, start: usize) -> usize
+        requires { start < length cursor.tokens.now }
+        ensures { result ≡ max (min self.now.expressions.cursor.at (length cursor.entry.tokens.now)) (start + 1) }
+    {
         let end = self.expressions.cursor.position().min(cursor.len());
         end.max(start + 1)
+    }
+
+    // Keeps what was read from this token on, and answers where it ends.
+    fn add(&mut self, cursor: Cursor<'a>, start: usize, item: Item) -> Result<usize, AllocError>
+        requires within { start < length cursor.tokens.now }
+        requires item { IsItem (record cursor { at = start }) self.old.expressions.cursor item }
+        ensures behind { IfOk result (λ end. (start < end) × (end ≤ length cursor.entry.tokens.now)) }
+        ensures read { (faults : List Fault) → IsRead cursor.entry self.old.pieces.items (map (λ d. d.name) self.old.declarations.items)
+            (length self.old.asserts.items) faults start → IfOk result (λ end. IsRead cursor.entry self.new.pieces.items
+            (map (λ d. d.name) self.new.declarations.items) (length self.new.asserts.items) faults end) }
+    {
+        let end = self.end_of(cursor, start);
+        match item {
+            Item::Declaration(declaration) => self.add_declaration(start, end, declaration),
+            Item::Assertion(condition) => self.add_assertion(start, end, condition),
+            Item::Directive => self.add_piece(start, end, PieceKind::Directive),
+            Item::Semicolon => self.add_piece(start, end, PieceKind::Semicolon),
+        }
+    }
+
+    fn add_declaration(
+        &mut self,
+        start: usize,
+        end: usize,
+        declaration: Declaration,
+    ) -> Result<usize, AllocError>
+        ensures { IfOk result (λ e. (e ≡ end) × (self.new.declarations.items ≡ self.old.declarations.items ++ declaration ∷ [])
+            × (self.new.asserts.items ≡ self.old.asserts.items)
+            × (self.new.pieces.items ≡ self.old.pieces.items ++
+            record { start = start; end = end; kind = PieceKind.Declaration (length self.old.declarations.items) } ∷ [])) }
+    {
+        let number = self.declarations.len();
+        self.declarations.push(declaration)?;
+        self.add_piece(start, end, PieceKind::Declaration(number))
+    }
+
+    fn add_assertion(
+        &mut self,
+        start: usize,
+        end: usize,
+        condition: Span,
+    ) -> Result<usize, AllocError>
+        ensures { IfOk result (λ e. (e ≡ end) × (self.new.declarations.items ≡ self.old.declarations.items)
+            × (self.new.asserts.items ≡ self.old.asserts.items ++ condition ∷ [])
+            × (self.new.pieces.items ≡ self.old.pieces.items ++
+            record { start = start; end = end; kind = PieceKind.Assertion (length self.old.asserts.items) } ∷ [])) }
+    {
+        let number = self.asserts.len();
+        self.asserts.push(condition)?;
+        self.add_piece(start, end, PieceKind::Assertion(number))
+    }
+
+    fn add_piece(&mut self, start: usize, end: usize, kind: PieceKind) -> Result<usize, AllocError>
+        ensures { IfOk result (λ e. (e ≡ end) × (self.new.declarations.items ≡ self.old.declarations.items)
+            × (self.new.asserts.items ≡ self.old.asserts.items)
+            × (self.new.pieces.items ≡ self.old.pieces.items ++ record { start = start; end = end; kind = kind } ∷ [])) }
+    {
+        self.pieces.push(Piece { start, end, kind })?;
+        Ok(end)
     }
 }

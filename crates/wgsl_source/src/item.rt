@@ -1,6 +1,9 @@
 //! Reads what a module is made of, one item at a time (WGSL: declaration and scope; struct types; variable
 //! and value declarations; attributes; directives).
 
+ghost use Rattle.std.specs.Prelude.{◌<◌, IfOk, length};
+ghost use Rattle.wgsl_source.specs.Declarations.{IsBehind, IsItem, IsNamed};
+
 use crate::cursor::Stop;
 use crate::declaration::{Attributes, Declaration, Kind, Member, Variable};
 use crate::expression::{Expressions, Span};
@@ -25,7 +28,10 @@ struct Named {
 
 impl<'a> Expressions<'a> {
     /// Reads what begins here. The members of a structure come behind those before.
-    pub(crate) fn item(&mut self, members: &mut Vec<Member>) -> Result<Item, Stop> {
+    pub(crate) fn item(&mut self, members: &mut Vec<Member>) -> Result<Item, Stop>
+        requires { self.old.cursor.at < length self.old.cursor.tokens.now }
+        ensures { IfOk result (λ item. IsItem self.old.cursor self.new.cursor item) }
+    {
         match self.cursor.word() {
             ";" => {
                 self.cursor.advance();
@@ -40,7 +46,9 @@ impl<'a> Expressions<'a> {
     }
 
     // Reads what may have attributes.
-    fn attributed(&mut self, members: &mut Vec<Member>) -> Result<Item, Stop> {
+    fn attributed(&mut self, members: &mut Vec<Member>) -> Result<Item, Stop>
+        ensures { IfOk result (λ item. IsItem self.old.cursor self.new.cursor item) }
+    {
         let start = self.steps.len();
         match self.attributes() {
             Ok(_) if self.cursor.word() == "const_assert" => {
@@ -63,11 +71,9 @@ impl<'a> Expressions<'a> {
     }
 
     // Reads the declaration behind attributes.
-    fn declared(
-        &mut self,
-        members: &mut Vec<Member>,
-        attributes: Attributes,
-    ) -> Result<Named, Stop> {
+    fn declared(&mut self, members: &mut Vec<Member>, attributes: Attributes) -> Result<Named, Stop>
+        ensures { IfOk result (λ named. IsNamed self.old.cursor self.new.cursor named.name) }
+    {
         match self.cursor.word() {
             "struct" => self.structure(members),
             "alias" => self.alias(),
@@ -81,7 +87,9 @@ impl<'a> Expressions<'a> {
 }
 
 impl<'a> Expressions<'a> {
-    fn attributes(&mut self) -> Result<Attributes, Stop> {
+    fn attributes(&mut self) -> Result<Attributes, Stop>
+        ensures later { IsBehind self.old.cursor self.new.cursor }
+    {
         let mut attributes = Attributes::NONE;
         for _ in self.cursor.position()..self.cursor.len() {
             if !self.cursor.take_symbol(b'@') {
@@ -93,7 +101,9 @@ impl<'a> Expressions<'a> {
     }
 
     // One that says nothing of layouts and bindings is passed over.
-    fn attribute(&mut self, attributes: &mut Attributes) -> Result<(), Stop> {
+    fn attribute(&mut self, attributes: &mut Attributes) -> Result<(), Stop>
+        ensures later { IsBehind self.old.cursor self.new.cursor }
+    {
         let name = self.cursor.expect_name()?;
         match self.cursor.text_at(name) {
             "align" => attributes.align = Some(self.argument_of(name, attributes.align)?),
@@ -111,7 +121,9 @@ impl<'a> Expressions<'a> {
     }
 
     // The argument of an attribute that stands once.
-    fn argument_of(&mut self, name: usize, before: Option<Span>) -> Result<Span, Stop> {
+    fn argument_of(&mut self, name: usize, before: Option<Span>) -> Result<Span, Stop>
+        ensures later { IsBehind self.old.cursor self.new.cursor }
+    {
         if before.is_some() {
             return Err(Stop::At(name, Reason::DuplicateName));
         }
@@ -119,7 +131,9 @@ impl<'a> Expressions<'a> {
     }
 
     // An expression in brackets.
-    fn argument(&mut self) -> Result<Span, Stop> {
+    fn argument(&mut self) -> Result<Span, Stop>
+        ensures later { IsBehind self.old.cursor self.new.cursor }
+    {
         self.cursor.expect_symbol(b'(')?;
         let argument = self.expression()?;
         let _ = self.cursor.take_symbol(b',');
@@ -127,7 +141,9 @@ impl<'a> Expressions<'a> {
         Ok(argument)
     }
 
-    fn structure(&mut self, members: &mut Vec<Member>) -> Result<Named, Stop> {
+    fn structure(&mut self, members: &mut Vec<Member>) -> Result<Named, Stop>
+        ensures { IfOk result (λ named. IsNamed self.old.cursor self.new.cursor named.name) }
+    {
         self.cursor.advance();
         let name = self.cursor.expect_name()?;
         self.cursor.expect_symbol(b'{')?;
@@ -140,7 +156,9 @@ impl<'a> Expressions<'a> {
     }
 
     // One or more.
-    fn members(&mut self, members: &mut Vec<Member>) -> Result<(), Stop> {
+    fn members(&mut self, members: &mut Vec<Member>) -> Result<(), Stop>
+        ensures later { IsBehind self.old.cursor self.new.cursor }
+    {
         self.member(members)?;
         for _ in self.cursor.position()..self.cursor.len() {
             if !self.cursor.take_symbol(b',') || self.cursor.token().is_symbol(b'}') {
@@ -152,7 +170,9 @@ impl<'a> Expressions<'a> {
     }
 
     // Where a declaration begins in place of a member, the structure has no end.
-    fn member(&mut self, members: &mut Vec<Member>) -> Result<(), Stop> {
+    fn member(&mut self, members: &mut Vec<Member>) -> Result<(), Stop>
+        ensures later { IsBehind self.old.cursor self.new.cursor }
+    {
         let start = self.cursor;
         let refused = self.refused_len();
         let attributes = self.attributes()?;
@@ -174,7 +194,9 @@ impl<'a> Expressions<'a> {
         }
     }
 
-    fn alias(&mut self) -> Result<Named, Stop> {
+    fn alias(&mut self) -> Result<Named, Stop>
+        ensures { IfOk result (λ named. IsNamed self.old.cursor self.new.cursor named.name) }
+    {
         self.cursor.advance();
         let name = self.cursor.expect_name()?;
         self.cursor.expect_symbol(b'=')?;
@@ -184,7 +206,9 @@ impl<'a> Expressions<'a> {
         Ok(Named { name, kind })
     }
 
-    fn constant(&mut self) -> Result<Named, Stop> {
+    fn constant(&mut self) -> Result<Named, Stop>
+        ensures { IfOk result (λ named. IsNamed self.old.cursor self.new.cursor named.name) }
+    {
         self.cursor.advance();
         let name = self.cursor.expect_name()?;
         let ty = self.given_type()?;
@@ -195,7 +219,9 @@ impl<'a> Expressions<'a> {
         Ok(Named { name, kind })
     }
 
-    fn overridden(&mut self) -> Result<Named, Stop> {
+    fn overridden(&mut self) -> Result<Named, Stop>
+        ensures { IfOk result (λ named. IsNamed self.old.cursor self.new.cursor named.name) }
+    {
         self.cursor.advance();
         let name = self.cursor.expect_name()?;
         let ty = self.given_type()?;
@@ -212,7 +238,9 @@ impl<'a> Expressions<'a> {
         Ok(condition)
     }
 
-    fn variable(&mut self, attributes: Attributes) -> Result<Named, Stop> {
+    fn variable(&mut self, attributes: Attributes) -> Result<Named, Stop>
+        ensures { IfOk result (λ named. IsNamed self.old.cursor self.new.cursor named.name) }
+    {
         self.cursor.advance();
         let (space, access) = self.memory()?;
         let name = self.cursor.expect_name()?;
@@ -230,7 +258,9 @@ impl<'a> Expressions<'a> {
     }
 
     // A function, whose parameters and body are passed over.
-    fn function(&mut self) -> Result<Named, Stop> {
+    fn function(&mut self) -> Result<Named, Stop>
+        ensures { IfOk result (λ named. IsNamed self.old.cursor self.new.cursor named.name) }
+    {
         self.cursor.advance();
         let name = self.cursor.expect_name()?;
         self.skip_declaration()?;
@@ -238,14 +268,18 @@ impl<'a> Expressions<'a> {
         Ok(Named { name, kind })
     }
 
-    fn given_type(&mut self) -> Result<Option<Span>, Stop> {
+    fn given_type(&mut self) -> Result<Option<Span>, Stop>
+        ensures later { IsBehind self.old.cursor self.new.cursor }
+    {
         if !self.cursor.take_symbol(b':') {
             return Ok(None);
         }
         Ok(Some(self.expression()?))
     }
 
-    fn given_value(&mut self) -> Result<Option<Span>, Stop> {
+    fn given_value(&mut self) -> Result<Option<Span>, Stop>
+        ensures later { IsBehind self.old.cursor self.new.cursor }
+    {
         if !self.cursor.take_symbol(b'=') {
             return Ok(None);
         }
@@ -253,7 +287,9 @@ impl<'a> Expressions<'a> {
     }
 
     // The address space and the access mode in the template list of a `var`.
-    fn memory(&mut self) -> Result<(Option<AddressSpace>, Option<AccessMode>), Stop> {
+    fn memory(&mut self) -> Result<(Option<AddressSpace>, Option<AccessMode>), Stop>
+        ensures later { IsBehind self.old.cursor self.new.cursor }
+    {
         if self.cursor.token().kind != TokenKind::TemplateStart {
             return Ok((None, None));
         }
@@ -271,7 +307,9 @@ impl<'a> Expressions<'a> {
         Ok((Some(space), access))
     }
 
-    fn space(&mut self) -> Result<AddressSpace, Stop> {
+    fn space(&mut self) -> Result<AddressSpace, Stop>
+        ensures later { IsBehind self.old.cursor self.new.cursor }
+    {
         let space = match self.cursor.word() {
             "function" => AddressSpace::Function,
             "private" => AddressSpace::Private,
@@ -285,7 +323,9 @@ impl<'a> Expressions<'a> {
     }
 
     // None where the list ends behind a comma.
-    fn access(&mut self) -> Result<Option<AccessMode>, Stop> {
+    fn access(&mut self) -> Result<Option<AccessMode>, Stop>
+        ensures later { IsBehind self.old.cursor self.new.cursor }
+    {
         let access = match self.cursor.word() {
             "read" => AccessMode::Read,
             "write" => AccessMode::Write,
@@ -299,13 +339,17 @@ impl<'a> Expressions<'a> {
     }
 
     // Passes over what says nothing of types.
-    fn skip_declaration(&mut self) -> Result<(), Stop> {
+    fn skip_declaration(&mut self) -> Result<(), Stop>
+        ensures later { IsBehind self.old.cursor self.new.cursor }
+    {
         let open_end = self.cursor.skip_declaration();
         self.check_closed(open_end)
     }
 
     // All brackets are closed, or this is the end that is wanting.
-    fn check_closed(&mut self, open_end: Option<char>) -> Result<(), Stop> {
+    fn check_closed(&mut self, open_end: Option<char>) -> Result<(), Stop>
+        ensures later { IsBehind self.old.cursor self.new.cursor }
+    {
         match open_end {
             Some(end) => Err(self.cursor.expected(Expected::Symbol(end))),
             None => Ok(()),

@@ -1,5 +1,7 @@
 //! What a module is made of, one piece behind the other.
 
+use crate::fault::Reason;
+
 /// What a piece of a module is.
 #[derive(Clone, Copy, Debug, PartialEq, Eq)]
 pub enum PieceKind {
@@ -11,9 +13,9 @@ pub enum PieceKind {
     Directive,
     /// A `;` that ends nothing.
     Semicolon,
-    /// What is passed over for a fault, which stands at the token of this number: one of the piece, or
+    /// What is passed over for a fault, which is told at the token of this number: one of the piece, or
     /// the next one behind it.
-    Fault(usize),
+    Fault(usize, Reason),
 }
 
 /// The tokens that were read as one piece of a module, the end one not.

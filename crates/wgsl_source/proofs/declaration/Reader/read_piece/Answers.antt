@@ -1,0 +1,1 @@
+use Rattle.wgsl_source.proofs.declaration.Reader.read_piece.Goals as goal
