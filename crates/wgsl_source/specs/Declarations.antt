@@ -28,7 +28,7 @@ abbrev pub IsItem : Cursor → Cursor → Item → Type 0
 IsItem c d (items.Declaration declaration) = IsNamed c d declaration.name
 IsItem c d (items.Assertion condition) = ⊤
 IsItem c d items.Directive = Contains directives (text_of c c.at)
-IsItem c d items.Semicolon = (d.at ≡ c.at + 1) × (text_of c c.at ≡ codes ";")
+IsItem c d items.Semicolon = (d.at ≤ c.at + 1) × (text_of c c.at ≡ codes ";")
 
 -- these pieces, names and so many assertions are read of the tokens before one, with these faults
 pub record IsRead (c : Cursor) (pieces : List Piece) (names : List ℕ) (assertions : ℕ) (faults : List Fault) (at : ℕ)

@@ -1,7 +1,7 @@
 //! Reads what a module is made of, one item at a time (WGSL: declaration and scope; struct types; variable
 //! and value declarations; attributes; directives).
 
-ghost use Rattle.std.specs.Prelude.{◌<◌, IfOk, length};
+ghost use Rattle.std.specs.Prelude.{IfOk};
 ghost use Rattle.wgsl_source.specs.Declarations.{IsBehind, IsItem, IsNamed};
 
 use crate::cursor::Stop;
@@ -29,7 +29,6 @@ struct Named {
 impl<'a> Expressions<'a> {
     /// Reads what begins here. The members of a structure come behind those before.
     pub(crate) fn item(&mut self, members: &mut Vec<Member>) -> Result<Item, Stop>
-        requires { self.old.cursor.at < length self.old.cursor.tokens.now }
         ensures { IfOk result (λ item. IsItem self.old.cursor self.new.cursor item) }
     {
         match self.cursor.word() {

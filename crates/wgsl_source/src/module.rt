@@ -1,7 +1,11 @@
 //! Sources as evaluators walk them: declarations, the steps of their expressions, and names.
 
-ghost use Rattle.std.specs.Prelude.{◌≡◌, ◌≤◌, ◌↔◌, [], IfOk, IsTrue, Contains, map, length, slice_get, unwrap_or};
+ghost use Rattle.std.specs.Prelude.{◌≡◌, ◌≤◌, ◌↔◌, [], All, IfOk, IsTrue, Contains, map, length, slice_get, unwrap_or};
+ghost use Rattle.wgsl_source.specs.Faults.{KeepsFaults};
+ghost use Rattle.wgsl_source.specs.Identifiers.{IsNameOrTold};
 ghost use Rattle.wgsl_source.specs.Numbers.{Means};
+ghost use Rattle.wgsl_source.specs.Orders.{IsOrderOf};
+ghost use Rattle.wgsl_source.specs.Pieces.{IsPiece, Reach, assertions_in, declarations_in, numbers};
 ghost use Rattle.wgsl_source.specs.Readings.{extent_in, extent_at, word_at, steps_in, first_named};
 
 use crate::cursor::{Cursor, Stop};
@@ -120,6 +124,13 @@ impl<'a> Reading<'a> {
         ensures text { IfOk result (λ reading. reading.text ≡ text.entry.now) }
         ensures found { IfOk result (λ reading. reading.found_by ≡ reading.names) }
         ensures faults { IfOk result (λ reading. length reading.faults ≤ 100) }
+        ensures pieces { IfOk result (λ reading. Reach 0 reading.pieces (length reading.tokens)) }
+        ensures holds { IfOk result (λ reading. All (IsPiece reading.text reading.tokens reading.names reading.faults) reading.pieces) }
+        ensures declarations { IfOk result (λ reading. declarations_in reading.pieces ≡ numbers (length reading.declared)) }
+        ensures assertions { IfOk result (λ reading. assertions_in reading.pieces ≡ numbers (length reading.asserts)) }
+        ensures names { IfOk result (λ reading. All (IsNameOrTold reading.text reading.tokens reading.faults) reading.names) }
+        ensures members { IfOk result (λ reading. All (λ f. IsNameOrTold reading.text reading.tokens reading.faults f.name) reading.fields) }
+        ensures order { IfOk result (λ reading. IsOrderOf reading.order (length reading.declared)) }
     {
         let mut faults = Faults::new(alloc);
         let tokens = marked_tokens(alloc, text, &mut faults)?;
@@ -146,6 +157,7 @@ impl<'a> Reading<'a> {
     pub fn of_expression(alloc: Global, text: &'a str) -> Result<Reading<'a>, AllocError>
         ensures text { IfOk result (λ reading. reading.text ≡ text.entry.now) }
         ensures found { IfOk result (λ reading. reading.found_by ≡ []) }
+        ensures pieces { IfOk result (λ reading. reading.pieces ≡ []) }
         ensures faults { IfOk result (λ reading. length reading.faults ≤ 100) }
     {
         let mut faults = Faults::new(alloc);
@@ -320,7 +332,9 @@ fn add_refused(
     alloc: Global,
     module: &Module,
     faults: &mut Faults,
-) -> Result<BTreeSet<usize>, AllocError> {
+) -> Result<BTreeSet<usize>, AllocError>
+    ensures { KeepsFaults faults.old.faults.items faults.new.faults.items }
+{
     let mut refused = BTreeSet::new(alloc);
     for fault in &module.refused {
         faults.add(*fault)?;
@@ -333,7 +347,9 @@ fn read_expression(
     alloc: Global,
     cursor: Cursor<'_>,
     faults: &mut Faults,
-) -> Result<Module, AllocError> {
+) -> Result<Module, AllocError>
+    ensures { IfOk result (λ m. m.pieces.items ≡ []) }
+{
     let mut expressions = Expressions::new(alloc, cursor);
     let mut declarations = Vec::new(alloc);
     match whole_expression(&mut expressions) {
