@@ -14,3 +14,7 @@ told_then xs ys fault kept told = λ few. kept.1 fault (told (omega (arith, few,
 
 pub permuted : (xs ys : List Fault) → IsPermutation xs ys → KeepsFaults xs ys
 permuted xs ys moved = (omega (arith, length_permutation xs ys moved), λ fault. Contains-permutation xs ys fault moved)
+
+-- over three calls and the sort
+pub kept_to_end : (xs ys zs us vs : List Fault) → KeepsFaults xs ys → KeepsFaults ys zs → KeepsFaults zs us → IsPermutation us vs → KeepsFaults xs vs
+kept_to_end xs ys zs us vs a b c moved = kept_then xs ys vs a (kept_then ys zs vs b (kept_then zs us vs c (permuted us vs moved)))

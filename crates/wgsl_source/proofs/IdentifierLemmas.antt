@@ -10,6 +10,7 @@ use Rattle.wgsl_source.specs.declared.cursor.Cursor.{Cursor}
 use Rattle.wgsl_source.specs.declared.fault.Fault.{Fault}
 use Rattle.wgsl_source.specs.declared.fault.Reason.{Reason}
 use Rattle.wgsl_source.specs.declared.module.Extent.{Extent}
+use Rattle.wgsl_source.specs.declared.token.Token.{Token}
 use Rattle.wgsl_source.proofs.FaultLemmas.{told_then}
 use Rattle.wgsl_source.proofs.ReadingLemmas.{word_of-token, extent_of-token}
 
@@ -36,3 +37,9 @@ names_then name text tokens xs ys kept all told =
 pub one_name_more : {X : Type 0} (name : X → ℕ) (text : List ℕ) (tokens : List Extent) (xs ys : List Fault) (all : List X) (i : ℕ) (d : X) → KeepsFaults xs ys → i < length all → All (λ x. IsNameOrTold text tokens xs (name x)) (take i all) → IsNameOrTold text tokens ys (name (get_or all i d)) → All (λ x. IsNameOrTold text tokens ys (name x)) (take (i + 1) all)
 one_name_more name text tokens xs ys all i d kept within told here =
     All-more (λ x. IsNameOrTold text tokens ys (name x)) all i d within (names_then name text tokens xs ys kept (take i all) told) here
+
+pub shown_names : {X : Type 0} (name : X → ℕ) (c : Cursor) (text : List ℕ) (tokens : List Token) (xs ys : List Fault) (all : List X) → c.text.now ≡ text → c.tokens.now ≡ tokens → KeepsFaults xs ys → All (λ x. IsNameOrTold c.text.now (map extent_in c.tokens.now) xs (name x)) all → All (λ x. IsNameOrTold text (map extent_in tokens) ys (name x)) all
+shown_names {X} name c text tokens xs ys all same alike kept told =
+    let P : List ℕ → Type 0 = λ t. All (λ (x : X). IsNameOrTold t (map extent_in c.tokens.now) ys (name x)) all in
+    let Q : List Token → Type 0 = λ ts. All (λ (x : X). IsNameOrTold text (map extent_in ts) ys (name x)) all in
+    subst Q alike (subst P same (names_then name c.text.now (map extent_in c.tokens.now) xs ys kept all told))

@@ -19,6 +19,7 @@ use Rattle.wgsl_source.specs.declared.module.Extent.{Extent}
 use Rattle.wgsl_source.specs.declared.piece.Piece.{Piece}
 use Rattle.wgsl_source.specs.declared.piece.PieceKind.{PieceKind}
 use Rattle.wgsl_source.specs.declared.piece.PieceKind.TheVariants.{Declaration, Assertion, Directive, Semicolon, Fault as Faulty}
+use Rattle.wgsl_source.specs.declared.token.Token.{Token}
 use Rattle.wgsl_source.proofs.FaultLemmas.{told_then}
 
 reach-push : (from : ℕ) (ps : List Piece) (start end : ℕ) (kind : PieceKind) → Reach from ps start → start < end → Reach from (ps ++ record { start = start; end = end; kind = kind } ∷ []) end
@@ -134,3 +135,12 @@ pub added-other : {E : Type 0} (r : Result ℕ E) (c : Cursor) (ps qs : List Pie
 added-other r c ps qs ds es us vs xs start end kind added more no_declaration no_assertion has read =
     if_ok_then r added (λ e h.
     rw (h.0, h.1, h.2, h.3) (read-other c ps (map (λ (d : Declared). d.name) ds) (length us) xs start end kind read more no_declaration no_assertion has))
+
+-- ---- what is shown
+
+pub shown_pieces : (c : Cursor) (text : List ℕ) (tokens : List Token) (ps : List Piece) (names : List ℕ) (n : ℕ) (xs ys : List Fault) (at : ℕ) → c.text.now ≡ text → c.tokens.now ≡ tokens → KeepsFaults xs ys → IsRead c ps names n xs at → All (IsPiece text (map extent_in tokens) names ys) ps
+shown_pieces c text tokens ps names n xs ys at same alike kept read =
+    let P : List ℕ → Type 0 = λ t. All (IsPiece t (map extent_in c.tokens.now) names ys) ps in
+    let Q : List Token → Type 0 = λ ts. All (IsPiece text (map extent_in ts) names ys) ps in
+    let later = read-later c ps names n xs ys at kept read in
+    subst Q alike (subst P same later.told)
