@@ -1,4 +1,6 @@
 pub mod Boundaries
+pub mod FaultLemmas
+pub mod IdentifierLemmas
 pub mod LineEnds
 pub mod LineStarts
 pub mod LiteralLemmas
@@ -6,6 +8,8 @@ pub mod NameLemmas
 pub mod NameTableLemmas
 pub mod NamedLemmas
 pub mod Numerals
+pub mod OrderLemmas
+pub mod PieceLemmas
 pub mod Positions
 pub mod ReadingLemmas
 pub mod Suffixes

@@ -5,12 +5,16 @@ pub mod Cuts
 pub mod Declarations
 pub mod Expressions
 pub mod Families
+pub mod Faults
 pub mod Generators
+pub mod Identifiers
 pub mod Mixes
 pub mod NameTables
 pub mod Names
 pub mod Numbers
 pub mod Operators
+pub mod Orders
+pub mod Pieces
 pub mod Places
 pub mod Readings
 pub mod Texts

@@ -9,17 +9,19 @@ use Rattle.wgsl_source.specs.declared.declaration.Variable.{Variable}
 use Rattle.wgsl_source.specs.declared.expression.Span.{Span}
 use Rattle.wgsl_source.specs.declared.expression.Step.{Step}
 use Rattle.wgsl_source.specs.declared.fault.Fault.{Fault}
+use Rattle.wgsl_source.specs.declared.fault.Reason.{Reason}
 use Rattle.wgsl_source.specs.declared.module.Declared.{Declared}
 use Rattle.wgsl_source.specs.declared.module.Declared.TheVariants as declareds
 use Rattle.wgsl_source.specs.declared.module.DeclaredVariable.{DeclaredVariable}
 use Rattle.wgsl_source.specs.declared.module.Extent.{Extent}
 use Rattle.wgsl_source.specs.declared.module.Field.{Field}
+use Rattle.wgsl_source.specs.declared.piece.Piece.{Piece}
 use Rattle.wgsl_source.specs.declared.token.Token.{Token}
 
 -- a source as it is shown: its text, the bytes of its tokens, what its declarations declare and the
 -- tokens that name them, those of these tokens by which declarations are found, the members of its
--- structures, all steps, the conditions of its assertions, an order of the declarations, where operators
--- begin that the grammar refuses, and what is wrong
+-- structures, all steps, the conditions of its assertions, the pieces that it is made of, an order of the
+-- declarations, where operators begin that the grammar refuses, and what is wrong
 pub record Outline : Type 0 where
   pub text : List ℕ
   pub tokens : List Extent
@@ -29,6 +31,7 @@ pub record Outline : Type 0 where
   pub fields : List Field
   pub steps : List Step
   pub asserts : List Span
+  pub pieces : List Piece
   pub order : List ℕ
   pub refused : List ℕ
   pub faults : List Fault
@@ -66,6 +69,11 @@ extent_of text tokens at = unwrap_or (slice_get tokens at) (record { start = len
 -- the text of the token of this number
 abbrev pub word_of : List ℕ → List Extent → ℕ → List ℕ
 word_of text tokens at = cut_of text (extent_of text tokens at).start (extent_of text tokens at).end
+
+-- a fault at the token of this number
+abbrev pub fault_at : List ℕ → List Extent → ℕ → Reason → Fault
+fault_at text tokens at reason =
+    record { start = (extent_of text tokens at).start; end = (extent_of text tokens at).end; reason = reason }
 
 -- the first of these tokens with this text
 abbrev pub first_of : List ℕ → List Extent → List ℕ → List ℕ → Option ℕ

@@ -3,6 +3,7 @@
 ghost use Rattle.std.specs.Prelude.{◌≡◌, ◌<◌, ◌≤◌, ◌↔◌, length, IsTrue, IfOk, IfErr, OnOk, if◌then◌else◌};
 ghost use Rattle.wgsl_source.specs.Brackets.{brackets_behind, wanting_end};
 ghost use Rattle.wgsl_source.specs.Cursors.{token_of, text_of, next_token, advanced, fault_of};
+ghost use Rattle.wgsl_source.specs.Declarations.{IsBehind, IsNamed};
 ghost use Rattle.wgsl_source.specs.Cuts.{is_boundary, cut_of};
 ghost use Rattle.std.specs.Str.{IsCharBoundary};
 
@@ -14,18 +15,13 @@ use std::alloc::AllocError;
 #[derive(Clone, Copy)]
 pub(crate) enum Stop {
     Memory,
-    At(Fault),
+    /// A fault at the token of this number.
+    At(usize, Reason),
 }
 
 impl From<AllocError> for Stop {
     fn from(_: AllocError) -> Self {
         Stop::Memory
-    }
-}
-
-impl From<Fault> for Stop {
-    fn from(fault: Fault) -> Self {
-        Stop::At(fault)
     }
 }
 
@@ -47,6 +43,17 @@ impl<'a> Cursor<'a> {
             text,
             tokens,
             at: 0,
+        }
+    }
+
+    /// The same tokens from this one on.
+    pub(crate) fn moved_to(self, at: usize) -> Self
+        ensures { result ≡ record self.entry { at = at } }
+    {
+        Cursor {
+            text: self.text,
+            tokens: self.tokens,
+            at,
         }
     }
 
@@ -117,6 +124,7 @@ impl<'a> Cursor<'a> {
     pub(crate) fn advance(&mut self) -> usize
         ensures number { result ≡ self.old.at }
         ensures after { self.new ≡ advanced self.old }
+        ensures later { IsBehind self.old self.new }
     {
         let at = self.at;
         self.at = at.saturating_add(1);
@@ -127,6 +135,7 @@ impl<'a> Cursor<'a> {
     pub(crate) fn take_symbol(&mut self, symbol: u8) -> bool
         ensures found { IsTrue result ↔ ((next_token self.old).kind ≡ TokenKind.Symbol symbol) }
         ensures after { self.new ≡ (if result then advanced self.old else self.old) }
+        ensures later { IsBehind self.old self.new }
     {
         let is_next = self.token().is_symbol(symbol);
         if is_next {
@@ -138,7 +147,8 @@ impl<'a> Cursor<'a> {
     /// Goes on by this character, or stops where another stands.
     pub(crate) fn expect_symbol(&mut self, symbol: u8) -> Result<(), Stop>
         ensures ok { OnOk result (((next_token self.old).kind ≡ TokenKind.Symbol symbol) × (self.new ≡ advanced self.old)) }
-        ensures err { IfErr result (λ stop. (stop ≡ Stop.At (fault_of self.old self.old.at (Reason.Expected (Expected.Symbol symbol)))) × (self.new ≡ self.old)) }
+        ensures err { IfErr result (λ stop. (stop ≡ Stop.At self.old.at (Reason.Expected (Expected.Symbol symbol))) × (self.new ≡ self.old)) }
+        ensures later { IsBehind self.old self.new }
     {
         if self.take_symbol(symbol) {
             Ok(())
@@ -150,7 +160,9 @@ impl<'a> Cursor<'a> {
     /// Goes on by a name, and answers its number.
     pub(crate) fn expect_name(&mut self) -> Result<usize, Stop>
         ensures ok { IfOk result (λ name. (name ≡ self.old.at) × ((next_token self.old).kind ≡ TokenKind.Name) × (self.new ≡ advanced self.old)) }
-        ensures err { IfErr result (λ stop. (stop ≡ Stop.At (fault_of self.old self.old.at (Reason.Expected Expected.Name))) × (self.new ≡ self.old)) }
+        ensures named { IfOk result (λ name. IsNamed self.old self.new name) }
+        ensures err { IfErr result (λ stop. (stop ≡ Stop.At self.old.at (Reason.Expected Expected.Name)) × (self.new ≡ self.old)) }
+        ensures later { IsBehind self.old self.new }
     {
         if self.token().kind == TokenKind::Name {
             Ok(self.advance())
@@ -161,9 +173,9 @@ impl<'a> Cursor<'a> {
 
     /// Something else is expected where the next token stands.
     pub(crate) fn expected(&self, expected: Expected) -> Stop
-        ensures { result ≡ Stop.At (fault_of self.now self.now.at (Reason.Expected expected)) }
+        ensures { result ≡ Stop.At self.now.at (Reason.Expected expected) }
     {
-        Stop::At(self.fault_at(self.at, Reason::Expected(expected)))
+        Stop::At(self.at, Reason::Expected(expected))
     }
 
     /// A fault at the token of this number.
@@ -179,12 +191,16 @@ impl<'a> Cursor<'a> {
     }
 
     /// Goes on behind the bracket that closes the one that is next.
-    pub(crate) fn skip_group(&mut self) {
+    pub(crate) fn skip_group(&mut self)
+        ensures later { IsBehind self.old self.new }
+    {
         let _ = self.pass_group(Brackets::NONE);
     }
 
     // Goes on in the same way, and counts the brackets beside these.
-    fn pass_group(&mut self, before: Brackets) -> Brackets {
+    fn pass_group(&mut self, before: Brackets) -> Brackets
+        ensures later { IsBehind self.old self.new }
+    {
         let left = self.tokens.get(self.at..).unwrap_or(&[]);
         let (taken, brackets) = group_len(left, before);
         self.at = self.at.saturating_add(taken);
@@ -193,13 +209,17 @@ impl<'a> Cursor<'a> {
 
     /// Goes on behind the bracket that closes the one that is next, and answers which bracket is then
     /// without its end, if one is.
-    pub(crate) fn skip_counted_group(&mut self) -> Option<char> {
+    pub(crate) fn skip_counted_group(&mut self) -> Option<char>
+        ensures later { IsBehind self.old self.new }
+    {
         self.pass_group(Brackets::NONE).open_end()
     }
 
     /// Goes on behind the next `;` outside of brackets, or behind the braces that come before it, and
     /// answers which bracket is then without its end, if one is.
-    pub(crate) fn skip_declaration(&mut self) -> Option<char> {
+    pub(crate) fn skip_declaration(&mut self) -> Option<char>
+        ensures later { IsBehind self.old self.new }
+    {
         let mut brackets = Brackets::NONE;
         for _ in self.at..self.tokens.len() {
             match self.token().kind {

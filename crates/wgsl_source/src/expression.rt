@@ -6,6 +6,7 @@ ghost use Rattle.wgsl_rules.specs.Text.{unary_text, binary_text};
 ghost use Rattle.wgsl_rules.specs.declared.syntax.BinaryOperator.{BinaryOperator};
 ghost use Rattle.wgsl_rules.specs.declared.syntax.UnaryOperator.{UnaryOperator};
 ghost use Rattle.wgsl_source.specs.Cursors.{fault_of};
+ghost use Rattle.wgsl_source.specs.Declarations.{IsBehind};
 ghost use Rattle.wgsl_source.specs.Expressions.{is_mixed_in, operator_in, MayDouble, StandsBefore, IsDouble};
 ghost use Rattle.wgsl_source.specs.Operators.{precedence_of};
 
@@ -124,6 +125,7 @@ impl<'a> Expressions<'a> {
     /// Reads the longest expression from here on.
     pub(crate) fn expression(&mut self) -> Result<Span, Stop>
         ensures span { IfOk result (λ span. (span.start ≡ vec_len self.old.steps) × (span.end ≡ vec_len self.new.steps)) }
+        ensures later { IsBehind self.old.cursor self.new.cursor }
     {
         let token = self.cursor.position();
         let start = self.steps.len();
@@ -148,7 +150,9 @@ impl<'a> Expressions<'a> {
     }
 
     // Reads what may begin an operand.
-    fn operand(&mut self) -> Result<Next, Stop> {
+    fn operand(&mut self) -> Result<Next, Stop>
+        ensures later { IsBehind self.old.cursor self.new.cursor }
+    {
         match self.cursor.token().kind {
             TokenKind::Name => self.name(),
             TokenKind::Number => {
@@ -173,13 +177,15 @@ impl<'a> Expressions<'a> {
     }
 
     fn no_operand(&self) -> Stop
-        ensures { result ≡ Stop.At (fault_of self.now.cursor self.now.cursor.at (Reason.Expected Expected.Expression)) }
+        ensures { result ≡ Stop.At self.now.cursor.at (Reason.Expected Expected.Expression) }
     {
         self.cursor.expected(Expected::Expression)
     }
 
     // A list may end behind a comma, and that of a call may be empty.
-    fn end_of_list(&mut self) -> Result<Next, Stop> {
+    fn end_of_list(&mut self) -> Result<Next, Stop>
+        ensures later { IsBehind self.old.cursor self.new.cursor }
+    {
         let kind = self.cursor.token().kind;
         match (self.open.last().copied(), kind) {
             (Some(Open::Template(name, count)), TokenKind::TemplateEnd) if count > 0 => {
@@ -192,7 +198,9 @@ impl<'a> Expressions<'a> {
         }
     }
 
-    fn name(&mut self) -> Result<Next, Stop> {
+    fn name(&mut self) -> Result<Next, Stop>
+        ensures later { IsBehind self.old.cursor self.new.cursor }
+    {
         let name = self.cursor.advance();
         match self.cursor.token().kind {
             TokenKind::TemplateStart => {
@@ -208,7 +216,9 @@ impl<'a> Expressions<'a> {
     }
 
     // Reads what may stand behind an operand.
-    fn operator(&mut self) -> Result<Next, Stop> {
+    fn operator(&mut self) -> Result<Next, Stop>
+        ensures later { IsBehind self.old.cursor self.new.cursor }
+    {
         match self.cursor.token().kind {
             TokenKind::TemplateEnd => self.end_template(),
             TokenKind::Symbol(b')') => self.end_group(),
@@ -229,7 +239,9 @@ impl<'a> Expressions<'a> {
         }
     }
 
-    fn binary(&mut self, symbol: u8) -> Result<Next, Stop> {
+    fn binary(&mut self, symbol: u8) -> Result<Next, Stop>
+        ensures later { IsBehind self.old.cursor self.new.cursor }
+    {
         let second = self.cursor.second();
         let behind = match second.kind {
             TokenKind::Symbol(behind) if second.is_joined(self.cursor.token(), behind) => behind,
@@ -247,7 +259,9 @@ impl<'a> Expressions<'a> {
         self.begin(Open::Binary(operator, at))
     }
 
-    fn comma(&mut self) -> Result<Next, Stop> {
+    fn comma(&mut self) -> Result<Next, Stop>
+        ensures later { IsBehind self.old.cursor self.new.cursor }
+    {
         self.reduce(0)?;
         let open = match self.open.last().copied() {
             Some(Open::Template(name, count)) => Open::Template(name, count.saturating_add(1)),
@@ -261,7 +275,9 @@ impl<'a> Expressions<'a> {
         self.begin(open)
     }
 
-    fn end_template(&mut self) -> Result<Next, Stop> {
+    fn end_template(&mut self) -> Result<Next, Stop>
+        ensures later { IsBehind self.old.cursor self.new.cursor }
+    {
         self.reduce(0)?;
         match self.open.last().copied() {
             Some(Open::Template(name, count)) => {
@@ -271,7 +287,9 @@ impl<'a> Expressions<'a> {
         }
     }
 
-    fn end_group(&mut self) -> Result<Next, Stop> {
+    fn end_group(&mut self) -> Result<Next, Stop>
+        ensures later { IsBehind self.old.cursor self.new.cursor }
+    {
         self.reduce(0)?;
         match self.open.last().copied() {
             Some(Open::Group) => {
@@ -286,7 +304,9 @@ impl<'a> Expressions<'a> {
         }
     }
 
-    fn end_index(&mut self) -> Result<Next, Stop> {
+    fn end_index(&mut self) -> Result<Next, Stop>
+        ensures later { IsBehind self.old.cursor self.new.cursor }
+    {
         self.reduce(0)?;
         match self.open.last().copied() {
             Some(Open::Index(at)) => self.close(Step::Index(at)),
@@ -295,7 +315,9 @@ impl<'a> Expressions<'a> {
     }
 
     // Closes the innermost bracket. Behind a template list a call of it may begin.
-    fn close(&mut self, step: Step) -> Result<Next, Stop> {
+    fn close(&mut self, step: Step) -> Result<Next, Stop>
+        ensures later { IsBehind self.old.cursor self.new.cursor }
+    {
         let _ = self.open.pop();
         self.cursor.advance();
         let next = self.leave(step)?;
@@ -339,10 +361,12 @@ impl<'a> Expressions<'a> {
         push_fault(&mut self.refused, self.cursor.fault_at(at, Reason::Double))
     }
 
-    fn begin(&mut self, open: Open) -> Result<Next, Stop> {
+    fn begin(&mut self, open: Open) -> Result<Next, Stop>
+        ensures later { IsBehind self.old.cursor self.new.cursor }
+    {
         if self.open.len() >= DEPTH {
             let bracket = self.cursor.position().saturating_sub(1);
-            return Err(self.cursor.fault_at(bracket, Reason::TooDeep).into());
+            return Err(Stop::At(bracket, Reason::TooDeep));
         }
         push_open(&mut self.open, open)?;
         Ok(Next::Operand)
@@ -350,13 +374,16 @@ impl<'a> Expressions<'a> {
 
     fn leave(&mut self, step: Step) -> Result<Next, Stop>
         ensures open { self.new.open.items ≡ self.old.open.items }
+        ensures later { IsBehind self.old.cursor self.new.cursor }
     {
         push_step(&mut self.steps, step)?;
         Ok(Next::Operator)
     }
 
     // The operators that wait and bind at least so tightly have their operands now.
-    fn reduce(&mut self, level: u8) -> Result<(), Stop> {
+    fn reduce(&mut self, level: u8) -> Result<(), Stop>
+        ensures later { IsBehind self.old.cursor self.new.cursor }
+    {
         for _ in 0..self.open.len() {
             let step = match self.open.last().copied() {
                 Some(Open::Unary(operator, at)) => Step::Unary(operator, at),
@@ -372,7 +399,9 @@ impl<'a> Expressions<'a> {
     }
 
     // At the end no bracket is open.
-    fn finish(&mut self) -> Result<(), Stop> {
+    fn finish(&mut self) -> Result<(), Stop>
+        ensures later { IsBehind self.old.cursor self.new.cursor }
+    {
         self.reduce(0)?;
         match self.open.last().copied() {
             None => Ok(()),

@@ -1,6 +1,8 @@
 //! What is wrong in a source.
 
 ghost use Rattle.std.specs.Prelude.{◌≡◌, ◌≤◌, [], ◌∷◌, ◌++◌, nat_lt, if◌then◌else◌, Some, IfOk, OnOk, OnErr, vec_len};
+ghost use Rattle.std.specs.List.Sorted.{IsPermutation};
+ghost use Rattle.wgsl_source.specs.Faults.{IsTold, KeepsFaults};
 ghost use Rattle.wgsl_source.specs.Texts.{expected_text, reason_text};
 
 use std::alloc::{AllocError, Global};
@@ -61,6 +63,12 @@ pub enum Reason {
     Mixed,
     /// Two characters make one token, which is no operator there.
     Double,
+    /// A name is a keyword.
+    Keyword,
+    /// A name is a reserved word.
+    Reserved,
+    /// A name is `_`, or begins with two of it.
+    NoIdentifier,
 }
 
 impl fmt::Display for Reason {
@@ -75,6 +83,9 @@ impl fmt::Display for Reason {
             Reason::ContainsItself => f.write_str("this needs itself"),
             Reason::Mixed => f.write_str("this operator and the one before it need brackets"),
             Reason::Double => f.write_str("two of these beside each other are no operators here"),
+            Reason::Keyword => f.write_str("this is a keyword"),
+            Reason::Reserved => f.write_str("this word is reserved"),
+            Reason::NoIdentifier => f.write_str("this is no identifier"),
         }
     }
 }
@@ -110,6 +121,8 @@ impl Faults {
         ensures ok { OnOk result (self.new.faults.items ≡
             (if nat_lt (vec_len self.old.faults) 100 then self.old.faults.items ++ fault ∷ [] else self.old.faults.items)) }
         ensures err { OnErr result (self.new.faults.items ≡ self.old.faults.items) }
+        ensures told { OnOk result (IsTold self.new.faults.items fault) }
+        ensures kept { KeepsFaults self.old.faults.items self.new.faults.items }
     {
         if self.faults.len() < FAULTS {
             self.faults.push(fault)?;
@@ -119,7 +132,8 @@ impl Faults {
 
     /// All of them, as they stand in the source.
     pub(crate) fn into_sorted(self) -> Result<Vec<Fault>, AllocError>
-        ensures { IfOk result (λ faults. vec_len faults ≤ 100) }
+        ensures bounded { IfOk result (λ faults. vec_len faults ≤ 100) }
+        ensures same { IfOk result (λ faults. IsPermutation self.faults.items faults.items) }
     {
         let mut faults = self.faults;
         faults.sort_by_key(|fault| fault.start)?;

@@ -1,17 +1,23 @@
 //! Sources as evaluators walk them: declarations, the steps of their expressions, and names.
 
-ghost use Rattle.std.specs.Prelude.{◌≡◌, ◌≤◌, ◌↔◌, [], IfOk, IsTrue, Contains, map, length, slice_get, unwrap_or};
+ghost use Rattle.std.specs.Prelude.{◌≡◌, ◌≤◌, ◌↔◌, [], All, IfOk, IsTrue, Contains, map, length, slice_get, unwrap_or};
+ghost use Rattle.wgsl_source.specs.Faults.{KeepsFaults};
+ghost use Rattle.wgsl_source.specs.Identifiers.{IsNameOrTold};
 ghost use Rattle.wgsl_source.specs.Numbers.{Means};
+ghost use Rattle.wgsl_source.specs.Orders.{IsOrderOf};
+ghost use Rattle.wgsl_source.specs.Pieces.{IsPiece, Reach, assertions_in, declarations_in, numbers};
 ghost use Rattle.wgsl_source.specs.Readings.{extent_in, extent_at, word_at, steps_in, first_named};
 
 use crate::cursor::{Cursor, Stop};
 use crate::declaration::{Declaration, Kind, Module, read_module};
 use crate::expression::{Expressions, Span, Step};
 use crate::fault::{Expected, Fault, Faults};
+use crate::identifier::check_names;
 use crate::lexer::{Lexed, tokens_of};
 use crate::literal::{Literal, literal_of};
 use crate::name_table::NameTable;
 use crate::order::{names_of, order_of};
+use crate::piece::Piece;
 use crate::templates::mark_templates;
 use crate::token::Token;
 use std::alloc::{AllocError, Global};
@@ -52,6 +58,7 @@ impl<'a> Model for Reading<'a> {
       fields = map field_in r.module.members.items;
       steps = r.module.steps.items;
       asserts = r.module.asserts.items;
+      pieces = r.module.pieces.items;
       order = r.order.items;
       refused = r.refused.keys;
       faults = r.faults.items;
@@ -117,11 +124,19 @@ impl<'a> Reading<'a> {
         ensures text { IfOk result (λ reading. reading.text ≡ text.entry.now) }
         ensures found { IfOk result (λ reading. reading.found_by ≡ reading.names) }
         ensures faults { IfOk result (λ reading. length reading.faults ≤ 100) }
+        ensures pieces { IfOk result (λ reading. Reach 0 reading.pieces (length reading.tokens)) }
+        ensures holds { IfOk result (λ reading. All (IsPiece reading.text reading.tokens reading.names reading.faults) reading.pieces) }
+        ensures declarations { IfOk result (λ reading. declarations_in reading.pieces ≡ numbers (length reading.declared)) }
+        ensures assertions { IfOk result (λ reading. assertions_in reading.pieces ≡ numbers (length reading.asserts)) }
+        ensures names { IfOk result (λ reading. All (IsNameOrTold reading.text reading.tokens reading.faults) reading.names) }
+        ensures members { IfOk result (λ reading. All (λ f. IsNameOrTold reading.text reading.tokens reading.faults f.name) reading.fields) }
+        ensures order { IfOk result (λ reading. IsOrderOf reading.order (length reading.declared)) }
     {
         let mut faults = Faults::new(alloc);
         let tokens = marked_tokens(alloc, text, &mut faults)?;
         let cursor = Cursor::new(text, tokens.as_slice());
         let module = read_module(alloc, cursor, &mut faults)?;
+        check_names(&module, cursor, &mut faults)?;
         let names = names_of(alloc, &module, cursor, &mut faults)?;
         let order = order_of(alloc, &module, cursor, &names, &mut faults)?;
         let refused = add_refused(alloc, &module, &mut faults)?;
@@ -142,6 +157,7 @@ impl<'a> Reading<'a> {
     pub fn of_expression(alloc: Global, text: &'a str) -> Result<Reading<'a>, AllocError>
         ensures text { IfOk result (λ reading. reading.text ≡ text.entry.now) }
         ensures found { IfOk result (λ reading. reading.found_by ≡ []) }
+        ensures pieces { IfOk result (λ reading. reading.pieces ≡ []) }
         ensures faults { IfOk result (λ reading. length reading.faults ≤ 100) }
     {
         let mut faults = Faults::new(alloc);
@@ -226,6 +242,14 @@ impl<'a> Reading<'a> {
         })
     }
 
+    /// What the module is made of, from its first token to its last: each piece begins where the one
+    /// before it ends. An expression has none.
+    pub fn pieces(&self) -> &[Piece]
+        ensures { result.now ≡ self.now.pieces }
+    {
+        self.module.pieces.as_slice()
+    }
+
     /// The numbers of the declarations, each behind those that it names.
     pub fn order(&self) -> &[usize]
         ensures { result.now ≡ self.now.order }
@@ -308,7 +332,9 @@ fn add_refused(
     alloc: Global,
     module: &Module,
     faults: &mut Faults,
-) -> Result<BTreeSet<usize>, AllocError> {
+) -> Result<BTreeSet<usize>, AllocError>
+    ensures { KeepsFaults faults.old.faults.items faults.new.faults.items }
+{
     let mut refused = BTreeSet::new(alloc);
     for fault in &module.refused {
         faults.add(*fault)?;
@@ -321,13 +347,15 @@ fn read_expression(
     alloc: Global,
     cursor: Cursor<'_>,
     faults: &mut Faults,
-) -> Result<Module, AllocError> {
+) -> Result<Module, AllocError>
+    ensures { IfOk result (λ m. m.pieces.items ≡ []) }
+{
     let mut expressions = Expressions::new(alloc, cursor);
     let mut declarations = Vec::new(alloc);
     match whole_expression(&mut expressions) {
         Ok(span) => declarations.push(declaration_of(span))?,
         Err(Stop::Memory) => return Err(AllocError),
-        Err(Stop::At(fault)) => faults.add(fault)?,
+        Err(Stop::At(token, reason)) => faults.add(cursor.fault_at(token, reason))?,
     }
     let (steps, refused) = expressions.into_steps();
     Ok(Module {
@@ -336,6 +364,7 @@ fn read_expression(
         steps,
         asserts: Vec::new(alloc),
         refused,
+        pieces: Vec::new(alloc),
     })
 }
 

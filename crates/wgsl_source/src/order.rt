@@ -1,25 +1,19 @@
 //! An order of the declarations, in which each stands behind those that it names (WGSL: declaration
 //! and scope).
 
-ghost use Rattle.std.specs.Prelude.{◌≡◌, ℕ, List, IfOk};
+ghost use Rattle.std.specs.Prelude.{◌≡◌, ℕ, List, length, IfOk};
 ghost use Rattle.wgsl_source.specs.Declarations.{number_named};
+ghost use Rattle.wgsl_source.specs.Faults.{KeepsFaults};
 ghost use Rattle.wgsl_source.specs.NameTables.{named_in};
+ghost use Rattle.wgsl_source.specs.Orders.{IsOrderOf};
 
 use crate::cursor::Cursor;
 use crate::declaration::Module;
 use crate::expression::{Callee, Step};
 use crate::fault::{Faults, Reason};
 use crate::name_table::NameTable;
+use crate::places::Places;
 use std::alloc::{AllocError, Global};
-
-/// Whether a declaration has its place in the order.
-#[derive(Clone, Copy, PartialEq, Eq)]
-enum Mark {
-    New,
-    /// Those that it names are looked at.
-    Begun,
-    Done,
-}
 
 /// A declaration that was begun, and the step of it that is looked at next.
 #[derive(Clone, Copy)]
@@ -34,9 +28,8 @@ struct Search<'a> {
     cursor: Cursor<'a>,
     module: &'a Module,
     names: &'a NameTable,
-    marks: Vec<Mark>,
+    places: Places,
     begun: Vec<Frame>,
-    order: Vec<usize>,
 }
 
 /// The numbers of declarations by their names. Of two with one name the first has it.
@@ -46,7 +39,8 @@ pub(crate) fn names_of(
     cursor: Cursor<'_>,
     faults: &mut Faults,
 ) -> Result<NameTable, AllocError>
-    ensures { IfOk result (λ names. (name : List ℕ) → named_in names name ≡ number_named cursor.entry «module».now.declarations.items name) }
+    ensures names { IfOk result (λ names. (name : List ℕ) → named_in names name ≡ number_named cursor.entry «module».now.declarations.items name) }
+    ensures kept { KeepsFaults faults.old.faults.items faults.new.faults.items }
 {
     let mut names = NameTable::for_names(alloc, module.declarations.len())?;
     for (number, declaration) in module.declarations.iter().enumerate() {
@@ -68,15 +62,17 @@ pub(crate) fn order_of(
     cursor: Cursor<'_>,
     names: &NameTable,
     faults: &mut Faults,
-) -> Result<Vec<usize>, AllocError> {
+) -> Result<Vec<usize>, AllocError>
+    ensures order { IfOk result (λ order. IsOrderOf order.items (length «module».now.declarations.items)) }
+    ensures kept { KeepsFaults faults.old.faults.items faults.new.faults.items }
+{
     let declared = module.declarations.len();
     let mut search = Search {
         cursor,
         module,
         names,
-        marks: vec![in alloc; Mark::New; declared]?,
+        places: Places::new(alloc, declared)?,
         begun: Vec::new(alloc),
-        order: Vec::with_capacity(alloc, declared)?,
     };
     // Each turn goes by a step of a declaration or ends one.
     let turns = module.steps.len().saturating_add(declared);
@@ -89,41 +85,33 @@ pub(crate) fn order_of(
             search.go_on(faults)?;
         }
     }
-    Ok(search.order)
+    search.places.into_order()
 }
 
 impl Search<'_> {
-    fn mark(&self, declaration: usize) -> Mark {
-        self.marks.get(declaration).copied().unwrap_or(Mark::Done)
-    }
-
-    fn set_mark(&mut self, declaration: usize, mark: Mark) {
-        if let Some(place) = self.marks.get_mut(declaration) {
-            *place = mark;
-        }
-    }
-
-    fn begin(&mut self, declaration: usize) -> Result<(), AllocError> {
-        if self.mark(declaration) != Mark::New {
+    fn begin(&mut self, declaration: usize) -> Result<(), AllocError>
+        ensures same { length self.new.places.marks.items ≡ length self.old.places.marks.items }
+    {
+        if !self.places.begin(declaration) {
             return Ok(());
         }
         if let Some(begun) = self.module.declarations.get(declaration) {
             let step = begun.steps.start;
-            self.set_mark(declaration, Mark::Begun);
             self.begun.push(Frame { declaration, step })?;
         }
         Ok(())
     }
 
     // Looks at the next step of the declaration that was begun last, or ends that.
-    fn go_on(&mut self, faults: &mut Faults) -> Result<(), AllocError> {
+    fn go_on(&mut self, faults: &mut Faults) -> Result<(), AllocError>
+        ensures same { length self.new.places.marks.items ≡ length self.old.places.marks.items }
+        ensures kept { KeepsFaults faults.old.faults.items faults.new.faults.items }
+    {
         let Some(frame) = self.begun.pop() else {
             return Ok(());
         };
         let Some(step) = self.step_of(frame) else {
-            self.set_mark(frame.declaration, Mark::Done);
-            self.order.push(frame.declaration)?;
-            return Ok(());
+            return self.places.end(frame.declaration);
         };
         self.begun.push(Frame {
             declaration: frame.declaration,
@@ -144,11 +132,14 @@ impl Search<'_> {
         self.module.steps.get(frame.step).copied()
     }
 
-    fn follow(&mut self, name: usize, faults: &mut Faults) -> Result<(), AllocError> {
+    fn follow(&mut self, name: usize, faults: &mut Faults) -> Result<(), AllocError>
+        ensures same { length self.new.places.marks.items ≡ length self.old.places.marks.items }
+        ensures kept { KeepsFaults faults.old.faults.items faults.new.faults.items }
+    {
         let Some(declaration) = self.names.get(self.cursor.text_at(name)) else {
             return Ok(());
         };
-        if self.mark(declaration) == Mark::Begun {
+        if self.places.is_begun(declaration) {
             faults.add(self.cursor.fault_at(name, Reason::ContainsItself))?;
         }
         self.begin(declaration)

@@ -101,15 +101,16 @@ impl<'a> Walk<'a> {
         Ok(name)
     }
 
-    // Reads a function, whose name is answered, or a `;`.
+    // Reads a function, whose name is answered, or a `;`, which has no attributes.
     fn declaration(&mut self) -> Result<Option<usize>, Fault> {
+        let start = self.position();
         if let Err(fault) = self.attributes() {
             self.skip_to_declaration();
             return Err(fault);
         }
         match self.word_at(self.position()) {
             "fn" => Ok(Some(self.function()?)),
-            ";" => {
+            ";" if self.position() == start => {
                 self.advance();
                 Ok(None)
             }

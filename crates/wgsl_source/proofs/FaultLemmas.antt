@@ -1,0 +1,20 @@
+-- What was told is told.
+use Rattle.std.proofs.Common.{ℕ, ◌≡◌, ◌<◌, List, length, arith}
+use Rattle.std.proofs.lemmas.List.Sorted.{Contains-permutation, length_permutation}
+use Rattle.std.specs.List.{Contains}
+use Rattle.std.specs.List.Sorted.{IsPermutation}
+use Rattle.wgsl_source.specs.Faults.{KeepsFaults, IsTold}
+use Rattle.wgsl_source.specs.declared.fault.Fault.{Fault}
+
+pub kept_then : (xs ys zs : List Fault) → KeepsFaults xs ys → KeepsFaults ys zs → KeepsFaults xs zs
+kept_then xs ys zs a b = (omega (arith, a.0, b.0), λ fault h. b.1 fault (a.1 fault h))
+
+pub told_then : (xs ys : List Fault) (fault : Fault) → KeepsFaults xs ys → IsTold xs fault → IsTold ys fault
+told_then xs ys fault kept told = λ few. kept.1 fault (told (omega (arith, few, kept.0)))
+
+pub permuted : (xs ys : List Fault) → IsPermutation xs ys → KeepsFaults xs ys
+permuted xs ys moved = (omega (arith, length_permutation xs ys moved), λ fault. Contains-permutation xs ys fault moved)
+
+-- over three calls and the sort
+pub kept_to_end : (xs ys zs us vs : List Fault) → KeepsFaults xs ys → KeepsFaults ys zs → KeepsFaults zs us → IsPermutation us vs → KeepsFaults xs vs
+kept_to_end xs ys zs us vs a b c moved = kept_then xs ys vs a (kept_then ys zs vs b (kept_then zs us vs c (permuted us vs moved)))

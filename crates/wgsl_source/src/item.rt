@@ -1,0 +1,357 @@
+//! Reads what a module is made of, one item at a time (WGSL: declaration and scope; struct types; variable
+//! and value declarations; attributes; directives).
+
+ghost use Rattle.std.specs.Prelude.{IfOk};
+ghost use Rattle.wgsl_source.specs.Declarations.{IsBehind, IsItem, IsNamed};
+
+use crate::cursor::Stop;
+use crate::declaration::{Attributes, Declaration, Kind, Member, Variable};
+use crate::expression::{Expressions, Span};
+use crate::fault::{Expected, Reason};
+use crate::token::TokenKind;
+use wgsl_rules::{AccessMode, AddressSpace};
+
+/// What a module is made of.
+pub(crate) enum Item {
+    Declaration(Declaration),
+    /// The condition of a `const_assert`.
+    Assertion(Span),
+    Directive,
+    Semicolon,
+}
+
+/// What is declared, and the token that names it.
+struct Named {
+    name: usize,
+    kind: Kind,
+}
+
+impl<'a> Expressions<'a> {
+    /// Reads what begins here. The members of a structure come behind those before.
+    pub(crate) fn item(&mut self, members: &mut Vec<Member>) -> Result<Item, Stop>
+        ensures { IfOk result (λ item. IsItem self.old.cursor self.new.cursor item) }
+    {
+        match self.cursor.word() {
+            ";" => {
+                self.cursor.advance();
+                Ok(Item::Semicolon)
+            }
+            "enable" | "requires" | "diagnostic" => {
+                self.skip_declaration()?;
+                Ok(Item::Directive)
+            }
+            _ => self.attributed(members),
+        }
+    }
+
+    // Reads what may have attributes.
+    fn attributed(&mut self, members: &mut Vec<Member>) -> Result<Item, Stop>
+        ensures { IfOk result (λ item. IsItem self.old.cursor self.new.cursor item) }
+    {
+        let start = self.steps.len();
+        match self.attributes() {
+            Ok(_) if self.cursor.word() == "const_assert" => {
+                Ok(Item::Assertion(self.assertion()?))
+            }
+            Ok(attributes) => {
+                let Named { name, kind } = self.declared(members, attributes)?;
+                let steps = Span {
+                    token: name,
+                    start,
+                    end: self.steps.len(),
+                };
+                Ok(Item::Declaration(Declaration { name, kind, steps }))
+            }
+            Err(stop) => {
+                self.cursor.skip_to_declaration();
+                Err(stop)
+            }
+        }
+    }
+
+    // Reads the declaration behind attributes.
+    fn declared(&mut self, members: &mut Vec<Member>, attributes: Attributes) -> Result<Named, Stop>
+        ensures { IfOk result (λ named. IsNamed self.old.cursor self.new.cursor named.name) }
+    {
+        match self.cursor.word() {
+            "struct" => self.structure(members),
+            "alias" => self.alias(),
+            "const" => self.constant(),
+            "override" => self.overridden(),
+            "var" => self.variable(attributes),
+            "fn" => self.function(),
+            _ => Err(self.cursor.expected(Expected::Declaration)),
+        }
+    }
+}
+
+impl<'a> Expressions<'a> {
+    fn attributes(&mut self) -> Result<Attributes, Stop>
+        ensures later { IsBehind self.old.cursor self.new.cursor }
+    {
+        let mut attributes = Attributes::NONE;
+        for _ in self.cursor.position()..self.cursor.len() {
+            if !self.cursor.take_symbol(b'@') {
+                break;
+            }
+            self.attribute(&mut attributes)?;
+        }
+        Ok(attributes)
+    }
+
+    // One that says nothing of layouts and bindings is passed over.
+    fn attribute(&mut self, attributes: &mut Attributes) -> Result<(), Stop>
+        ensures later { IsBehind self.old.cursor self.new.cursor }
+    {
+        let name = self.cursor.expect_name()?;
+        match self.cursor.text_at(name) {
+            "align" => attributes.align = Some(self.argument_of(name, attributes.align)?),
+            "size" => attributes.size = Some(self.argument_of(name, attributes.size)?),
+            "group" => attributes.group = Some(self.argument_of(name, attributes.group)?),
+            "binding" => attributes.binding = Some(self.argument_of(name, attributes.binding)?),
+            _ => {
+                if self.cursor.token().is_symbol(b'(') {
+                    let open_end = self.cursor.skip_counted_group();
+                    self.check_closed(open_end)?;
+                }
+            }
+        }
+        Ok(())
+    }
+
+    // The argument of an attribute that stands once.
+    fn argument_of(&mut self, name: usize, before: Option<Span>) -> Result<Span, Stop>
+        ensures later { IsBehind self.old.cursor self.new.cursor }
+    {
+        if before.is_some() {
+            return Err(Stop::At(name, Reason::DuplicateName));
+        }
+        self.argument()
+    }
+
+    // An expression in brackets.
+    fn argument(&mut self) -> Result<Span, Stop>
+        ensures later { IsBehind self.old.cursor self.new.cursor }
+    {
+        self.cursor.expect_symbol(b'(')?;
+        let argument = self.expression()?;
+        let _ = self.cursor.take_symbol(b',');
+        self.cursor.expect_symbol(b')')?;
+        Ok(argument)
+    }
+
+    fn structure(&mut self, members: &mut Vec<Member>) -> Result<Named, Stop>
+        ensures { IfOk result (λ named. IsNamed self.old.cursor self.new.cursor named.name) }
+    {
+        self.cursor.advance();
+        let name = self.cursor.expect_name()?;
+        self.cursor.expect_symbol(b'{')?;
+        let first = members.len();
+        self.members(members)?;
+        self.cursor.expect_symbol(b'}')?;
+        let end = members.len();
+        let kind = Kind::Struct { first, end };
+        Ok(Named { name, kind })
+    }
+
+    // One or more.
+    fn members(&mut self, members: &mut Vec<Member>) -> Result<(), Stop>
+        ensures later { IsBehind self.old.cursor self.new.cursor }
+    {
+        self.member(members)?;
+        for _ in self.cursor.position()..self.cursor.len() {
+            if !self.cursor.take_symbol(b',') || self.cursor.token().is_symbol(b'}') {
+                break;
+            }
+            self.member(members)?;
+        }
+        Ok(())
+    }
+
+    // Where a declaration begins in place of a member, the structure has no end.
+    fn member(&mut self, members: &mut Vec<Member>) -> Result<(), Stop>
+        ensures later { IsBehind self.old.cursor self.new.cursor }
+    {
+        let start = self.cursor;
+        let refused = self.refused_len();
+        let attributes = self.attributes()?;
+        if self.cursor.begins_declaration() {
+            self.go_back(start, refused);
+            return Err(start.expected(Expected::Symbol('}')));
+        }
+        let name = self.cursor.expect_name()?;
+        self.cursor.expect_symbol(b':')?;
+        let ty = self.expression()?;
+        let member = Member {
+            name,
+            ty,
+            attributes,
+        };
+        match members.push(member) {
+            Ok(()) => Ok(()),
+            Err(_) => Err(Stop::Memory),
+        }
+    }
+
+    fn alias(&mut self) -> Result<Named, Stop>
+        ensures { IfOk result (λ named. IsNamed self.old.cursor self.new.cursor named.name) }
+    {
+        self.cursor.advance();
+        let name = self.cursor.expect_name()?;
+        self.cursor.expect_symbol(b'=')?;
+        let ty = self.expression()?;
+        self.cursor.expect_symbol(b';')?;
+        let kind = Kind::Alias(ty);
+        Ok(Named { name, kind })
+    }
+
+    fn constant(&mut self) -> Result<Named, Stop>
+        ensures { IfOk result (λ named. IsNamed self.old.cursor self.new.cursor named.name) }
+    {
+        self.cursor.advance();
+        let name = self.cursor.expect_name()?;
+        let ty = self.given_type()?;
+        self.cursor.expect_symbol(b'=')?;
+        let value = self.expression()?;
+        self.cursor.expect_symbol(b';')?;
+        let kind = Kind::Constant(ty, value);
+        Ok(Named { name, kind })
+    }
+
+    fn overridden(&mut self) -> Result<Named, Stop>
+        ensures { IfOk result (λ named. IsNamed self.old.cursor self.new.cursor named.name) }
+    {
+        self.cursor.advance();
+        let name = self.cursor.expect_name()?;
+        let ty = self.given_type()?;
+        let value = self.given_value()?;
+        self.cursor.expect_symbol(b';')?;
+        let kind = Kind::Override(ty, value);
+        Ok(Named { name, kind })
+    }
+
+    fn assertion(&mut self) -> Result<Span, Stop> {
+        self.cursor.advance();
+        let condition = self.expression()?;
+        self.cursor.expect_symbol(b';')?;
+        Ok(condition)
+    }
+
+    fn variable(&mut self, attributes: Attributes) -> Result<Named, Stop>
+        ensures { IfOk result (λ named. IsNamed self.old.cursor self.new.cursor named.name) }
+    {
+        self.cursor.advance();
+        let (space, access) = self.memory()?;
+        let name = self.cursor.expect_name()?;
+        let ty = self.given_type()?;
+        self.given_value()?;
+        self.cursor.expect_symbol(b';')?;
+        let variable = Variable {
+            space,
+            access,
+            ty,
+            attributes,
+        };
+        let kind = Kind::Variable(variable);
+        Ok(Named { name, kind })
+    }
+
+    // A function, whose parameters and body are passed over.
+    fn function(&mut self) -> Result<Named, Stop>
+        ensures { IfOk result (λ named. IsNamed self.old.cursor self.new.cursor named.name) }
+    {
+        self.cursor.advance();
+        let name = self.cursor.expect_name()?;
+        self.skip_declaration()?;
+        let kind = Kind::Function;
+        Ok(Named { name, kind })
+    }
+
+    fn given_type(&mut self) -> Result<Option<Span>, Stop>
+        ensures later { IsBehind self.old.cursor self.new.cursor }
+    {
+        if !self.cursor.take_symbol(b':') {
+            return Ok(None);
+        }
+        Ok(Some(self.expression()?))
+    }
+
+    fn given_value(&mut self) -> Result<Option<Span>, Stop>
+        ensures later { IsBehind self.old.cursor self.new.cursor }
+    {
+        if !self.cursor.take_symbol(b'=') {
+            return Ok(None);
+        }
+        Ok(Some(self.expression()?))
+    }
+
+    // The address space and the access mode in the template list of a `var`.
+    fn memory(&mut self) -> Result<(Option<AddressSpace>, Option<AccessMode>), Stop>
+        ensures later { IsBehind self.old.cursor self.new.cursor }
+    {
+        if self.cursor.token().kind != TokenKind::TemplateStart {
+            return Ok((None, None));
+        }
+        self.cursor.advance();
+        let space = self.space()?;
+        let access = if self.cursor.take_symbol(b',') {
+            self.access()?
+        } else {
+            None
+        };
+        if self.cursor.token().kind != TokenKind::TemplateEnd {
+            return Err(self.cursor.expected(Expected::TemplateEnd));
+        }
+        self.cursor.advance();
+        Ok((Some(space), access))
+    }
+
+    fn space(&mut self) -> Result<AddressSpace, Stop>
+        ensures later { IsBehind self.old.cursor self.new.cursor }
+    {
+        let space = match self.cursor.word() {
+            "function" => AddressSpace::Function,
+            "private" => AddressSpace::Private,
+            "workgroup" => AddressSpace::Workgroup,
+            "uniform" => AddressSpace::Uniform,
+            "storage" => AddressSpace::Storage,
+            _ => return Err(self.cursor.expected(Expected::AddressSpace)),
+        };
+        self.cursor.advance();
+        Ok(space)
+    }
+
+    // None where the list ends behind a comma.
+    fn access(&mut self) -> Result<Option<AccessMode>, Stop>
+        ensures later { IsBehind self.old.cursor self.new.cursor }
+    {
+        let access = match self.cursor.word() {
+            "read" => AccessMode::Read,
+            "write" => AccessMode::Write,
+            "read_write" => AccessMode::ReadWrite,
+            _ if self.cursor.token().kind == TokenKind::TemplateEnd => return Ok(None),
+            _ => return Err(self.cursor.expected(Expected::AccessMode)),
+        };
+        self.cursor.advance();
+        let _ = self.cursor.take_symbol(b',');
+        Ok(Some(access))
+    }
+
+    // Passes over what says nothing of types.
+    fn skip_declaration(&mut self) -> Result<(), Stop>
+        ensures later { IsBehind self.old.cursor self.new.cursor }
+    {
+        let open_end = self.cursor.skip_declaration();
+        self.check_closed(open_end)
+    }
+
+    // All brackets are closed, or this is the end that is wanting.
+    fn check_closed(&mut self, open_end: Option<char>) -> Result<(), Stop>
+        ensures later { IsBehind self.old.cursor self.new.cursor }
+    {
+        match open_end {
+            Some(end) => Err(self.cursor.expected(Expected::Symbol(end))),
+            None => Ok(()),
+        }
+    }
+}
