@@ -91,7 +91,7 @@ pub fn is_host_shareable(ty: &Type) -> bool
 /// [`variable_rules`](crate::variable_rules), and what uniform space asks of the layout by
 /// `Type::uniform_rule`.
 /// It calls itself for each level of the type: keep to 4,095 within a stack of 8 MiB.
-pub fn may_be_of(space: AddressSpace, access: Option<AccessMode>, ty: &Type) -> bool
+pub fn may_be_of(ty: &Type, space: AddressSpace, access: Option<AccessMode>) -> bool
     ensures { result ≡ may_be_of space access (type_view ty.now) }
 {
     let nature = nature_of(ty);
