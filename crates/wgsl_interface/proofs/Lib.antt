@@ -1,1 +1,2 @@
+pub mod FirstBindings
 pub mod Members
