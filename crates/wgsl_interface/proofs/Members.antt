@@ -1,5 +1,5 @@
 -- What is known of the members of a structure, member by member.
-use Rattle.std.proofs.Common.{◌≡◌, ◌+◌, ◌<◌, ℕ, zero, suc, List, [], ◌∷◌, length, get_or, drop, Bool, true, false, refl, sym, ap, ◌∙◌, add-one, arith}
+use Rattle.std.proofs.Common.{◌≡◌, ◌+◌, ◌-◌, ◌<◌, ℕ, zero, suc, List, [], ◌∷◌, length, get_or, drop, Bool, true, false, refl, sym, ap, ◌∙◌, add-one, arith}
 use Rattle.std.specs.Prelude.{◌&&◌, ◌||◌, ◌==◌}
 use Rattle.std.proofs.Math.Dec.{eqb, eqb-suc-suc, eqb-zero-suc, eqb-suc-zero}
 use Rattle.wgsl_rules.specs.Types.{Ty, Fields, no_fields, field}
@@ -7,8 +7,9 @@ use Rattle.wgsl_rules.specs.Layout.{have_none}
 use Rattle.wgsl_rules.specs.View.{Field, type_view, member_view, members_view}
 use Rattle.wgsl_rules.specs.declared.ty.StructMemberType.{StructMemberType}
 use Rattle.wgsl_rules.proofs.lemmas.Views.{member_view-is}
+use Rattle.wgsl_interface.specs.Faults.{is_last_runtime_sized}
 use Rattle.wgsl_interface.specs.Natures.{IsNatureOf}
-use Rattle.wgsl_interface.specs.Plain.{may_stand_before, is_plain, are_plain, is_sized, are_sized, is_concrete, are_concrete}
+use Rattle.wgsl_interface.specs.Plain.{is_runtime_sized, may_stand_before, is_plain, are_plain, is_sized, are_sized, is_concrete, are_concrete}
 use Rattle.wgsl_interface.specs.Shared.{is_constructible, are_constructible, is_host_shareable, are_host_shareable, has_atomic, have_atomic}
 use Rattle.wgsl_interface.specs.declared.nature.Nature.{Nature}
 
@@ -81,3 +82,13 @@ next f fs last n is e =
       shareable = and_next ((n.is_sized || (last && n.is_runtime_sized)) && n.is_host_shareable) (may_stand_before fs f.ty && is_host_shareable f.ty) (are_host_shareable fs) (are_host_shareable (first f fs)) shared refl;
       atomic = or_next n.has_atomic (has_atomic f.ty) (have_atomic fs) (have_atomic (first f fs)) atomic refl;
     }
+
+last-at : (ms : List StructMemberType) (i : ℕ) (m : StructMemberType) → suc i ≡ length ms → m ≡ get_or ms i m → is_runtime_sized (type_view m.ty) ≡ is_last_runtime_sized (members_view ms)
+last-at [] i m e h = absurd (omega arith)
+last-at (x ∷ []) zero m e h = ap (λ (y : StructMemberType). is_runtime_sized (type_view y.ty)) h ∙ ap is_runtime_sized (sym (ty-of x))
+last-at (x ∷ []) (suc i) m e h = absurd (omega arith)
+last-at (x ∷ (y ∷ ms)) zero m e h = absurd (omega arith)
+last-at (x ∷ (y ∷ ms)) (suc i) m e h = last-at (y ∷ ms) i m (omega arith) h
+
+pub last-is : (ms : List StructMemberType) (m : StructMemberType) → 0 < length ms → m ≡ get_or ms (length ms - 1) m → is_runtime_sized (type_view m.ty) ≡ is_last_runtime_sized (members_view ms)
+last-is ms m h e = last-at ms (length ms - 1) m (omega arith) e

@@ -7,7 +7,6 @@ use Rattle.wgsl_rules.specs.Layout.{have_none}
 use Rattle.wgsl_rules.specs.declared.syntax.AddressSpace.{AddressSpace}
 use Rattle.wgsl_rules.specs.declared.syntax.AddressSpace.TheVariants as space
 use Rattle.wgsl_rules.specs.declared.syntax.AccessMode.{AccessMode}
-use Rattle.wgsl_rules.specs.View.{Field}
 use Rattle.wgsl_interface.specs.Plain.{is_atomic_content, is_count, is_vector, is_matrix, is_runtime_sized}
 use Rattle.wgsl_interface.specs.Shared.{is_handle, is_read_write}
 use Rattle.wgsl_interface.specs.declared.faults.Asked.{Asked}
@@ -97,6 +96,9 @@ abbrev pub member_rule : Bool → Ty → Option ShareRule
 member_rule is_last t =
     if is_runtime_sized t then unless is_last rules.RuntimeNotLast else unless (not (ends_in_runtime_array t)) rules.RuntimeInStruct
 
+abbrev pub struct_rule : Fields → Option ShareRule
+struct_rule fs = unless (not (have_none fs)) rules.Shape
+
 -- ---- the rules that a type and its parts break
 
 abbrev pub told : Option ShareRule → List ℕ → List Fault
@@ -109,36 +111,25 @@ abbrev mutual
   faults asked path (vec n t) = told (component_rule asked (is_vector n t) t) path
   faults asked path (mat c r t) = told (component_rule asked (is_matrix c r t) t) path
   faults asked path (atomic t) = told (unless (is_atomic_content t) rules.AtomicContent) path ++ told asked.of_atomics path
-  faults asked path (array t n) = told (array_rule asked n) path ++ element_faults asked path t
-  faults asked path (struct name fs) = if asked.of_structures then struct_faults asked path fs else []
+  faults asked path (array t n) =
+      told (array_rule asked n) path ++ (told (element_rule t) (element_path path) ++ faults asked (element_path path) t)
+  faults asked path (struct name fs) =
+      if asked.of_structures then told (struct_rule fs) path ++ member_faults asked path fs else []
   faults asked path (ptr s t a) = told (Some rules.NotPlain) path
   faults asked path (ref s t a) = told (Some rules.NotPlain) path
   faults asked path (texture t) = told (Some rules.NotPlain) path
   faults asked path (sampler s) = told (Some rules.NotPlain) path
   faults asked path t = told (scalar_rule asked t) path
 
-  -- of an array of such elements at this path
-  pub element_faults : Asked → List ℕ → Ty → List Fault
-  element_faults asked path t = told (element_rule t) (element_path path) ++ faults asked (element_path path) t
-
-  -- of a structure of these members
-  pub struct_faults : Asked → List ℕ → Fields → List Fault
-  struct_faults asked path no_fields = told (Some rules.Shape) path
-  struct_faults asked path (field name t s a fs) = member_faults asked path (field name t s a fs)
-
   pub member_faults : Asked → List ℕ → Fields → List Fault
   member_faults asked path no_fields = []
   member_faults asked path (field name t s a fs) =
       (told (member_rule (have_none fs) t) (member_path path name) ++ faults asked (member_path path name) t) ++ member_faults asked path fs
 
--- of one member, behind which there is no other one or there is
-abbrev pub faults_of_member : Asked → List ℕ → Bool → Field → List Fault
-faults_of_member asked path is_last f =
-    told (member_rule is_last f.ty) (member_path path f.name) ++ faults asked (member_path path f.name) f.ty
-
-abbrev pub faults_of_struct : Asked → List ℕ → Ty → List Fault
-faults_of_struct asked path (struct name fs) = struct_faults asked path fs
-faults_of_struct asked path t = []
+-- of a structure type at this path
+abbrev pub struct_faults : Asked → List ℕ → Ty → List Fault
+struct_faults asked path (struct name fs) = told (struct_rule fs) path ++ member_faults asked path fs
+struct_faults asked path t = []
 
 -- what the type breaks as that of a variable of the address space, for which this access mode is given
 abbrev pub share_faults : AddressSpace → Option AccessMode → Ty → List Fault
@@ -147,7 +138,7 @@ share_faults s access t = faults (asked_by s access) [] t
 
 -- what a structure breaks where it is declared
 abbrev pub declaration_faults : Ty → List Fault
-declaration_faults t = faults_of_struct asked_of_declarations [] t
+declaration_faults t = struct_faults asked_of_declarations [] t
 
 -- ---- what of them is told
 

@@ -22,14 +22,12 @@ ghost use Rattle.wgsl_interface.specs.Faults.{
   ends_in_runtime_array,
   told,
   faults,
-  element_faults,
+  struct_faults,
   member_faults,
-  faults_of_member,
-  faults_of_struct,
 };
 ghost use Rattle.wgsl_interface.specs.Plain.{is_runtime_sized};
 ghost use Rattle.wgsl_interface.specs.Shared.{is_storable, has_storable_structures, may_be_of};
-ghost use Rattle.wgsl_interface.specs.Walks.{IsTold};
+ghost use Rattle.wgsl_interface.specs.Walks.{IsTold, element_faults, faults_of_member};
 ghost use Rattle.wgsl_rules.specs.Types.{atomic};
 ghost use Rattle.wgsl_rules.specs.View.{type_view, struct_view, member_view, members_view};
 
@@ -341,7 +339,7 @@ impl Walk {
 
     #[cycle(faults)]
     fn tell_struct(&mut self, asked: Asked, ty: &StructType) -> Result<(), AllocError>
-        ensures { OnOk result (IsTold self.old self.new (faults_of_struct asked (string_bytes self.old.path) (struct_view ty.now))) }
+        ensures { OnOk result (IsTold self.old self.new (struct_faults asked (string_bytes self.old.path) (struct_view ty.now))) }
     {
         if ty.members.is_empty() {
             self.tell(Some(ShareRule::Shape))
