@@ -1,2 +1,3 @@
 pub mod FirstBindings
 pub mod Members
+pub mod Told
