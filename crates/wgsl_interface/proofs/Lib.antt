@@ -1,3 +1,5 @@
+pub mod Booleans
 pub mod FirstBindings
 pub mod Members
+pub mod NoFaults
 pub mod Told

@@ -1,0 +1,1 @@
+use Rattle.wgsl_interface.proofs.NoFaults.{is_nil}
