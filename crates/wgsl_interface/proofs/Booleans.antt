@@ -40,3 +40,51 @@ or_true x = grind arith
 
 pub and_assoc : (x y z : Bool) → (x && (y && z)) ≡ ((x && y) && z)
 and_assoc x y z = grind arith
+
+pub shared_array : (k s h p c b : Bool) → h ≡ (p && (c && not b)) → (k && (s && h)) ≡ ((k && (s && p)) && (c && not b))
+shared_array k s h p c b e = grind (arith, e)
+
+pub shared_struct : (k h p c b : Bool) → h ≡ (p && (c && not b)) → (k && h) ≡ ((k && p) && (c && not b))
+shared_struct k h p c b e = grind (arith, e)
+
+pub shared_member : (m h p c b hs ps cs bs : Bool) → h ≡ (p && (c && not b)) → hs ≡ (ps && (cs && not bs)) → ((m && h) && hs) ≡ (((m && p) && ps) && ((c && cs) && not (b || bs)))
+shared_member m h p c b hs ps cs bs e es = grind (arith, e, es)
+
+pub shared_vector : (v h c b : Bool) → (v ≡ true → h ≡ (c && not b)) → (v && h) ≡ (v && (c && not b))
+shared_vector v h c b e = grind (arith, e)
+
+pub shared_atomic : (k c : Bool) → (k ≡ true → c ≡ true) → k ≡ (k && (c && true))
+shared_atomic k c e = grind (arith, e)
+
+pub made_array : (k s h p a : Bool) → h ≡ (p && (not a && s)) → (k && (s && h)) ≡ ((k && (s && p)) && (not a && s))
+made_array k s h p a e = grind (arith, e)
+
+pub made_runtime : (x y : Bool) → false ≡ (x && (y && false))
+made_runtime x y = grind arith
+
+pub made_struct : (k h p a s : Bool) → h ≡ (p && (not a && s)) → (k && h) ≡ ((k && p) && (not a && s))
+made_struct k h p a s e = grind (arith, e)
+
+pub made_member : (l h p a s hs ps at ss : Bool) → h ≡ (p && (not a && s)) → hs ≡ (ps && (not at && ss)) → (h && hs) ≡ ((((s || l) && p) && ps) && (not (a || at) && (s && ss)))
+made_member l h p a s hs ps at ss e es = grind (arith, e, es)
+
+pub and_true : (x : Bool) → x ≡ (x && true)
+and_true x = grind arith
+
+pub and_false : (x : Bool) → false ≡ (x && false)
+and_false x = grind arith
+
+pub of_storage : (p c b w h : Bool) → h ≡ (p && (c && not b)) → (p && (c && ((false || not b) && (w && true)))) ≡ (h && w)
+of_storage p c b w h e = grind (arith, e)
+
+pub of_uniform : (p c b a s h k : Bool) → h ≡ (p && (c && not b)) → k ≡ (p && (not a && s)) → (p && (c && ((false || not b) && ((false || not a) && (false || s))))) ≡ (h && k)
+of_uniform p c b a s h k e f = grind (arith, e, f)
+
+pub of_workgroup : (p c s : Bool) → (p && (c && (true && (true && (false || s))))) ≡ (c && (p && s))
+of_workgroup p c s = grind arith
+
+pub of_private : (p c a s k : Bool) → k ≡ (p && (not a && s)) → (p && (c && (true && ((false || not a) && (false || s))))) ≡ (c && k)
+of_private p c a s k e = grind (arith, e)
+
+pub of_declaration : (p c : Bool) → (p && (c && true)) ≡ ((c && p) || false)
+of_declaration p c = grind arith

@@ -24,7 +24,7 @@ nil-told : (r : Option ShareRule) (path : List ℕ) → is_nil (told r path) ≡
 nil-told None path = refl
 nil-told (Some r) path = refl
 
-none-unless : (b : Bool) (r : ShareRule) → is_none (unless b r) ≡ b
+pub none-unless : (b : Bool) (r : ShareRule) → is_none (unless b r) ≡ b
 none-unless true r = refl
 none-unless false r = refl
 
@@ -102,17 +102,17 @@ component-none : (asked : Asked) (v : Bool) (t : Ty) → (v ≡ true → is_scal
 component-none asked true t h = scalar-none asked t (h refl)
 component-none asked false t h = refl
 
-vector-scalar : (n : ℕ) (t : Ty) → is_vector n t ≡ true → is_scalar t ≡ true
+pub vector-scalar : (n : ℕ) (t : Ty) → is_vector n t ≡ true → is_scalar t ≡ true
 vector-scalar n t h = grind arith
 
 number-scalar : (t : Ty) → is_number t ≡ true → is_scalar t ≡ true
 number-scalar bool h = refl
 number-scalar t h = h
 
-matrix-scalar : (c r : ℕ) (t : Ty) → is_matrix c r t ≡ true → is_scalar t ≡ true
+pub matrix-scalar : (c r : ℕ) (t : Ty) → is_matrix c r t ≡ true → is_scalar t ≡ true
 matrix-scalar c r t h = number-scalar t (grind arith)
 
-content-concrete : (t : Ty) → is_atomic_content t ≡ true → is_concrete t ≡ true
+pub content-concrete : (t : Ty) → is_atomic_content t ≡ true → is_concrete t ≡ true
 content-concrete i32 h = refl
 content-concrete u32 h = refl
 content-concrete t h = absurd (cc)
@@ -129,7 +129,7 @@ both-nil : (r : Option ShareRule) (path : List ℕ) (fs : List Fault) (x : Bool)
 both-nil r path fs x h = nil-append (told r path) fs ∙ ap (λ (b : Bool). b && is_nil fs) (nil-told r path) ∙ ap (λ (b : Bool). is_none r && b) h
 
 -- a structure whose members break nothing
-struct-sound : (asked : Asked) (path : List ℕ) (name : List ℕ) (fs : Fields) → is_nil (member_faults asked path fs) ≡ sounds asked fs → is_nil (told (struct_rule fs) path ++ member_faults asked path fs) ≡ sound asked (struct name fs)
+pub struct-sound : (asked : Asked) (path : List ℕ) (name : List ℕ) (fs : Fields) → is_nil (member_faults asked path fs) ≡ sounds asked fs → is_nil (told (struct_rule fs) path ++ member_faults asked path fs) ≡ sound asked (struct name fs)
 struct-sound asked path name fs h =
     both-nil (struct_rule fs) path (member_faults asked path fs) (sounds asked fs) h
     ∙ ap (λ (b : Bool). b && sounds asked fs) (none-unless (not (have_none fs)) rules.Shape)

@@ -1,1 +1,0 @@
-use Rattle.wgsl_interface.proofs.NoFaults.{is_nil}
