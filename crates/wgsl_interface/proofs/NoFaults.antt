@@ -170,14 +170,14 @@ mutual
   nil-faults asked path (array t None) h =
       let e = not (is_runtime_sized t || ends_in_runtime_array t) in
       let inner = both-nil (element_rule t) (element_path path) (faults asked (element_path path) t) (sound asked t) (nil-faults asked (element_path path) t h)
-          ∙ ap (λ (b : Bool). b && sound asked t) (none-unless e rules.RuntimeInArray) in
+      ∙ ap (λ (b : Bool). b && sound asked t) (none-unless e rules.RuntimeInArray) in
       both-nil asked.of_runtime_arrays path (told (element_rule t) (element_path path) ++ faults asked (element_path path) t) (e && sound asked t) inner
       ∙ element_runtime e (is_sized t) (is_plain t) (is_concrete t) (is_none asked.of_bools || not (has_bool t)) (is_none asked.of_atomics || not (has_atomic t)) (is_none asked.of_runtime_arrays) (sized-plain t)
   nil-faults asked path (array t (Some n)) h =
       let e = not (is_runtime_sized t || ends_in_runtime_array t) in
       let k = is_count (Some n) in
       let inner = both-nil (element_rule t) (element_path path) (faults asked (element_path path) t) (sound asked t) (nil-faults asked (element_path path) t h)
-          ∙ ap (λ (b : Bool). b && sound asked t) (none-unless e rules.RuntimeInArray) in
+      ∙ ap (λ (b : Bool). b && sound asked t) (none-unless e rules.RuntimeInArray) in
       both-nil (unless k rules.Shape) path (told (element_rule t) (element_path path) ++ faults asked (element_path path) t) (e && sound asked t) inner
       ∙ ap (λ (b : Bool). b && (e && sound asked t)) (none-unless k rules.Shape)
       ∙ element_fixed k e (is_sized t) (is_plain t) (is_concrete t) (is_none asked.of_bools || not (has_bool t)) (is_none asked.of_atomics || not (has_atomic t)) (is_none asked.of_runtime_arrays) (sized-plain t)

@@ -1,7 +1,7 @@
 -- What makes a type host-shareable or constructible, and which types are sound for a variable.
 use Rattle.std.proofs.Common.{◌≡◌, ◌∙◌, ℕ, List, [], Bool, true, false, not, Option, Some, None, is_none, refl, sym, ap, arith}
-use Rattle.std.specs.Prelude.{◌&&◌, ◌||◌}
-use Rattle.std.proofs.lemmas.Bool.{and_parts, and_from}
+use Rattle.std.specs.Prelude.{◌&&◌, ◌||◌, ◌∷◌, IsTrue}
+use Rattle.std.proofs.lemmas.Bool.{and_parts, and_from, true≢false}
 use Rattle.wgsl_rules.specs.Types.{Ty, bool, abstract_int, abstract_float, i32, u32, f32, f16, i64, u64, f64, struct, array, vec, mat, atomic, ptr, ref, texture, sampler, Fields, no_fields, field}
 use Rattle.wgsl_rules.specs.Layout.{have_none}
 use Rattle.wgsl_rules.specs.declared.syntax.AddressSpace.{AddressSpace}
@@ -9,10 +9,11 @@ use Rattle.wgsl_rules.specs.declared.syntax.AddressSpace.TheVariants as space
 use Rattle.wgsl_rules.specs.declared.syntax.AccessMode.{AccessMode}
 use Rattle.wgsl_interface.specs.Plain.{is_scalar, is_runtime_sized, is_count, is_vector, is_matrix, is_atomic_content, is_sized, are_sized, may_stand_before, is_plain, are_plain, is_concrete, are_concrete}
 use Rattle.wgsl_interface.specs.Shared.{has_atomic, have_atomic, is_host_shareable, are_host_shareable, is_constructible, are_constructible, is_read_write, is_storable, is_storable_structure, have_storable_structures, may_be_of}
-use Rattle.wgsl_interface.specs.Faults.{asked_by, asked_of_declarations}
+use Rattle.wgsl_interface.specs.Faults.{Fault, faults_view, first_100, asked_by, asked_of_declarations, declaration_faults}
+use Rattle.wgsl_interface.specs.declared.faults.ShareFault.{ShareFault}
 use Rattle.wgsl_interface.specs.declared.rule.ShareRule.TheVariants as rules
 use Rattle.wgsl_interface.proofs.Booleans as b
-use Rattle.wgsl_interface.proofs.NoFaults.{has_bool, have_bool, sound, sounds, settled, all_settled, vector-scalar, matrix-scalar, content-concrete, none-unless}
+use Rattle.wgsl_interface.proofs.NoFaults.{has_bool, have_bool, sound, sounds, settled, all_settled, is_nil, struct-sound, nil-members, vector-scalar, matrix-scalar, content-concrete, none-unless}
 
 shareable-scalar : (t : Ty) → is_scalar t ≡ true → is_host_shareable t ≡ (is_concrete t && not (has_bool t))
 shareable-scalar bool h = refl
@@ -86,3 +87,13 @@ settled-declarations no_fields h = refl
 settled-declarations (field name t s a fs) h =
     let both = and_parts (is_storable_structure t) (have_storable_structures fs) h in
     and_from (settled asked_of_declarations t) (all_settled asked_of_declarations fs) (settled-declaration t both.0) (settled-declarations fs both.1)
+
+-- what is told is none where there are none
+pub none-told : (items : List ShareFault) (all : List Fault) (b : Bool) → faults_view items ≡ first_100 all → is_nil all ≡ b → (items ≡ [] → IsTrue b) × (IsTrue b → items ≡ [])
+none-told [] [] b h e = (λ _. sym e, λ _. refl)
+none-told [] (f ∷ fs) b h e = absurd (cc)
+none-told (i ∷ items) [] b h e = absurd (cc)
+none-told (i ∷ items) (f ∷ fs) b h e = (λ (n : (i ∷ items) ≡ []). absurd (cc), λ t. absurd (true≢false (sym t ∙ sym e)))
+
+pub nil-declaration : (name : List ℕ) (fs : Fields) → have_storable_structures fs ≡ true → is_nil (declaration_faults (struct name fs)) ≡ is_storable (struct name fs)
+nil-declaration name fs h = struct-sound asked_of_declarations [] name fs (nil-members asked_of_declarations [] fs (λ _. settled-declarations fs h)) ∙ sound-declaration name fs

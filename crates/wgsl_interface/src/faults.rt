@@ -25,8 +25,9 @@ ghost use Rattle.wgsl_interface.specs.Faults.{
   struct_faults,
   member_faults,
 };
+ghost use Rattle.wgsl_interface.specs.declared.rule.ShareRule.TheVariants.{NotHandle};
 ghost use Rattle.wgsl_interface.specs.Plain.{is_runtime_sized};
-ghost use Rattle.wgsl_interface.specs.Shared.{is_storable, has_storable_structures, may_be_of};
+ghost use Rattle.wgsl_interface.specs.Shared.{is_handle, is_storable, has_storable_structures, may_be_of};
 ghost use Rattle.wgsl_interface.specs.Walks.{IsTold, element_faults, faults_of_member};
 ghost use Rattle.wgsl_rules.specs.Types.{atomic};
 ghost use Rattle.wgsl_rules.specs.View.{type_view, struct_view, member_view, members_view};
@@ -73,12 +74,30 @@ pub fn share_faults(
     ensures each { IfOk result (λ faults. faults_view faults.items ≡ first_100 (share_faults space access (type_view ty.now))) }
     ensures none { IfOk result (λ faults. (faults.items ≡ []) ↔ IsTrue (may_be_of space access (type_view ty.now))) }
 {
-    let mut walk = Walk::new(alloc);
-    if space == AddressSpace::Handle {
-        walk.tell(unless(is_handle(ty), ShareRule::NotHandle))?;
-    } else {
-        walk.tell_type(Asked::by(space, access), ty)?;
+    match space {
+        AddressSpace::Handle => handle_faults(alloc, ty),
+        AddressSpace::Storage | AddressSpace::Uniform | AddressSpace::Workgroup => {
+            type_faults(alloc, Asked::by(space, access), ty)
+        }
+        AddressSpace::Private | AddressSpace::Function => {
+            type_faults(alloc, Asked::by(space, access), ty)
+        }
     }
+}
+
+fn handle_faults(alloc: Global, ty: &Type) -> Result<Vec<ShareFault>, AllocError>
+    ensures { IfOk result (λ faults. faults_view faults.items ≡ first_100 (told (unless (is_handle (type_view ty.now)) NotHandle) [])) }
+{
+    let mut walk = Walk::new(alloc);
+    walk.tell(unless(is_handle(ty), ShareRule::NotHandle))?;
+    Ok(walk.faults)
+}
+
+fn type_faults(alloc: Global, asked: Asked, ty: &Type) -> Result<Vec<ShareFault>, AllocError>
+    ensures { IfOk result (λ found. faults_view found.items ≡ first_100 (faults asked [] (type_view ty.now))) }
+{
+    let mut walk = Walk::new(alloc);
+    walk.tell_type(asked, ty)?;
     Ok(walk.faults)
 }
 

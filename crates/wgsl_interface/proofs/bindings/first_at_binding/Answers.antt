@@ -28,11 +28,12 @@ loop-i-preserved c =
           ∙ ap (λ (os : List (Option ℕ)). c.loop-i.found.items ++ os) (sym (firsts-next xs i d lt))
           ∙ c.loop-i.invariant.found;
       numbers = elim c.if-is_none.branch [
-        then-is_none+in_ok-insert w ↦
-          let none : is_some (get cmp-value.it c.loop-i.numbers x) ≡ false = sym (ap is_some first) ∙ w.if-is_none.ensures in
-          λ b. rw w.numbers-is (rw (take_more xs i d lt) (numbers-new (get cmp-value.it c.loop-i.numbers) (get cmp-value.it w.insert.new.self) (take i xs) x i
-          (sym (length-take-le i xs (omega arith))) known none (λ q. w.in_ok-insert.ensures.updates.0 q) b))
+        | then-is_none+in_ok-insert w ↦
+            let none : is_some (get cmp-value.it c.loop-i.numbers x) ≡ false = sym (ap is_some first) ∙ w.if-is_none.ensures in
+            λ b. rw w.numbers-is (rw (take_more xs i d lt) (numbers-new (get cmp-value.it c.loop-i.numbers) (get cmp-value.it w.insert.new.self) (take i xs) x i
+            (sym (length-take-le i xs (omega arith))) known none (λ q. w.in_ok-insert.ensures.updates.0 q) b))
         | else-is_none w ↦
-          let some : is_some (get cmp-value.it c.loop-i.numbers x) ≡ true = sym (ap is_some first) ∙ w.if-is_none.ensures in
-          λ b. rw w.numbers-is (rw (take_more xs i d lt) (numbers-known (get cmp-value.it c.loop-i.numbers) (take i xs) x known some b)) ];
+            let some : is_some (get cmp-value.it c.loop-i.numbers x) ≡ true = sym (ap is_some first) ∙ w.if-is_none.ensures in
+            λ b. rw w.numbers-is (rw (take_more xs i d lt) (numbers-known (get cmp-value.it c.loop-i.numbers) (take i xs) x known some b))
+      ];
     }

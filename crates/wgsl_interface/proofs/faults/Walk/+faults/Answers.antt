@@ -84,12 +84,14 @@ tell_member-returns t c =
     let end = c.len-end.ensures ∙ old.path.bytes.ok.0 in
     let named : string_bytes down.path ≡ string_bytes c.if-end-gt0.self.path ++ name = c.in_ok-push_str-2.ensures.bytes ∙ ap (λ (n : List ℕ). string_bytes c.if-end-gt0.self.path ++ n) c.as_str.ensures.value in
     let at : string_bytes down.path ≡ member_path p name = elim c.if-end-gt0.branch [
-      tell_member-then-end-gt0+in_ok-push_str w ↦
-        named ∙ ap (λ (s : Walk). string_bytes s.path ++ name) w.self-is ∙ ap (λ (q : List ℕ). q ++ name) w.in_ok-push_str.ensures.bytes ∙ dotted p name (rw (← end) w.if-end-gt0.true)
-      | tell_member-else-end-gt0 w ↦ named ∙ ap (λ (s : Walk). string_bytes s.path ++ name) w.self-is ∙ undotted p name (rw (← end) w.if-end-gt0.false) ] in
+      | tell_member-then-end-gt0+in_ok-push_str w ↦
+          named ∙ ap (λ (s : Walk). string_bytes s.path ++ name) w.self-is ∙ ap (λ (q : List ℕ). q ++ name) w.in_ok-push_str.ensures.bytes ∙ dotted p name (rw (← end) w.if-end-gt0.true)
+      | tell_member-else-end-gt0 w ↦ named ∙ ap (λ (s : Walk). string_bytes s.path ++ name) w.self-is ∙ undotted p name (rw (← end) w.if-end-gt0.false)
+    ] in
     let same : faults_view down.faults.items ≡ faults_view old.faults.items = elim c.if-end-gt0.branch [
-      tell_member-then-end-gt0+in_ok-push_str w ↦ ap (λ (s : Walk). faults_view s.faults.items) w.self-is
-      | tell_member-else-end-gt0 w ↦ ap (λ (s : Walk). faults_view s.faults.items) w.self-is ] in
+      | tell_member-then-end-gt0+in_ok-push_str w ↦ ap (λ (s : Walk). faults_view s.faults.items) w.self-is
+      | tell_member-else-end-gt0 w ↦ ap (λ (s : Walk). faults_view s.faults.items) w.self-is
+    ] in
     let both = then-told down c.tell.new.self inner (told c.member_rule.result (string_bytes down.path)) (λ q. faults asked q u) c.in_ok-tell.ensures c.in_ok-tell_type.ensures in
     rw (member_view-is m)
     (below-told old down inner (record { path = c.truncate.new.self; faults = inner.faults }) c.len-end.result (told (member_rule c.args.is_last u) (member_path p name) ++ faults asked (member_path p name) u) (member_rest p name)

@@ -8,5 +8,5 @@ abbrev pub invariant-tell_members-loop-i : goal.invariant-tell_members-loop-i
 invariant-tell_members-loop-i l = record {
   path : string_bytes l.self.path ≡ string_bytes l.initial.self.path;
   faults : with_more (faults_view l.self.faults.items) (member_faults l.asked (string_bytes l.initial.self.path) (members_view (drop l.i l.members)))
-         ≡ with_more (faults_view l.initial.self.faults.items) (member_faults l.asked (string_bytes l.initial.self.path) (members_view l.members));
+      ≡ with_more (faults_view l.initial.self.faults.items) (member_faults l.asked (string_bytes l.initial.self.path) (members_view l.members));
 }
