@@ -43,19 +43,23 @@ told-none fs = none (100 - length fs) where
   none zero = sym (append-nil fs)
   none (suc k) = sym (append-nil fs)
 
--- the path of a member, behind a dot or not
-pub dotted : (p n : List ℕ) → 0 < length p → (p ++ 46 ∷ []) ++ n ≡ member_path p n
-dotted [] n h = absurd (omega arith)
-dotted (c ∷ p) n h = append_assoc (c ∷ p) (46 ∷ []) n
+-- ---- the path of a member, behind a dot or not
 
-pub undotted : (p n : List ℕ) → length p ≤ 0 → p ++ n ≡ member_path p n
-undotted [] n h = refl
-undotted (c ∷ p) n h = absurd (omega arith)
+pub named : (down at given name : List ℕ) → down ≡ at ++ given → given ≡ name → down ≡ at ++ name
+named down at given name h e = h ∙ ap (λ (n : List ℕ). at ++ n) e
+
+pub dotted : (down at p n : List ℕ) → down ≡ at ++ n → at ≡ p ++ 46 ∷ [] → 0 < length p → down ≡ member_path p n
+dotted down at [] n d e h = absurd (omega arith)
+dotted down at (c ∷ p) n d e h = d ∙ ap (λ (q : List ℕ). q ++ n) e ∙ append_assoc (c ∷ p) (46 ∷ []) n
+
+pub undotted : (down at p n : List ℕ) → down ≡ at ++ n → at ≡ p → length p ≤ 0 → down ≡ member_path p n
+undotted down at [] n d e h = d ∙ ap (λ (q : List ℕ). q ++ n) e
+undotted down at (c ∷ p) n d e h = absurd (omega arith)
 
 abbrev pub member_rest : List ℕ → List ℕ → List ℕ
 member_rest [] n = n
 member_rest (c ∷ p) n = 46 ∷ n
 
-pub member_path-parts : (p n : List ℕ) → member_path p n ≡ p ++ member_rest p n
-member_path-parts [] n = refl
-member_path-parts (c ∷ p) n = refl
+pub behind : (down p n : List ℕ) → down ≡ member_path p n → down ≡ p ++ member_rest p n
+behind down [] n h = h
+behind down (c ∷ p) n h = h

@@ -60,8 +60,8 @@ struct Asked {
 }
 
 /// What a type breaks as that of a variable of the address space, for which this access mode is given or
-/// none: each part with its rules, in the order of the type's text, and no more than 100. None exactly
-/// where a variable [`may_be_of`](crate::may_be_of) the type.
+/// none: each part with its rules, in the order of the type's text, and no more than 100. There are none
+/// exactly where a variable [`may_be_of`](crate::may_be_of) the type.
 ///
 /// Memory alone is refused.
 /// It calls itself for each level of the type: keep to 4,095 within a stack of 8 MiB.
@@ -102,8 +102,9 @@ fn type_faults(alloc: Global, asked: Asked, ty: &Type) -> Result<Vec<ShareFault>
 }
 
 /// What a structure breaks where it is declared, whatever variables are of it: each member with its
-/// rules, in their order, and no more than 100. What is inside structures that its members have is told
-/// of these: where they are storable, there are none exactly where this one [`is_storable`](crate::is_storable).
+/// rules, in their order, and no more than 100. What is inside the structures that its members have is
+/// told of these: where they are storable, there are none exactly where this one
+/// [is](crate::is_storable).
 ///
 /// Memory alone is refused.
 /// It calls itself for each level of the members' types: keep to 4,095 within a stack of 8 MiB.

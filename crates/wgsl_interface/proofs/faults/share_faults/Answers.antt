@@ -15,7 +15,7 @@ returns-in-Storage-clause-none c =
     let access = c.args.access in
     let asked = asked_by c.args.space access in
     let is : sound asked t ≡ may_be_of c.args.space access t =
-        ⊎_elim (λ e. rw e (sound-storage access t)) (λ o. ⊎_elim (λ e. rw e (sound-uniform access t)) (λ e. rw e (sound-workgroup access t)) o) c.in-Storage.is in
+    ⊎_elim (λ e. rw e (sound-storage access t)) (λ o. ⊎_elim (λ e. rw e (sound-uniform access t)) (λ e. rw e (sound-workgroup access t)) o) c.in-Storage.is in
     IfOk-weaker c.type_faults.result _ _
     (λ found h. none-told found.items (faults asked [] t) (may_be_of c.args.space access t) (h ∙ ap (λ (a : Asked). first_100 (faults a [] t)) c.by.ensures)
     (nil-faults asked [] t (λ e. absurd (true≢false e)) ∙ is))
@@ -27,7 +27,7 @@ returns-in-Private-clause-none c =
     let access = c.args.access in
     let asked = asked_by c.args.space access in
     let is : sound asked t ≡ may_be_of c.args.space access t =
-        ⊎_elim (λ e. rw e (sound-private access t)) (λ e. rw e (sound-function access t)) c.in-Private.is in
+    ⊎_elim (λ e. rw e (sound-private access t)) (λ e. rw e (sound-function access t)) c.in-Private.is in
     IfOk-weaker c.type_faults-in-Private.result _ _
     (λ found h. none-told found.items (faults asked [] t) (may_be_of c.args.space access t) (h ∙ ap (λ (a : Asked). first_100 (faults a [] t)) c.by-in-Private.ensures)
     (nil-faults asked [] t (λ e. absurd (true≢false e)) ∙ is))

@@ -14,7 +14,7 @@ returns-clause-none c = λ h.
     let is = struct_view-is c.args.ty.now in
     let walk = c.new-walk.result in
     let told : faults_view c.tell_struct.new.self.faults.items ≡ first_100 (declaration_faults t) =
-        c.in_ok-tell_struct.ensures.faults
-        ∙ ap (λ (items : List ShareFault). with_more (faults_view items) (struct_faults asked_of_declarations (string_bytes walk.path) t)) c.new-walk.ensures.faults
-        ∙ ap (λ (p : List ℕ). first_100 (struct_faults asked_of_declarations p t)) c.new-walk.ensures.path in
+    c.in_ok-tell_struct.ensures.faults
+    ∙ ap (λ (items : List ShareFault). with_more (faults_view items) (struct_faults asked_of_declarations (string_bytes walk.path) t)) c.new-walk.ensures.faults
+    ∙ ap (λ (p : List ℕ). first_100 (struct_faults asked_of_declarations p t)) c.new-walk.ensures.path in
     none-told c.tell_struct.new.self.faults.items (declaration_faults t) (is_storable t) told (rw is (nil-declaration (string_bytes (out-StructType c.args.ty.now).name) (members_view (out-StructType c.args.ty.now).members.items) (rw is at h)))

@@ -14,7 +14,7 @@ use Rattle.wgsl_interface.specs.declared.faults.Walk.{Walk}
 use Rattle.wgsl_interface.specs.declared.rule.ShareRule.{ShareRule}
 use Rattle.wgsl_interface.specs.declared.rule.ShareRule.TheVariants as rules
 use Rattle.wgsl_interface.proofs.Members.{first, members-from, none-from, none-of}
-use Rattle.wgsl_interface.proofs.Told.{with_more-both, then-told, below-told, told-none, dotted, undotted, member_rest, member_path-parts}
+use Rattle.wgsl_interface.proofs.Told.{with_more-both, then-told, below-told, told-none, named, dotted, undotted, member_rest, behind}
 use Rattle.wgsl_interface.proofs.faults.Walk.+faults.Goals.{tell_member-then-end-gt0+in_ok-push_str, tell_member-else-end-gt0}
 use Rattle.wgsl_interface.proofs.faults.Walk.+faults.Goals as goal
 
@@ -67,10 +67,6 @@ tell_element-returns t c =
     (subst (λ (q : List ℕ). IsTold down inner (told (element_rule u) q ++ faults asked q u)) at
     (subst (λ (r : Option ShareRule). IsTold down inner (told r (string_bytes down.path) ++ faults asked (string_bytes down.path) u)) c.element_rule.ensures both))
 
--- where the name of a member ends
-member-at : (old : List ℕ) (down name : List ℕ) → down ≡ member_path old name → down ≡ old ++ member_rest old name
-member-at old down name h = h ∙ member_path-parts old name
-
 pub tell_member-returns : goal.tell_member-returns
 tell_member-returns t c =
     let old = c.args.self.now in
@@ -82,11 +78,13 @@ tell_member-returns t c =
     let inner = c.tell_type.new.self in
     let asked = c.args.asked in
     let end = c.len-end.ensures ∙ old.path.bytes.ok.0 in
-    let named : string_bytes down.path ≡ string_bytes c.if-end-gt0.self.path ++ name = c.in_ok-push_str-2.ensures.bytes ∙ ap (λ (n : List ℕ). string_bytes c.if-end-gt0.self.path ++ n) c.as_str.ensures.value in
+    let from = string_bytes c.if-end-gt0.self.path in
+    let is = named (string_bytes down.path) from c.as_str.result.now name c.in_ok-push_str-2.ensures.bytes c.as_str.ensures.value in
     let at : string_bytes down.path ≡ member_path p name = elim c.if-end-gt0.branch [
       | tell_member-then-end-gt0+in_ok-push_str w ↦
-          named ∙ ap (λ (s : Walk). string_bytes s.path ++ name) w.self-is ∙ ap (λ (q : List ℕ). q ++ name) w.in_ok-push_str.ensures.bytes ∙ dotted p name (rw (← end) w.if-end-gt0.true)
-      | tell_member-else-end-gt0 w ↦ named ∙ ap (λ (s : Walk). string_bytes s.path ++ name) w.self-is ∙ undotted p name (rw (← end) w.if-end-gt0.false)
+          dotted (string_bytes down.path) from p name is (rw w.self-is w.in_ok-push_str.ensures.bytes) (rw (← end) w.if-end-gt0.true)
+      | tell_member-else-end-gt0 w ↦
+          undotted (string_bytes down.path) from p name is (rw w.self-is refl) (rw (← end) w.if-end-gt0.false)
     ] in
     let same : faults_view down.faults.items ≡ faults_view old.faults.items = elim c.if-end-gt0.branch [
       | tell_member-then-end-gt0+in_ok-push_str w ↦ ap (λ (s : Walk). faults_view s.faults.items) w.self-is
@@ -95,7 +93,7 @@ tell_member-returns t c =
     let both = then-told down c.tell.new.self inner (told c.member_rule.result (string_bytes down.path)) (λ q. faults asked q u) c.in_ok-tell.ensures c.in_ok-tell_type.ensures in
     rw (member_view-is m)
     (below-told old down inner (record { path = c.truncate.new.self; faults = inner.faults }) c.len-end.result (told (member_rule c.args.is_last u) (member_path p name) ++ faults asked (member_path p name) u) (member_rest p name)
-    (member-at p (string_bytes down.path) name at) same (sym end) c.truncate.ensures.bytes refl
+    (behind (string_bytes down.path) p name at) same (sym end) c.truncate.ensures.bytes refl
     (subst (λ (q : List ℕ). IsTold down inner (told (member_rule c.args.is_last u) q ++ faults asked q u)) at
     (subst (λ (r : Option ShareRule). IsTold down inner (told r (string_bytes down.path) ++ faults asked (string_bytes down.path) u)) c.member_rule.ensures both)))
 
