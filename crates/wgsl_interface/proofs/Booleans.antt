@@ -1,5 +1,5 @@
 -- Conjunctions in another order.
-use Rattle.std.proofs.Common.{◌≡◌, Bool, true, false, not, refl, arith}
+use Rattle.std.proofs.Common.{◌≡◌, Bool, true, false, not, arith}
 use Rattle.std.specs.Prelude.{◌&&◌, ◌||◌}
 
 pub interleaved : (a b c d e f g h : Bool) → ((a && (b && (c && d))) && (e && (f && (g && h)))) ≡ ((a && e) && ((b && f) && ((c && g) && (d && h))))

@@ -1,10 +1,8 @@
 -- The first place of a binding in a list, where the list grows.
 use Rattle.std.proofs.Common.{◌≡◌, ◌∙◌, ◌+◌, ◌<◌, ℕ, List, take, drop, get_or, [], ◌∷◌, ◌++◌, length, cond, not, Bool, true, false, Option, Some, None, is_some, refl, sym, ap, arith}
-use Rattle.std.specs.Prelude.{position, nat_lt, ◌&&◌, ◌==◌}
+use Rattle.std.specs.Prelude.{position, ◌==◌}
 use Rattle.std.specs.BTreeMap.{is_at}
-use Rattle.std.specs.List.{position_or_len}
-use Rattle.std.specs.Ordering.{is_eq, nat_cmp}
-use Rattle.std.proofs.lemmas.Bool.{and_parts, eqb-true, cases_Bool}
+use Rattle.std.proofs.lemmas.Bool.{and_parts, eqb-true}
 use Rattle.std.proofs.lemmas.Bool.Decides.{nat_tests}
 use Rattle.std.proofs.lemmas.List.{take_more, drop_more}
 use Rattle.std.proofs.lemmas.List.Folds.{position_or_len_push}

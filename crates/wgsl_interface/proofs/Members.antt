@@ -2,7 +2,7 @@
 use Rattle.std.proofs.Common.{◌≡◌, ◌+◌, ◌-◌, ◌<◌, ℕ, zero, suc, List, [], ◌∷◌, length, get_or, drop, Bool, true, false, refl, sym, ap, ◌∙◌, add-one, arith}
 use Rattle.std.specs.Prelude.{◌&&◌, ◌||◌, ◌==◌}
 use Rattle.std.proofs.Math.Dec.{eqb, eqb-suc-suc, eqb-zero-suc, eqb-suc-zero}
-use Rattle.wgsl_rules.specs.Types.{Ty, Fields, no_fields, field}
+use Rattle.wgsl_rules.specs.Types.{Fields, no_fields, field}
 use Rattle.wgsl_rules.specs.Layout.{have_none}
 use Rattle.wgsl_rules.specs.View.{Field, type_view, member_view, members_view}
 use Rattle.wgsl_rules.specs.declared.ty.StructMemberType.{StructMemberType}

@@ -6,7 +6,7 @@ use Rattle.wgsl_rules.specs.Types.{Ty, bool, abstract_int, abstract_float, i32, 
 use Rattle.wgsl_rules.specs.Layout.{have_none}
 use Rattle.wgsl_interface.specs.Plain.{is_scalar, is_number, is_runtime_sized, is_count, is_vector, is_matrix, is_atomic_content, is_sized, are_sized, may_stand_before, is_plain, are_plain, is_concrete, are_concrete}
 use Rattle.wgsl_interface.specs.Shared.{has_atomic, have_atomic}
-use Rattle.wgsl_interface.specs.Faults.{Fault, told, unless, scalar_rule, component_rule, array_rule, element_rule, member_rule, struct_rule, is_last_runtime_sized, ends_in_runtime_array, faults, member_faults, element_path, member_path}
+use Rattle.wgsl_interface.specs.Faults.{Fault, told, unless, scalar_rule, component_rule, element_rule, member_rule, struct_rule, is_last_runtime_sized, ends_in_runtime_array, faults, member_faults, element_path, member_path}
 use Rattle.wgsl_interface.specs.declared.faults.Asked.{Asked}
 use Rattle.wgsl_interface.specs.declared.rule.ShareRule.{ShareRule}
 use Rattle.wgsl_interface.specs.declared.rule.ShareRule.TheVariants as rules

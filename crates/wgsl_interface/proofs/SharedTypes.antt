@@ -1,10 +1,9 @@
 -- What makes a type host-shareable or constructible, and which types are sound for a variable.
-use Rattle.std.proofs.Common.{◌≡◌, ◌∙◌, ℕ, List, [], Bool, true, false, not, Option, Some, None, is_none, refl, sym, ap, arith}
+use Rattle.std.proofs.Common.{◌≡◌, ◌∙◌, ℕ, List, [], Bool, true, not, Option, Some, None, refl, sym}
 use Rattle.std.specs.Prelude.{◌&&◌, ◌||◌, ◌∷◌, IsTrue}
 use Rattle.std.proofs.lemmas.Bool.{and_parts, and_from, true≢false}
-use Rattle.wgsl_rules.specs.Types.{Ty, bool, abstract_int, abstract_float, i32, u32, f32, f16, i64, u64, f64, struct, array, vec, mat, atomic, ptr, ref, texture, sampler, Fields, no_fields, field}
+use Rattle.wgsl_rules.specs.Types.{Ty, bool, abstract_int, abstract_float, i32, u32, f32, f16, i64, u64, f64, struct, array, vec, mat, atomic, Fields, no_fields, field}
 use Rattle.wgsl_rules.specs.Layout.{have_none}
-use Rattle.wgsl_rules.specs.declared.syntax.AddressSpace.{AddressSpace}
 use Rattle.wgsl_rules.specs.declared.syntax.AddressSpace.TheVariants as space
 use Rattle.wgsl_rules.specs.declared.syntax.AccessMode.{AccessMode}
 use Rattle.wgsl_interface.specs.Plain.{is_scalar, is_runtime_sized, is_count, is_vector, is_matrix, is_atomic_content, is_sized, are_sized, may_stand_before, is_plain, are_plain, is_concrete, are_concrete}
@@ -13,7 +12,7 @@ use Rattle.wgsl_interface.specs.Faults.{Fault, faults_view, first_100, asked_by,
 use Rattle.wgsl_interface.specs.declared.faults.ShareFault.{ShareFault}
 use Rattle.wgsl_interface.specs.declared.rule.ShareRule.TheVariants as rules
 use Rattle.wgsl_interface.proofs.Booleans as b
-use Rattle.wgsl_interface.proofs.NoFaults.{has_bool, have_bool, sound, sounds, settled, all_settled, is_nil, struct-sound, nil-members, vector-scalar, matrix-scalar, content-concrete, none-unless}
+use Rattle.wgsl_interface.proofs.NoFaults.{has_bool, have_bool, sound, settled, all_settled, is_nil, struct-sound, nil-members, vector-scalar, matrix-scalar, content-concrete, none-unless}
 
 shareable-scalar : (t : Ty) → is_scalar t ≡ true → is_host_shareable t ≡ (is_concrete t && not (has_bool t))
 shareable-scalar bool h = refl

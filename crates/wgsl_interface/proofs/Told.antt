@@ -1,5 +1,5 @@
 -- What a walk has told after several steps.
-use Rattle.std.proofs.Common.{◌≡◌, ◌∙◌, ◌+◌, ◌-◌, ℕ, zero, suc, List, [], ◌∷◌, ◌++◌, take, length, min, refl, sym, ap, subst, arith, append_assoc, ◌<◌, ◌≤◌, length-append, string_bytes}
+use Rattle.std.proofs.Common.{◌≡◌, ◌∙◌, ◌+◌, ◌-◌, ℕ, zero, suc, List, [], ◌∷◌, ◌++◌, take, length, min, refl, sym, ap, arith, append_assoc, ◌<◌, ◌≤◌, length-append, string_bytes}
 use Rattle.std.proofs.lemmas.List.{append-nil, length-take, take_at}
 use Rattle.wgsl_interface.specs.Faults.{Fault, faults_view, with_more, member_path}
 use Rattle.wgsl_interface.specs.Walks.{IsTold}

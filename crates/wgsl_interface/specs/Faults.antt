@@ -1,6 +1,6 @@
 -- What of a type breaks a rule: where, and which one (WGSL: plain types; atomic types; array types; structure types;
 -- host-shareable types; address spaces).
-use Rattle.std.specs.Prelude.{ℕ, ◌-◌, Bool, true, false, not, ◌&&◌, ◌||◌, Option, Some, None, List, [], ◌∷◌, ◌++◌, map, take, length, codes, if◌then◌else◌}
+use Rattle.std.specs.Prelude.{ℕ, ◌-◌, Bool, true, false, not, ◌||◌, Option, Some, None, List, [], ◌∷◌, ◌++◌, map, take, length, codes, if◌then◌else◌}
 use Rattle.std.specs.String.{string_bytes}
 use Rattle.wgsl_rules.specs.Types.{Ty, bool, abstract_int, abstract_float, struct, array, vec, mat, atomic, ptr, ref, texture, sampler, Fields, no_fields, field}
 use Rattle.wgsl_rules.specs.Layout.{have_none}

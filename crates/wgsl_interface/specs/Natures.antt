@@ -1,6 +1,6 @@
 -- What the walk down a type finds of it.
-use Rattle.std.specs.Prelude.{◌≡◌, not, ◌&&◌, Bool}
-use Rattle.wgsl_rules.specs.Types.{Ty, Fields}
+use Rattle.std.specs.Prelude.{◌≡◌}
+use Rattle.wgsl_rules.specs.Types.{Ty}
 use Rattle.wgsl_interface.specs.Plain.{is_plain, is_sized, is_runtime_sized, is_concrete}
 use Rattle.wgsl_interface.specs.Shared.{is_constructible, is_host_shareable, has_atomic}
 use Rattle.wgsl_interface.specs.declared.nature.Nature.{Nature}

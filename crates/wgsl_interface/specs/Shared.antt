@@ -1,7 +1,7 @@
 -- Which types the variables of an address space may have (WGSL: storable types; constructible types; host-shareable types;
 -- address spaces).
 use Rattle.std.specs.Prelude.{Bool, true, false, not, ◌&&◌, ◌||◌, Option, Some, None}
-use Rattle.wgsl_rules.specs.Types.{Ty, bool, abstract_int, abstract_float, i32, u32, f32, f16, i64, u64, f64, struct, array, vec, mat, atomic, ptr, ref, texture, sampler, Fields, no_fields, field}
+use Rattle.wgsl_rules.specs.Types.{Ty, i32, u32, f32, f16, i64, u64, f64, struct, array, vec, mat, atomic, ptr, ref, texture, sampler, Fields, no_fields, field}
 use Rattle.wgsl_rules.specs.Layout.{have_none}
 use Rattle.wgsl_rules.specs.declared.syntax.AddressSpace.{AddressSpace}
 use Rattle.wgsl_rules.specs.declared.syntax.AddressSpace.TheVariants as space

@@ -1,9 +1,7 @@
-use Rattle.std.proofs.Common.{◌≡◌, ◌∙◌, ◌+◌, ℕ, List, [], ◌∷◌, ◌++◌, sym, ap, take, drop, get_or, length, is_some, false, true, Option, Some, arith, append_assoc}
-use Rattle.std.specs.Prelude.{position}
+use Rattle.std.proofs.Common.{◌≡◌, ◌∙◌, ◌+◌, ℕ, List, [], ◌∷◌, ◌++◌, sym, ap, take, drop, get_or, is_some, false, true, Option, arith, append_assoc}
 use Rattle.std.specs.BTreeMap.{get}
 use Rattle.std.proofs.lemmas.List.{take_more, length-take-le}
-use Rattle.std.proofs.lemmas.Grind.{common_steps}
-use Rattle.wgsl_interface.specs.Bindings.{is_same, firsts_behind}
+use Rattle.wgsl_interface.specs.Bindings.{firsts_behind}
 use Rattle.wgsl_interface.specs.declared.bindings.Binding.{Binding}
 use Rattle.wgsl_interface.specs.contracts.bindings.BindingOrd.TheImpl.{cmp-value}
 use Rattle.wgsl_interface.proofs.FirstBindings.{firsts-next, numbers-known, numbers-new}

@@ -1,4 +1,4 @@
-use Rattle.std.proofs.Common.{◌≡◌, ◌∙◌, ap, [], ⊎_elim, false, sym}
+use Rattle.std.proofs.Common.{◌≡◌, ◌∙◌, ap, [], ⊎_elim}
 use Rattle.std.proofs.lemmas.Bool.{true≢false}
 use Rattle.std.proofs.lemmas.Result.{IfOk-weaker}
 use Rattle.wgsl_interface.specs.Faults.{first_100, asked_by, faults}

@@ -1,14 +1,13 @@
-use Rattle.std.proofs.Common.{◌≡◌, ◌∙◌, ◌+◌, Bool, true, false, not, ℕ, List, drop, ap, sym, subst, refl, length, string_bytes, arith, rules}
+use Rattle.std.proofs.Common.{◌≡◌, ◌∙◌, ◌+◌, Bool, not, drop, ap, sym, subst, refl, length}
 use Rattle.std.specs.Prelude.{◌&&◌, ◌||◌, ◌==◌}
-use Rattle.std.proofs.lemmas.Grind.{common_steps}
 use Rattle.std.proofs.lemmas.List.{drop_all}
 use Rattle.wgsl_interface.specs.Natures.{IsNatureOf}
 use Rattle.wgsl_interface.specs.Plain.{are_plain, are_sized, are_concrete}
 use Rattle.wgsl_interface.specs.Shared.{are_constructible, are_host_shareable, have_atomic}
 use Rattle.wgsl_interface.proofs.Members.{next, members-from, none-from, none-of, at_end, or_at_end, ty-of}
-use Rattle.wgsl_rules.specs.Types.{Ty, Fields, no_fields, struct}
+use Rattle.wgsl_rules.specs.Types.{Ty, Fields, no_fields}
 use Rattle.wgsl_rules.specs.Layout.{have_none}
-use Rattle.wgsl_rules.specs.View.{type_view, struct_view, member_view, members_view}
+use Rattle.wgsl_rules.specs.View.{member_view, members_view}
 use Rattle.wgsl_rules.proofs.lemmas.Views.{struct_view-is}
 use Rattle.wgsl_interface.proofs.nature.+natures.Goals as goal
 

@@ -1,19 +1,18 @@
-use Rattle.std.proofs.Common.{◌≡◌, ◌∙◌, ◌+◌, Bool, true, false, not, Option, ℕ, List, [], ◌∷◌, ◌++◌, length, drop, sym, ap, subst, refl, string_bytes, OnOk, arith}
+use Rattle.std.proofs.Common.{◌≡◌, ◌∙◌, ◌+◌, Bool, false, not, Option, ℕ, List, [], ◌∷◌, ◌++◌, length, drop, sym, ap, subst, refl, string_bytes, OnOk}
 use Rattle.std.specs.Prelude.{◌==◌}
 use Rattle.std.proofs.lemmas.List.{drop_all}
 use Rattle.std.proofs.lemmas.Result.{on_ok_weaker}
 use Rattle.wgsl_rules.specs.Layout.{have_none}
-use Rattle.wgsl_rules.specs.Types.{Ty, Fields, no_fields, array}
-use Rattle.wgsl_rules.specs.View.{Field, type_view, struct_view, member_view, members_view}
-use Rattle.wgsl_rules.specs.declared.ty.StructType.{out-StructType}
+use Rattle.wgsl_rules.specs.Types.{Fields, no_fields}
+use Rattle.wgsl_rules.specs.View.{type_view, member_view, members_view}
 use Rattle.wgsl_rules.specs.declared.ty.StructMemberType.{out-StructMemberType}
 use Rattle.wgsl_rules.proofs.lemmas.Views.{view-Array, struct_view-is, member_view-is}
-use Rattle.wgsl_interface.specs.Faults.{Fault, faults_view, with_more, told, unless, faults, member_faults, struct_faults, element_rule, element_path, array_rule, member_rule, member_path}
+use Rattle.wgsl_interface.specs.Faults.{Fault, faults_view, with_more, told, unless, faults, member_faults, element_rule, member_rule, member_path}
 use Rattle.wgsl_interface.specs.Walks.{IsTold, element_faults, faults_of_member}
 use Rattle.wgsl_interface.specs.declared.faults.Walk.{Walk}
 use Rattle.wgsl_interface.specs.declared.rule.ShareRule.{ShareRule}
 use Rattle.wgsl_interface.specs.declared.rule.ShareRule.TheVariants as rules
-use Rattle.wgsl_interface.proofs.Members.{first, members-from, none-from, none-of}
+use Rattle.wgsl_interface.proofs.Members.{members-from, none-from, none-of}
 use Rattle.wgsl_interface.proofs.Told.{with_more-both, then-told, below-told, told-none, named, dotted, undotted, member_rest, behind}
 use Rattle.wgsl_interface.proofs.faults.Walk.+faults.Goals.{tell_member-then-end-gt0+in_ok-push_str, tell_member-else-end-gt0}
 use Rattle.wgsl_interface.proofs.faults.Walk.+faults.Goals as goal
