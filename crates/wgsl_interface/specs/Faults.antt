@@ -91,7 +91,7 @@ ends_in_runtime_array t = false
 abbrev pub element_rule : Ty → Option ShareRule
 element_rule t = unless (not (is_runtime_sized t || ends_in_runtime_array t)) rules.RuntimeInArray
 
--- of a type as that of a member, in front of which there is no other one or there is
+-- of a type as that of a member, behind which there is no other one or there is
 abbrev pub member_rule : Bool → Ty → Option ShareRule
 member_rule is_last t =
     if is_runtime_sized t then unless is_last rules.RuntimeNotLast else unless (not (ends_in_runtime_array t)) rules.RuntimeInStruct
