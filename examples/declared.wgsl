@@ -28,10 +28,10 @@ struct Narrow { @align(2) a: u32 }
 struct Holder { s: Narrow }
 var<private> held: Holder;
 struct Wide { @align(8) a: u32 }
-var<storage> wide: Wide;
+@group(2) @binding(2) var<storage> wide: Wide;
 
 @group(0) @binding(1) var<storage, read_write> data: array<u32>;
-var<uniform> small: mat2x2h;
+@group(2) @binding(3) var<uniform> small: mat2x2h;
 var<private> kept: i32 = 1;
 
 const WORDS: u32 = 2 + 3 * 4;

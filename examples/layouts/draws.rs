@@ -12,6 +12,7 @@ const _: () = assert!(core::mem::offset_of!(DrawArguments, first_vertex) == 8);
 const _: () = assert!(core::mem::offset_of!(DrawArguments, first_instance) == 12);
 const _: () = assert!(core::mem::size_of::<DrawArguments>() == 16);
 
+// with n elements at its end: size 16 + 16 * n
 #[repr(C)]
 #[derive(Clone, Copy)]
 pub struct Draws {

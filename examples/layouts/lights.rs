@@ -35,6 +35,7 @@ const _: () = assert!(core::mem::offset_of!(Shadows, splits) == 256);
 const _: () = assert!(core::mem::offset_of!(Shadows, tiles) == 272);
 const _: () = assert!(core::mem::size_of::<Shadows>() == 528);
 
+// with n elements at its end: size 544 + 64 * n
 #[repr(C)]
 #[derive(Clone, Copy)]
 pub struct Lights {

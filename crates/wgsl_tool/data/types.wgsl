@@ -28,7 +28,7 @@ const n21 = !!false; // bool = false
 const n22 = ~~5i; // i32 = 5i
 const n23 = -(-2147483647i - 1i); // i32 = -2147483648i
 const n24 = 7i; // i32 = 7i
-const n25 = 9223372036854775807li; // i64 = 9223372036854775807li; warning: WGSL has no 64-bit integers
+const n25 = 9223372036854775807li; // i64 = 9223372036854775807li
 const n26 = 0u; // u32 = 0u
 const n27 = 0X00ffu; // u32 = 255u
 const n28 = 0xABCDEFi; // i32 = 11259375i
@@ -61,18 +61,18 @@ const_assert 1 < 2; // ok
 // What is no constant.
 override factor: f32; // none
 @id(7) override count: u32; // none
-const of_count = count + 1; // not evaluated: needs an override, `count`
+const of_count = count + 1; // not evaluated: needs what is no constant, `count`
 struct Overridden { a: array<u32, count>, } // ok
-const overridden = Overridden(); // not evaluated: needs an override, `Overridden`
+const overridden = Overridden(); // not evaluated: needs what is no constant, `Overridden`
 override width = 4; // none
 var<workgroup> shared_row: array<f32, width>; // ok
 alias Doubled = array<u32, width * 2>; // ok
-const doubled = Doubled(); // not evaluated: needs an override, `Doubled`
+const doubled = Doubled(); // not evaluated: needs what is no constant, `Doubled`
 override below: u32 = -1; // none
 @group(0) @binding(0) var image: texture_2d<f32>; // ok
 var nearest: sampler; // ok
-const of_image = image; // not evaluated: needs a type without constants, `image`
-const of_nearest = nearest; // not evaluated: needs a type without constants, `nearest`
+const of_image = image; // not evaluated: needs what is no constant, `image`
+const of_nearest = nearest; // not evaluated: needs what is no constant, `nearest`
 fn limited(a: i32) -> i32 { if (a < 1) { return 2; } return a; }
 const behind_limited = 1; // AbstractInt = 1
 // Faults of attributes and variables.
@@ -84,11 +84,6 @@ struct Short { @size(2) a: u32 } // error: the type takes another size
 struct Open { n: u32, @size(64) a: array<u32> } // error: the type takes another size
 struct ByType { @align(u32) a: u32 } // error: a type stands where a value belongs
 struct OfWidth { @size(width) a: u32 } // error: an attribute is a constant
-struct OfFloat { @size(16.0) a: u32 } // error: an attribute is an integer
-struct ByFloats { @align(2.0 * 4) a: u32 } // error: an attribute is an integer
-struct ByNegated { @align(-f32(1) + 2) a: u32 } // error: an attribute is an integer
-struct Converted { @size(u32(16.0)) a: u32 } // ok
-@group(f32(1)) @binding(1) var<storage> grouped: u32; // error: an attribute is an integer
 struct Slim { @align(2) a: u32 } // ok
 @group(0) @binding(1) var<storage> slim: array<Slim, 2>; // error: a member needs another alignment
 var<uniform> of_value: 4; // error: this is no type
@@ -97,10 +92,6 @@ struct Left { b: Right }
 struct Right { a: Left } // error: this needs itself
 struct Looped { a: Loops }
 alias Loops = array<Looped, 2>; // error: this needs itself
-alias Format = r32float; // ok
-alias NoFormat = r33float; // error: nothing is named r33float
-alias NoTexture = texture_4d<f32>; // error: nothing is named texture_4d
-const no_sampler = sampler(1); // error: no value is made of this
 struct OfThree { a: three } // error: this is no type
 alias OfBools = vec2<Bools>; // error: this is no type of a component here
 alias OfFloats = atomic<f32>; // error: this is no type of a component here
@@ -115,7 +106,7 @@ struct OfAlias { a: Three } // ok
 const of_alias = OfAlias(); // nothing
 struct Lines {
     a: u32,
-    b: é, // error: nothing is named é
+    b: é, // error: nothing has this name
 }
 struct A { a: vec2u, b: vec2u, c: vec2u, d: vec2u } // ok
 struct B { a: A, b: A, c: A, d: A, e: A, f: A, g: A, h: A } // ok

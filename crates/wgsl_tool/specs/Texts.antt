@@ -60,9 +60,9 @@ abbrev pub runtime_entry : Option RuntimePart → List ℕ
 runtime_entry (Some part) = codes ", \"runtime\": {\"offset\": " ++ (decimal part.start ++ (codes ", \"stride\": " ++ (decimal part.stride ++ codes "}")))
 runtime_entry None = []
 
--- the field of the bytes behind field i
-abbrev pub c_padding : ℕ → ℕ → List ℕ
-c_padding i n = if n == 0 then [] else codes "    uint8_t _padding" ++ (decimal i ++ (codes "[" ++ (decimal n ++ codes "];\n")))
+-- the field of the bytes behind field i, which is named by this and its number
+abbrev pub c_padding : List ℕ → ℕ → ℕ → List ℕ
+c_padding name i n = if n == 0 then [] else codes "    uint8_t " ++ (name ++ (decimal i ++ (codes "[" ++ (decimal n ++ codes "];\n"))))
 
-abbrev pub rust_padding : ℕ → ℕ → List ℕ
-rust_padding i n = if n == 0 then [] else codes "    pub _padding" ++ (decimal i ++ (codes ": [u8; " ++ (decimal n ++ codes "],\n")))
+abbrev pub rust_padding : List ℕ → ℕ → ℕ → List ℕ
+rust_padding name i n = if n == 0 then [] else codes "    pub " ++ (name ++ (decimal i ++ (codes ": [u8; " ++ (decimal n ++ codes "],\n"))))

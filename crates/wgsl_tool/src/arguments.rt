@@ -1,63 +1,247 @@
 //! What the words of a command ask for.
 
 ghost use Rattle.std.specs.Prelude.{◌≡◌, ◌≢◌, IfSome, IsNone, Some};
+ghost use Rattle.wgsl_rules.specs.declared.syntax.ShaderStage.{ShaderStage};
+ghost use Rattle.wgsl_functions.specs.declared.parameters.Dialect.{Dialect};
 ghost use Rattle.wgsl_tool.specs.Endings.{flag_of};
+ghost use Rattle.wgsl_tool.specs.Stages.{dialect_word, stage_word};
 ghost use Rattle.wgsl_tool.specs.declared.arguments.Format.{Format};
 
-use crate::evaluating::{Evaluating, evaluating_of};
+use crate::misuse::Misuse;
+use std::alloc::{AllocError, Global};
+use wgsl_eval::Dialect;
+use wgsl_rules::ShaderStage;
 
-/// How a layout is printed.
+/// How an answer is printed.
 #[derive(Clone, Copy, Debug, PartialEq, Eq)]
 pub(crate) enum Format {
     Table,
     Bytes,
     Json,
     Rust,
+    Bytemuck,
     C,
 }
 
-/// A source, and the names that are asked for; none are all.
-#[derive(Clone, Copy)]
-pub(crate) struct Arguments<'a> {
-    pub(crate) format: Format,
-    pub(crate) file: &'a str,
-    pub(crate) names: &'a [String],
+/// What is asked of sources.
+#[derive(Clone, Copy, Debug, PartialEq, Eq)]
+pub(crate) enum Command {
+    Layout,
+    Eval,
 }
 
-#[derive(Clone, Copy)]
+/// What is asked for: of which sources, of which of their names, where none are all, and how.
+#[derive(Drop)]
+pub(crate) struct Arguments<'a> {
+    pub(crate) command: Command,
+    pub(crate) files: Vec<&'a str>,
+    pub(crate) names: Vec<&'a str>,
+    /// An expression, which is evaluated in the scope of each source, or by itself where there is none.
+    pub(crate) expression: Option<&'a str>,
+    pub(crate) format: Format,
+    pub(crate) stage: ShaderStage,
+    /// Whether what the standard refuses, and what is left out, is a fault.
+    pub(crate) is_strict: bool,
+    pub(crate) dialect: Dialect,
+}
+
+/// What the words behind the program's name ask for.
+#[derive(Drop)]
 pub(crate) enum Asked<'a> {
     Help,
     Version,
-    Layout(Arguments<'a>),
-    Eval(Evaluating<'a>),
+    Sources(Arguments<'a>),
+    /// Nothing that there is.
+    Nothing(Misuse<'a>),
 }
 
-/// What the words behind the program's name ask for; `None` where that is nothing.
-pub(crate) fn arguments_of(words: &[String]) -> Option<Asked<'_>> {
-    let (first, rest) = words.split_first()?;
+/// A flag that a word stands behind.
+#[derive(Clone, Copy, PartialEq, Eq)]
+enum Valued {
+    Stage,
+    Expression,
+    Dialect,
+}
+
+/// What the words ask for so far.
+#[derive(Drop)]
+struct Words<'a> {
+    arguments: Arguments<'a>,
+    has_format: bool,
+    /// The flag that the next word stands behind.
+    open: Option<(Valued, &'a str)>,
+    asks_help: bool,
+}
+
+/// What the words behind the program's name ask for. Flags stand anywhere behind the command.
+///
+/// The only error is that memory is wanting.
+pub(crate) fn arguments_of(alloc: Global, words: &[String]) -> Result<Asked<'_>, AllocError> {
+    let Some((first, rest)) = words.split_first() else {
+        return Ok(Asked::Nothing(Misuse::NoCommand));
+    };
     match first.as_str() {
-        "--help" | "-h" => Some(Asked::Help),
-        "--version" | "-V" => Some(Asked::Version),
-        "layout" => layout_of(rest),
-        "eval" => eval_of(rest),
-        _ => None,
+        "--help" | "-h" => Ok(Asked::Help),
+        "--version" | "-V" => Ok(Asked::Version),
+        "layout" => asked_of(alloc, Command::Layout, rest),
+        "eval" => asked_of(alloc, Command::Eval, rest),
+        other => Ok(Asked::Nothing(Misuse::Command(other))),
     }
 }
 
-fn layout_of(words: &[String]) -> Option<Asked<'_>> {
-    let (first, rest) = words.split_first()?;
-    let first = first.as_str();
-    if is_help(first) {
-        return Some(Asked::Help);
+fn asked_of<'a>(
+    alloc: Global,
+    command: Command,
+    words: &'a [String],
+) -> Result<Asked<'a>, AllocError> {
+    let mut asked = Words::new(alloc, command);
+    for word in words {
+        if let Some(misuse) = asked.take(word.as_str())? {
+            return Ok(Asked::Nothing(misuse));
+        }
     }
-    match format_of(first) {
-        Some(format) => file_of(format, rest),
-        None => file_of(Format::Table, words),
+    Ok(asked.finish())
+}
+
+impl<'a> Words<'a> {
+    fn new(alloc: Global, command: Command) -> Words<'a> {
+        Words {
+            arguments: Arguments {
+                command,
+                files: Vec::new(alloc),
+                names: Vec::new(alloc),
+                expression: None,
+                format: Format::Table,
+                stage: ShaderStage::Const,
+                is_strict: false,
+                dialect: Dialect::Wgsl,
+            },
+            has_format: false,
+            open: None,
+            asks_help: false,
+        }
+    }
+
+    // Takes a word, and answers why it belongs nowhere.
+    fn take(&mut self, word: &'a str) -> Result<Option<Misuse<'a>>, AllocError> {
+        match self.open.take() {
+            Some((valued, _)) => Ok(self.set_value(valued, word)),
+            None if is_flag(word) => Ok(self.take_flag(word)),
+            None => {
+                self.take_name(word)?;
+                Ok(None)
+            }
+        }
+    }
+
+    fn take_flag(&mut self, word: &'a str) -> Option<Misuse<'a>> {
+        if word == "--help" || word == "-h" {
+            self.asks_help = true;
+            return None;
+        }
+        if word == "--strict" {
+            self.arguments.is_strict = true;
+            return None;
+        }
+        if let Some(format) = format_of(word) {
+            return self.set_format(format, word);
+        }
+        if let Some(valued) = self.valued(word) {
+            self.open = Some((valued, word));
+            return None;
+        }
+        self.take_joined(word)
+    }
+
+    // A flag with its value behind `=`.
+    fn take_joined(&mut self, word: &'a str) -> Option<Misuse<'a>> {
+        let Some((flag, value)) = word.split_once('=') else {
+            return Some(Misuse::Flag(word));
+        };
+        match self.valued(flag) {
+            Some(valued) => self.set_value(valued, value),
+            None => Some(Misuse::Flag(word)),
+        }
+    }
+
+    fn valued(&self, flag: &str) -> Option<Valued> {
+        match (self.arguments.command, flag) {
+            (Command::Eval, "--stage") => Some(Valued::Stage),
+            (Command::Eval, "-e") => Some(Valued::Expression),
+            (_, "--dialect") => Some(Valued::Dialect),
+            (_, _) => None,
+        }
+    }
+
+    fn set_value(&mut self, valued: Valued, value: &'a str) -> Option<Misuse<'a>> {
+        match valued {
+            Valued::Stage => match stage_of(value) {
+                Some(stage) => self.arguments.stage = stage,
+                None => return Some(Misuse::Stage(value)),
+            },
+            Valued::Dialect => match dialect_of(value) {
+                Some(dialect) => self.arguments.dialect = dialect,
+                None => return Some(Misuse::Dialect(value)),
+            },
+            Valued::Expression => {
+                if self.arguments.expression.is_some() {
+                    return Some(Misuse::SecondExpression);
+                }
+                self.arguments.expression = Some(value);
+            }
+        }
+        None
+    }
+
+    // One format alone, and of values as a table or as JSON.
+    fn set_format(&mut self, format: Format, word: &'a str) -> Option<Misuse<'a>> {
+        if self.arguments.command == Command::Eval && format != Format::Json {
+            return Some(Misuse::Flag(word));
+        }
+        if self.has_format && self.arguments.format != format {
+            return Some(Misuse::SecondFormat(word));
+        }
+        self.has_format = true;
+        self.arguments.format = format;
+        None
+    }
+
+    // A name of a declaration, or a file: the first word is one, and each that no declaration is named.
+    fn take_name(&mut self, word: &'a str) -> Result<(), AllocError> {
+        let is_name = self.arguments.command == Command::Layout
+            && !self.arguments.files.is_empty()
+            && !is_file(word);
+        if is_name {
+            self.arguments.names.push(word)?;
+        } else {
+            self.arguments.files.push(word)?;
+        }
+        Ok(())
+    }
+
+    // What is asked for, where no word is missing.
+    fn finish(self) -> Asked<'a> {
+        if self.asks_help {
+            return Asked::Help;
+        }
+        if let Some((_, flag)) = self.open {
+            return Asked::Nothing(Misuse::NoValue(flag));
+        }
+        if self.arguments.files.is_empty() && self.arguments.expression.is_none() {
+            return Asked::Nothing(Misuse::NoFile);
+        }
+        Asked::Sources(self.arguments)
     }
 }
 
-fn is_help(word: &str) -> bool {
-    word == "--help" || word == "-h"
+// A word that begins so is neither a file nor a name; `-` alone is standard input.
+fn is_flag(word: &str) -> bool {
+    word.starts_with('-') && word != "-"
+}
+
+// Whether a word is a file and no name: names have neither.
+fn is_file(word: &str) -> bool {
+    word == "-" || word.contains(['.', '/'])
 }
 
 // The format that a flag asks for.
@@ -69,31 +253,33 @@ fn format_of(word: &str) -> Option<Format>
         "--bytes" => Some(Format::Bytes),
         "--json" => Some(Format::Json),
         "--rust" => Some(Format::Rust),
+        "--rust=bytemuck" => Some(Format::Bytemuck),
         "--c" => Some(Format::C),
         _ => None,
     }
 }
 
-fn file_of(format: Format, words: &[String]) -> Option<Asked<'_>> {
-    let (file, names) = words.split_first()?;
-    if words.iter().any(|word| is_flag(word.as_str())) {
-        return None;
+// The stage of the word.
+fn stage_of(word: &str) -> Option<ShaderStage>
+    ensures some { IfSome result (λ stage. stage_word stage ≡ word.now) }
+    ensures none { IsNone result → (stage : ShaderStage) → stage_word stage ≢ word.now }
+{
+    match word {
+        "const" => Some(ShaderStage::Const),
+        "override" => Some(ShaderStage::Override),
+        "exec" => Some(ShaderStage::Exec),
+        _ => None,
     }
-    Some(Asked::Layout(Arguments {
-        format,
-        file: file.as_str(),
-        names,
-    }))
 }
 
-/// A word that begins so is neither a file nor a name; `-` alone is standard input.
-pub(crate) fn is_flag(word: &str) -> bool {
-    word.starts_with('-') && word != "-"
-}
-
-fn eval_of(words: &[String]) -> Option<Asked<'_>> {
-    match words.first()?.as_str() {
-        word if is_help(word) => Some(Asked::Help),
-        _ => Some(Asked::Eval(evaluating_of(words)?)),
+// The dialect of the word.
+fn dialect_of(word: &str) -> Option<Dialect>
+    ensures some { IfSome result (λ dialect. dialect_word dialect ≡ word.now) }
+    ensures none { IsNone result → (dialect : Dialect) → dialect_word dialect ≢ word.now }
+{
+    match word {
+        "wgsl" => Some(Dialect::Wgsl),
+        "crate" => Some(Dialect::Crate),
+        _ => None,
     }
 }

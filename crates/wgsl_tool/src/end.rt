@@ -1,7 +1,7 @@
 //! How the program ends.
 
 ghost use Rattle.std.specs.Prelude.{◌≡◌};
-ghost use Rattle.wgsl_tool.specs.Endings.{end_status};
+ghost use Rattle.wgsl_tool.specs.Endings.{end_status, worse_of};
 
 /// How the program ends.
 #[derive(Clone, Copy, Debug, PartialEq, Eq)]
@@ -25,6 +25,17 @@ impl End {
             End::Faults => 1,
             End::Usage => 2,
             End::Io => 3,
+        }
+    }
+
+    /// The worse of two ends.
+    pub(crate) fn or_worse(self, other: End) -> End
+        ensures { result ≡ worse_of self other }
+    {
+        if self.status() < other.status() {
+            other
+        } else {
+            self
         }
     }
 }

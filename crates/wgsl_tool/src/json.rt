@@ -3,20 +3,27 @@
 ghost use Rattle.std.specs.Prelude.{◌≡◌, ◌++◌, OnOk, string_bytes};
 ghost use Rattle.wgsl_tool.specs.Texts.{entry_text, runtime_entry};
 
+use crate::findings_json::{Told, add_findings};
+use crate::json_text::add_string;
+use crate::left_out::LeftOut;
 use crate::structures::{Asked, Laid, RuntimePart, runtime_member, runtime_part};
 use crate::uniform::{add_rule, broken_rules};
 use std::alloc::{AllocError, Global};
 use wgsl_eval::Variable;
 use wgsl_rules::{AccessMode, AddressSpace, MemberLayout, StructMemberType, StructType, Type};
 
-/// One object, with the structures and the variables in their order. A number that is not known is
-/// `null`.
+/// One object, with the structures and the variables in their order, what is left out, and what is told. A number that is not
+/// known is `null`.
 pub(crate) fn add_json(
     alloc: Global,
     text: &mut String,
     asked: Asked<'_>,
+    left_out: &[LeftOut<'_>],
+    told: Told<'_>,
 ) -> Result<(), AllocError> {
-    text.push_str("{\n  \"structs\": [")?;
+    text.push_str("{\n  \"file\": ")?;
+    add_string(text, told.file)?;
+    text.push_str(",\n  \"structs\": [")?;
     let mut count = 0usize;
     for item in asked.items {
         if let Some(Laid::Struct(ty)) = asked.laid(item) {
@@ -32,7 +39,38 @@ pub(crate) fn add_json(
             add_variable(alloc, text, name, variable)?;
         }
     }
-    text.push_str("\n  ]\n}\n")
+    text.push_str("\n  ],\n  \"skipped\": [")?;
+    count = 0;
+    for one in left_out {
+        begin_object(text, &mut count)?;
+        add_left_out(alloc, text, one, told.text)?;
+    }
+    text.push_str(if left_out.is_empty() {
+        "],\n  "
+    } else {
+        "\n  ],\n  "
+    })?;
+    add_findings(alloc, text, told)?;
+    text.push_str("\n}\n")
+}
+
+// What has no layout here, and why.
+fn add_left_out(
+    alloc: Global,
+    text: &mut String,
+    one: &LeftOut<'_>,
+    source: &str,
+) -> Result<(), AllocError> {
+    let (name, kind, skip) = (&one.item.name, one.kind(), one.skip);
+    write!(
+        text,
+        "{{\"name\": \"{name}\", \"kind\": \"{kind}\", \"reason\": "
+    )?;
+    let mut reason = String::new(alloc);
+    one.add_reason(&mut reason, source)?;
+    add_string(text, reason.as_str())?;
+    let (start, end) = (skip.start, skip.end);
+    write!(text, ", \"span\": {{\"start\": {start}, \"end\": {end}}}}}")
 }
 
 fn begin_object(text: &mut String, count: &mut usize) -> Result<(), AllocError> {

@@ -6,21 +6,30 @@ mod bytes;
 mod c;
 mod end;
 mod eval;
-mod evaluating;
 mod fields;
+mod finding;
+mod findings_json;
+mod host_names;
 mod json;
+mod json_text;
 mod layouts;
+mod left_out;
+mod misuse;
+mod nearest;
 mod report;
 mod rows;
 mod rust;
+mod scope;
+mod share;
 mod structures;
 mod table;
 mod uniform;
+mod values;
+mod values_json;
 
-use arguments::{Arguments, Asked, arguments_of};
+use arguments::{Arguments, Asked, Command, Format, arguments_of};
 use end::End;
-use eval::values_of;
-use evaluating::{Evaluating, Subject};
+use eval::{expression_value, is_expression, value_in_scope, values_of};
 use layouts::layouts_of;
 use report::Report;
 use std::process::ExitCode;
@@ -30,24 +39,33 @@ use std::{env, fs, io};
 const VERSION: &str = "wgsl_tool 0.1.0\n";
 
 const USAGE: &str = "\
-usage: wgsl_tool layout [--bytes | --json | --rust | --c] FILE [NAME ..]
-       wgsl_tool eval [--stage const | override | exec] [--strict] FILE
-       wgsl_tool eval [--stage const | override | exec] [--strict] -e EXPRESSION
+usage: wgsl_tool layout [FLAG ..] FILE .. [NAME ..]
+       wgsl_tool eval [FLAG ..] FILE ..
+       wgsl_tool eval [FLAG ..] [FILE ..] -e EXPRESSION
 
 `layout` prints where the members of each structure of a WGSL source stand in memory, and how large the
 buffers of its storage and uniform variables are. With names, prints these alone; for programs,
-also the structures inside them. The source is standard input where FILE is `-`.
+also the structures inside them. The source is standard input where FILE is `-`. Words behind the first
+FILE are files where they have a `.` or a `/`, and else names.
 
   --bytes     draws rows of 16 bytes
   --json      the same as without a flag, for programs to read
   --rust      structures of the host in Rust, whose offsets its compiler checks
-  --c         structures of the host in C, whose offsets its compiler checks
+  --rust=bytemuck  the same with the traits Pod and Zeroable
+  --c         structures of the host in C and C++, whose offsets its compiler checks
 
-`eval` prints the type and the value of each constant, or of the expression, and checks the
-assertions of the module.
+`eval` prints the type and the value of each constant, or of the expression, which may name what the
+source declares, and checks the assertions of the module.
 
-  --stage     when the values are needed: for the module, for a pipeline, or while it runs
-  --strict    what is warned of is a fault
+  --json      the same for programs to read
+  --stage STAGE  when the values are needed: `const` for the module, `override` for a pipeline, or `exec`
+              while it runs
+
+Of both:
+
+  --strict    what is warned of and what is left out is a fault
+  --dialect DIALECT  `wgsl`, or `crate` for what the Rust crate has beyond it: matrices of integers, integers of
+              64 bits, and bits of abstract integers
 
   --help      prints this
   --version   prints the version
@@ -73,44 +91,94 @@ fn run<R: AllocGlobal + Input + Print + Eprint + Files + Env>(rt: &R) -> io::Res
     for word in env::args(rt)?.skip(1) {
         words.push(word)?;
     }
-    match arguments_of(words.as_slice()) {
-        None => {
-            eprint!(rt; "{USAGE}")?;
+    match arguments_of(rt.alloc(), words.as_slice())? {
+        Asked::Nothing(misuse) => {
+            eprint!(rt; "wgsl_tool: {misuse}\n\n{USAGE}")?;
             Ok(End::Usage)
         }
-        Some(Asked::Help) => {
+        Asked::Help => {
             print!(rt; "{USAGE}")?;
             Ok(End::Well)
         }
-        Some(Asked::Version) => {
+        Asked::Version => {
             print!(rt; "{VERSION}")?;
             Ok(End::Well)
         }
-        Some(Asked::Layout(arguments)) => print_layouts(rt, arguments),
-        Some(Asked::Eval(asked)) => print_values(rt, asked),
+        Asked::Sources(arguments) => print_sources(rt, &arguments),
     }
 }
 
-// Reads what is to be evaluated, and prints its values.
-fn print_values<R: AllocGlobal + Input + Print + Eprint + Files>(
+// Prints what is asked for of each source in turn, and ends as the worst of them.
+fn print_sources<R: AllocGlobal + Input + Print + Eprint + Files>(
     rt: &R,
-    asked: Evaluating<'_>,
+    arguments: &Arguments<'_>,
 ) -> io::Result<End> {
-    let file = match asked.subject {
-        Subject::Expression(text) => {
-            let values = values_of(rt.alloc(), text, "expression", asked)?;
-            return print_report(rt, &values);
+    if let (true, Some(expression)) = (arguments.files.is_empty(), arguments.expression) {
+        let value = expression_value(rt.alloc(), expression, arguments)?;
+        return print_report(rt, &value);
+    }
+    let is_list = arguments.files.len() > 1 && arguments.format == Format::Json;
+    if is_list {
+        print!(rt; "[\n")?;
+    }
+    let mut end = End::Well;
+    let mut printed = 0usize;
+    for file in &arguments.files {
+        match read(rt, file) {
+            Ok(source) => {
+                print_heading(rt, arguments, file, printed)?;
+                printed = printed.saturating_add(1);
+                end = end.or_worse(print_source(rt, file, source.as_str(), arguments)?);
+            }
+            Err(error) => {
+                eprintln!(rt; "wgsl_tool: {file}: {error}")?;
+                end = End::Io;
+            }
         }
-        Subject::File(file) => file,
-    };
-    match read(rt, file) {
-        Ok(source) => {
-            let values = values_of(rt.alloc(), source.as_str(), file, asked)?;
-            print_report(rt, &values)
-        }
-        Err(error) => {
-            eprintln!(rt; "wgsl_tool: {file}: {error}")?;
-            Ok(End::Io)
+    }
+    if is_list {
+        print!(rt; "]\n")?;
+    }
+    Ok(end)
+}
+
+// What stands before what is printed of one of several sources, behind so many others.
+fn print_heading<R: Print>(
+    rt: &R,
+    arguments: &Arguments<'_>,
+    file: &str,
+    printed: usize,
+) -> io::Result<()> {
+    if arguments.files.len() < 2 {
+        return Ok(());
+    }
+    let between = if printed == 0 { "" } else { "\n" };
+    match arguments.format {
+        Format::Json if printed == 0 => Ok(()),
+        Format::Json => print!(rt; ",\n"),
+        Format::Table | Format::Bytes => print!(rt; "{between}{file}:\n"),
+        Format::Rust | Format::Bytemuck | Format::C => print!(rt; "{between}// {file}\n"),
+    }
+}
+
+// What is asked for of one source. An expression is evaluated in its scope, where it is one.
+fn print_source<R: AllocGlobal + Print + Eprint>(
+    rt: &R,
+    file: &str,
+    text: &str,
+    arguments: &Arguments<'_>,
+) -> io::Result<End> {
+    let alloc = rt.alloc();
+    match (arguments.command, arguments.expression) {
+        (Command::Layout, _) => print_report(rt, &layouts_of(alloc, file, text, arguments)?),
+        (Command::Eval, None) => print_report(rt, &values_of(alloc, file, text, arguments)?),
+        (Command::Eval, Some(expression)) => {
+            if !is_expression(alloc, expression)? {
+                return print_report(rt, &expression_value(alloc, expression, arguments)?);
+            }
+            let (told, value) = value_in_scope(alloc, file, text, expression, arguments)?;
+            let end = print_report(rt, &told)?;
+            Ok(end.or_worse(print_report(rt, &value)?))
         }
     }
 }
@@ -119,23 +187,6 @@ fn print_report<R: Print + Eprint>(rt: &R, report: &Report) -> io::Result<End> {
     print!(rt; "{}", report.output)?;
     eprint!(rt; "{}", report.errors)?;
     Ok(report.end())
-}
-
-// Reads the source and prints what it is asked for.
-fn print_layouts<R: AllocGlobal + Input + Print + Eprint + Files>(
-    rt: &R,
-    arguments: Arguments<'_>,
-) -> io::Result<End> {
-    let source = match read(rt, arguments.file) {
-        Ok(source) => source,
-        Err(error) => {
-            let file = arguments.file;
-            eprintln!(rt; "wgsl_tool: {file}: {error}")?;
-            return Ok(End::Io);
-        }
-    };
-    let layouts = layouts_of(rt.alloc(), source.as_str(), arguments)?;
-    print_report(rt, &layouts)
 }
 
 fn read<R: AllocGlobal + Input + Files>(rt: &R, file: &str) -> io::Result<String> {

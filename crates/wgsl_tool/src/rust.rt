@@ -6,53 +6,100 @@ ghost use Rattle.wgsl_tool.specs.Scalars.{rust_scalar};
 ghost use Rattle.wgsl_tool.specs.Texts.{rust_padding};
 
 use crate::fields::{HostField, components_apart, fields_of, is_runtime_sized};
-use crate::structures::{Asked, Laid};
+use crate::host_names::padding_name;
+use crate::structures::{Asked, Laid, RuntimePart, runtime_member};
+use crate::table::{add_filled, add_runtime_size};
 use std::alloc::{AllocError, Global};
 use wgsl_rules::{StructType, Type};
+
+/// The traits that a structure of the host derives.
+#[derive(Clone, Copy, Debug, PartialEq, Eq)]
+pub(crate) enum Traits {
+    Copy,
+    /// Those of the crate `bytemuck` too.
+    Bytemuck,
+}
 
 /// A structure for each that is asked for; what its compiler checks of it stands behind it.
 pub(crate) fn add_rust(
     alloc: Global,
     text: &mut String,
     asked: Asked<'_>,
+    traits: Traits,
 ) -> Result<(), AllocError> {
     for item in asked.items {
         if let Some(Laid::Struct(ty)) = asked.laid(item) {
             if !text.is_empty() {
                 text.push('\n')?;
             }
-            add_struct(alloc, text, ty)?;
+            add_struct(alloc, text, ty, traits)?;
         }
     }
     Ok(())
 }
 
-fn add_struct(alloc: Global, text: &mut String, ty: &StructType) -> Result<(), AllocError> {
+fn add_struct(
+    alloc: Global,
+    text: &mut String,
+    ty: &StructType,
+    traits: Traits,
+) -> Result<(), AllocError> {
     let name = &ty.name;
     let Some(fields) = fields_of(alloc, ty)? else {
         return writeln!(text, "// {name} has no layout");
     };
-    writeln!(
+    if let Some(runtime) = runtime_member(alloc, ty)? {
+        add_runtime(text, runtime, ty.align_of())?;
+    }
+    let derived = derived_by(traits);
+    write!(
         text,
-        "#[repr(C)]\n#[derive(Clone, Copy)]\npub struct {name} {{"
+        "#[repr(C)]\n#[derive(Clone, Copy{derived})]\npub struct "
     )?;
+    add_name(text, name.as_str())?;
+    text.push_str(" {\n")?;
+    let padding = padding_name(alloc, ty)?;
     for (i, field) in fields.iter().enumerate() {
-        add_field(text, i, field)?;
+        add_field(text, field)?;
+        add_padding(text, padding.as_str(), i, field.behind)?;
     }
     text.push_str("}\n")?;
     for field in &fields {
         add_check(text, name.as_str(), field)?;
     }
     match ty.size_of() {
-        Some(size) => writeln!(
-            text,
-            "const _: () = assert!(core::mem::size_of::<{name}>() == {size});"
-        ),
+        Some(size) => add_size_check(text, name.as_str(), size),
         None => Ok(()),
     }
 }
 
-fn add_field(text: &mut String, i: usize, field: &HostField<'_>) -> Result<(), AllocError> {
+// What stands behind `Clone, Copy`.
+fn derived_by(traits: Traits) -> &'static str {
+    match traits {
+        Traits::Copy => "",
+        Traits::Bytemuck => ", bytemuck::Pod, bytemuck::Zeroable",
+    }
+}
+
+// How large the whole is, of which a host's structure has the first element alone.
+fn add_runtime(
+    text: &mut String,
+    runtime: RuntimePart,
+    align: Option<u32>,
+) -> Result<(), AllocError> {
+    text.push_str("// with n elements at its end: ")?;
+    add_runtime_size(text, runtime)?;
+    add_filled(text, Some(runtime), align)?;
+    text.push('\n')
+}
+
+fn add_size_check(text: &mut String, name: &str, size: u32) -> Result<(), AllocError> {
+    text.push_str("const _: () = assert!(core::mem::size_of::<")?;
+    add_name(text, name)?;
+    writeln!(text, ">() == {size});")
+}
+
+fn add_field(text: &mut String, field: &HostField<'_>) -> Result<(), AllocError> {
     text.push_str("    pub ")?;
     add_name(text, field.name)?;
     text.push_str(": ")?;
@@ -61,28 +108,29 @@ fn add_field(text: &mut String, i: usize, field: &HostField<'_>) -> Result<(), A
         ", // the first of its elements\n"
     } else {
         ",\n"
-    })?;
-    add_padding(text, i, field.behind)
+    })
 }
 
-fn add_padding(text: &mut String, i: usize, behind: u64) -> Result<(), AllocError>
-    ensures { OnOk result (string_bytes text.new ≡ string_bytes text.old ++ rust_padding i behind) }
+fn add_padding(text: &mut String, name: &str, i: usize, behind: u64) -> Result<(), AllocError>
+    ensures { OnOk result (string_bytes text.new ≡ string_bytes text.old ++ rust_padding name.now i behind) }
 {
     if behind == 0 {
         Ok(())
     } else {
-        writeln!(text, "    pub _padding{i}: [u8; {behind}],")
+        writeln!(text, "    pub {name}{i}: [u8; {behind}],")
     }
 }
 
 fn add_check(text: &mut String, name: &str, field: &HostField<'_>) -> Result<(), AllocError> {
     let offset = field.offset;
-    write!(text, "const _: () = assert!(core::mem::offset_of!({name}, ")?;
+    text.push_str("const _: () = assert!(core::mem::offset_of!(")?;
+    add_name(text, name)?;
+    text.push_str(", ")?;
     add_name(text, field.name)?;
     writeln!(text, ") == {offset});")
 }
 
-// A member may be named as a word of Rust.
+// A member or a structure may be named as a word of Rust.
 fn add_name(text: &mut String, name: &str) -> Result<(), AllocError> {
     if is_keyword(name) {
         text.push_str("r#")?;
@@ -109,7 +157,7 @@ fn is_keyword(name: &str) -> bool {
 // A runtime-sized array has its first element alone.
 fn add_type(text: &mut String, ty: &Type) -> Result<(), AllocError> {
     match ty {
-        Type::Struct(inner) => text.push_str(inner.name.as_str()),
+        Type::Struct(inner) => add_name(text, inner.name.as_str()),
         Type::Atomic(inner) => add_type(text, inner),
         Type::Vec(n, component) => add_array(text, component, u32::from(*n)),
         Type::Mat(columns, _, component) => {

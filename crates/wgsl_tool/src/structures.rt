@@ -13,7 +13,7 @@ use wgsl_rules::{AddressSpace, StructType, Type};
 #[derive(Clone, Copy)]
 pub(crate) struct Asked<'a> {
     pub(crate) items: &'a [Item],
-    names: &'a [String],
+    names: &'a [&'a str],
 }
 
 /// What has a layout.
@@ -24,7 +24,7 @@ pub(crate) enum Laid<'a> {
 }
 
 impl<'a> Asked<'a> {
-    pub(crate) fn new(items: &'a [Item], names: &'a [String]) -> Self {
+    pub(crate) fn new(items: &'a [Item], names: &'a [&'a str]) -> Self {
         Asked { items, names }
     }
 
@@ -43,18 +43,18 @@ impl<'a> Asked<'a> {
     }
 
     fn is_named(&self, name: &str) -> bool {
-        self.names.iter().any(|asked| asked.as_str() == name)
+        self.names.iter().any(|asked| *asked == name)
     }
 
     /// The names that are asked for, and those of the structures inside what they name; none where
     /// none are asked for.
-    pub(crate) fn names_with_inner(&self, alloc: Global) -> Result<Vec<String>, AllocError> {
+    pub(crate) fn names_with_inner(&self, alloc: Global) -> Result<Vec<&'a str>, AllocError> {
         let mut names = Vec::new(alloc);
         if !self.is_by_name() {
             return Ok(names);
         }
         for name in self.names {
-            push_name(alloc, &mut names, name.as_str())?;
+            push_name(&mut names, name)?;
         }
         for item in self.items {
             if let Some(laid) = self.laid(item) {
@@ -66,7 +66,11 @@ impl<'a> Asked<'a> {
 }
 
 // The names of the structures inside.
-fn push_inner(alloc: Global, names: &mut Vec<String>, laid: Laid<'_>) -> Result<(), AllocError> {
+fn push_inner<'a>(
+    alloc: Global,
+    names: &mut Vec<&'a str>,
+    laid: Laid<'a>,
+) -> Result<(), AllocError> {
     let outermost = match laid {
         Laid::Struct(ty) => Some(ty),
         Laid::Variable(_, variable) => innermost(&variable.ty),
@@ -74,11 +78,11 @@ fn push_inner(alloc: Global, names: &mut Vec<String>, laid: Laid<'_>) -> Result<
     let Some(outermost) = outermost else {
         return Ok(());
     };
-    push_name(alloc, names, outermost.name.as_str())?;
+    push_name(names, outermost.name.as_str())?;
     let rows = rows_of(alloc, outermost)?;
     for row in &rows {
         if let Some(inner) = inner_structure(*row) {
-            push_name(alloc, names, inner.name.as_str())?;
+            push_name(names, inner.name.as_str())?;
         }
     }
     Ok(())
@@ -91,9 +95,9 @@ fn inner_structure(row: Row<'_>) -> Option<&StructType> {
     }
 }
 
-fn push_name(alloc: Global, names: &mut Vec<String>, name: &str) -> Result<(), AllocError> {
-    if !names.iter().any(|other| other.as_str() == name) {
-        names.push(String::from_str(alloc, name)?)?;
+fn push_name<'a>(names: &mut Vec<&'a str>, name: &'a str) -> Result<(), AllocError> {
+    if !names.iter().any(|other| *other == name) {
+        names.push(name)?;
     }
     Ok(())
 }

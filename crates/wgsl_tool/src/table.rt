@@ -115,7 +115,8 @@ fn add_size(
     }
 }
 
-fn add_runtime_size(text: &mut String, part: RuntimePart) -> Result<(), AllocError>
+/// The size of what ends in a runtime-sized array, by the count of its elements.
+pub(crate) fn add_runtime_size(text: &mut String, part: RuntimePart) -> Result<(), AllocError>
     ensures { OnOk result (string_bytes text.new ≡ string_bytes text.old ++ runtime_text part) }
 {
     let RuntimePart { start, stride } = part;
@@ -126,8 +127,8 @@ fn add_runtime_size(text: &mut String, part: RuntimePart) -> Result<(), AllocErr
     }
 }
 
-// A structure is filled up to its alignment, whatever the count of elements.
-fn add_filled(
+/// A structure is filled up to its alignment, whatever the count of elements.
+pub(crate) fn add_filled(
     text: &mut String,
     runtime: Option<RuntimePart>,
     align: Option<u32>,

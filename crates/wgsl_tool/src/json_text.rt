@@ -1,0 +1,28 @@
+//! Strings in JSON (RFC 8259: strings).
+
+use std::alloc::AllocError;
+
+/// The text in quotation marks.
+pub(crate) fn add_string(out: &mut String, text: &str) -> Result<(), AllocError> {
+    out.push('"')?;
+    for character in text.chars() {
+        add_character(out, character)?;
+    }
+    out.push('"')
+}
+
+// A quotation mark, a backslash and what is below the space are escaped.
+fn add_character(out: &mut String, character: char) -> Result<(), AllocError> {
+    match character {
+        '"' => out.push_str("\\\""),
+        '\\' => out.push_str("\\\\"),
+        '\n' => out.push_str("\\n"),
+        '\r' => out.push_str("\\r"),
+        '\t' => out.push_str("\\t"),
+        other if u32::from(other) < 0x20 => {
+            let code = u32::from(other);
+            write!(out, "\\u{code:04x}")
+        }
+        other => out.push(other),
+    }
+}
