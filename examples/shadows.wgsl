@@ -32,7 +32,7 @@ struct Vertex {
 @group(1) @binding(1) var compare: sampler_comparison;
 
 @vertex
-fn cast(vertex: Vertex, @builtin(instance_index) instance: u32) -> @builtin(position) vec4<f32> {
+fn cast_shadow(vertex: Vertex, @builtin(instance_index) instance: u32) -> @builtin(position) vec4<f32> {
     let world = models[instance] * vec4<f32>(vertex.position, 1.0);
     return shadows.cascades[0].world_to_light * vec4<f32>(world, 1.0);
 }

@@ -117,6 +117,9 @@ fn code_of(reason: Reason) -> &'static str {
         Reason::ContainsItself => "needs-itself",
         Reason::Mixed => "mixed-operators",
         Reason::Double => "double-operator",
+        Reason::Keyword => "keyword",
+        Reason::Reserved => "reserved-word",
+        Reason::NoIdentifier => "no-identifier",
     }
 }
 
