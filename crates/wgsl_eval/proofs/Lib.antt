@@ -7,6 +7,7 @@ pub mod Items
 pub mod Kept
 pub mod MadeTypes
 pub mod MadeValues
+pub mod MessageLemmas
 pub mod PartLemmas
 pub mod Puts
 pub mod Refusing
@@ -19,5 +20,5 @@ pub mod Swizzles
 pub mod TakenValues
 pub mod Told
 pub mod WaitingSteps
-pub mod Wholes
 pub mod Walks
+pub mod Wholes

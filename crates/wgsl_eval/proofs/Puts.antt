@@ -8,8 +8,11 @@ use Rattle.std.proofs.lemmas.Option.{slice_get-get_or, slice_get_cases, slice_ge
 use Rattle.wgsl_eval.specs.Answers.{meaning_at}
 use Rattle.wgsl_eval.specs.Evaluation.{name_at}
 use Rattle.wgsl_eval.specs.Evaluators.{Setting}
-use Rattle.wgsl_eval.specs.Meanings.{IsDeclared, IsFoundAt, IsPlaced, IsSecond, told, with_faults, with_meaning}
-use Rattle.wgsl_eval.specs.Messages.{faults_with}
+use Rattle.wgsl_eval.specs.Meanings.{IsDeclared, IsFoundAt, IsPlaced, IsSecond, told, with_fault, with_faults, with_meaning}
+use Rattle.wgsl_eval.specs.Assertions.{IsTold}
+use Rattle.wgsl_eval.specs.Messages.{IsFaultMessage, faults_with}
+use Rattle.wgsl_eval.specs.declared.answer.Guard.{Guard}
+use Rattle.wgsl_eval.specs.declared.message.Message.{Message}
 use Rattle.wgsl_eval.specs.declared.answer.Answer.{Answer}
 use Rattle.wgsl_eval.specs.declared.answer.Answer.TheVariants as answers
 
@@ -87,3 +90,19 @@ found_first (Ok x) s t u n len m e counted others there faults declared not =
       first = λ _. (m, declared, λ h. there (subst R counted (subst Q (sym e) h)), faults ∙ ap (λ (x : Setting). faults_with x.faults m) e);
     }
 found_first (Err x) s t u n len m e counted others there faults declared not = tt
+
+-- what is told of an answer
+pub told_wrong : (s t : Setting) (m : Message) (guard : Guard) → t ≡ with_fault s m → t ≡ with_faults s (answers.Wrong m guard)
+told_wrong s t m guard e = e
+
+told_not : (s : Setting) (a : Answer) → ((m : Message) (guard : Guard) → a ≡ answers.Wrong m guard → ⊥) → s ≡ with_faults s a
+told_not s (answers.Wrong m guard) n = absurd (n m guard refl)
+told_not s a n = refl
+
+-- nothing is told of an answer that is no fault
+pub told_nothing : (s : Setting) (a : Answer) → ((m : Message) (guard : Guard) → a ≡ answers.Wrong m guard → ⊥) → s ≡ with_faults s a
+told_nothing s a n = told_not s a n
+
+-- a message that is a fault
+pub told_fault : (s t : Setting) (m : Message) → IsFaultMessage m → t ≡ with_fault s m → IsTold s t
+told_fault s t m h e = record { message = m; fault = h; told = e }

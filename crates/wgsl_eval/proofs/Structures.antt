@@ -17,7 +17,7 @@ use Rattle.wgsl_eval.specs.Runs.{IsFound}
 use Rattle.wgsl_eval.specs.Structures.{IsFoundMember, IsMember, IsMemberAt, IsNoMember, IsNone, IsNotGiven, IsNotTyped, IsStructure, IsStructureOf, IsWithout}
 use Rattle.wgsl_eval.specs.declared.answer.Answer.{Answer}
 use Rattle.wgsl_eval.specs.declared.answer.Answer.TheVariants as answers
-use Rattle.wgsl_eval.specs.declared.answer.SizedType.{SizedType}
+use Rattle.wgsl_eval.specs.declared.sized.SizedType.{SizedType}
 use Rattle.wgsl_eval.specs.declared.answer.Value.{Value}
 use Rattle.wgsl_eval.specs.declared.variable.Variable.{Variable}
 

@@ -4,8 +4,8 @@ use Rattle.wgsl_rules.specs.Values.{Val, truth}
 use Rattle.wgsl_values.specs.View.{value_of}
 use Rattle.wgsl_source.specs.declared.expression.Span.{Span}
 use Rattle.wgsl_eval.specs.Evaluators.{Setting}
-use Rattle.wgsl_eval.specs.Meanings.{with_faults}
-use Rattle.wgsl_eval.specs.Messages.{IsFaultMessage, added}
+use Rattle.wgsl_eval.specs.Meanings.{with_fault}
+use Rattle.wgsl_eval.specs.Messages.{IsFaultMessage}
 use Rattle.wgsl_eval.specs.Runs.{IsFound}
 use Rattle.wgsl_eval.specs.declared.answer.Answer.{Answer}
 use Rattle.wgsl_eval.specs.declared.answer.Answer.TheVariants as answers
@@ -17,7 +17,7 @@ use Rattle.wgsl_eval.specs.declared.message.Message.{Message}
 pub record IsTold (s : Setting) (next : Setting) : Type 0 where
   pub message : Message
   pub fault : IsFaultMessage message
-  pub told : next ≡ record s { faults = added s.faults message }
+  pub told : next ≡ with_fault s message
 
 abbrev pub is_truth : Val → Bool
 is_truth (truth b) = b
@@ -33,7 +33,7 @@ IsHeld s v assertion next =
 abbrev pub IsAssertion : Setting → Answer → Assertion → Setting → Type 0
 IsAssertion s (answers.Value v) assertion next = IsHeld s (value_of v.instance) assertion next
 IsAssertion s (answers.Skipped k) assertion next = (assertion ≡ asserts.Skipped k) × (next ≡ s)
-IsAssertion s (answers.Wrong m guard) assertion next = (assertion ≡ asserts.Faulty) × (next ≡ with_faults s (answers.Wrong m guard))
+IsAssertion s (answers.Wrong m guard) assertion next = (assertion ≡ asserts.Faulty) × (next ≡ with_fault s m)
 IsAssertion s answers.Faulty assertion next = (assertion ≡ asserts.Faulty) × (next ≡ s)
 IsAssertion s a assertion next = (assertion ≡ asserts.Faulty) × IsTold s next
 

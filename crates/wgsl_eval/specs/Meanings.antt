@@ -15,13 +15,14 @@ use Rattle.wgsl_eval.specs.Answers.{IsFault, IsNoType, IsSkippedFor, IsUnready, 
 use Rattle.wgsl_eval.specs.Evaluation.{name_at}
 use Rattle.wgsl_eval.specs.Evaluators.{Setting}
 use Rattle.wgsl_eval.specs.Given.{IsConverted}
-use Rattle.wgsl_eval.specs.Messages.{IsFaultMessage, faults_with}
+use Rattle.wgsl_eval.specs.Messages.{IsFaultMessage, added, faults_with}
 use Rattle.wgsl_eval.specs.Runs.{IsFound}
 use Rattle.wgsl_eval.specs.Structures.{IsStructure, IsVariable}
 use Rattle.wgsl_eval.specs.declared.answer.Answer.{Answer}
 use Rattle.wgsl_eval.specs.declared.answer.Answer.TheVariants as answers
 use Rattle.wgsl_eval.specs.declared.answer.Need.TheVariants as needs
-use Rattle.wgsl_eval.specs.declared.answer.SizedType.{SizedType}
+use Rattle.wgsl_eval.specs.declared.message.Message.{Message}
+use Rattle.wgsl_eval.specs.declared.sized.SizedType.{SizedType}
 
 -- ---- what a declaration is found to be
 
@@ -100,6 +101,10 @@ pub record IsPlaced (before : Setting) (number : ℕ) (after : Setting) : Type 0
 -- with this meaning in the place of the declaration
 abbrev pub with_meaning : Setting → ℕ → Answer → Setting
 with_meaning s number m = record s { meanings = slice_set s.meanings number m }
+
+-- with one fault more
+abbrev pub with_fault : Setting → Message → Setting
+with_fault s m = record s { faults = added s.faults m }
 
 -- with the fault that an answer is, where it is one
 abbrev pub with_faults : Setting → Answer → Setting

@@ -1,6 +1,5 @@
 -- What is told of a source.
-use Rattle.std.specs.Prelude.{◌≡◌, List, [], ◌∷◌, ◌++◌, All, IsPermutation, length, if◌then◌else◌}
-use Rattle.std.specs.Nat.{nat_lt}
+use Rattle.std.specs.Prelude.{◌≡◌, List, [], ◌∷◌, ◌++◌, All, IsPermutation, length, nat_lt, if◌then◌else◌}
 use Rattle.wgsl_eval.specs.declared.answer.Answer.{Answer}
 use Rattle.wgsl_eval.specs.declared.answer.Answer.TheVariants as answers
 use Rattle.wgsl_eval.specs.declared.message.Message.{Message}

@@ -1,23 +1,17 @@
 //! What steps leave: values, types, and why there are none.
 
 ghost use Rattle.std.specs.Prelude.{◌≡◌, ◌+◌, ◌*◌, ◌-◌, ◌/◌, ◌<◌, ◌↔◌, ◌⊎◌, max, IfOk, IsTrue};
-ghost use Rattle.wgsl_rules.specs.View.{type_view};
-ghost use Rattle.wgsl_source.specs.Names.{scalar_type};
 ghost use Rattle.wgsl_values.specs.View.{value_of};
 ghost use Rattle.wgsl_eval.specs.Answers.{at_most_largest};
-ghost use Rattle.wgsl_eval.specs.Reasons.{has_floats};
 ghost use Rattle.wgsl_eval.specs.Waitings.{work_of};
 
 use crate::message::Message;
-use crate::types::is_float;
+use crate::sized::SizedType;
 use crate::variable::Variable;
 use std::alloc::{AllocError, Global};
 use std::fmt;
-use wgsl_source::{Extent, Scalar};
-use wgsl_types::{Instance, Type};
-
-/// The most types in a type, those of members included.
-const NODES: usize = 4096;
+use wgsl_source::Extent;
+use wgsl_types::Instance;
 
 /// How many parts of values a type in a type is as much work as.
 const NODE: usize = 4;
@@ -41,19 +35,6 @@ pub(crate) struct Size {
 pub(crate) struct Value {
     pub(crate) instance: Instance,
     pub(crate) size: Size,
-}
-
-/// A type, how many types are in it, and how large a value of it is.
-#[derive(Drop)]
-pub(crate) struct SizedType {
-    pub(crate) ty: Type,
-    pub(crate) nodes: usize,
-    pub(crate) size: Size,
-    /// Whether floats are in a value of it.
-    pub(crate) has_float: bool,
-    /// Whether each align attribute in it is a multiple of the alignment of its member's type.
-    pub(crate) is_aligned: bool,
-    ghost floats: { has_float ≡ has_floats (type_view ty) },
 }
 
 /// What a step leaves.
@@ -208,40 +189,6 @@ impl Value {
             instance: self.instance.clone(alloc)?,
             size: self.size,
         })
-    }
-}
-
-impl SizedType {
-    pub(crate) fn scalar(scalar: Scalar) -> SizedType
-        ensures { type_view result.ty ≡ scalar_type scalar }
-    {
-        let has_float = is_float(scalar);
-        SizedType {
-            ty: scalar.ty(),
-            nodes: 1,
-            size: Size::ONE,
-            has_float,
-            is_aligned: true,
-        }
-    }
-
-    pub(crate) fn copy(&self, alloc: Global) -> Result<SizedType, AllocError>
-        ensures ty { IfOk result (λ t. type_view t.ty ≡ type_view self.now.ty) }
-        ensures size { IfOk result (λ t. t.size ≡ self.now.size) }
-    {
-        Ok(SizedType {
-            ty: self.ty.clone(alloc)?,
-            nodes: self.nodes,
-            size: self.size,
-            has_float: self.has_float,
-            is_aligned: self.is_aligned,
-        })
-    }
-
-    pub(crate) fn is_too_large(&self) -> bool
-        ensures { IsTrue result ↔ NODES < self.now.nodes }
-    {
-        self.nodes > NODES
     }
 }
 

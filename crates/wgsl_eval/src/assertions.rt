@@ -8,6 +8,7 @@ ghost use Rattle.wgsl_eval.specs.Evaluators.{setting_of};
 
 use crate::answer::{Answer, Skip};
 use crate::evaluator::Evaluator;
+use crate::message::Message;
 use std::alloc::AllocError;
 use wgsl_source::Span;
 use wgsl_types::{Instance, LiteralInstance};
@@ -54,8 +55,8 @@ impl Evaluator<'_> {
         match answer {
             Answer::Value(value) => self.held(token, &value.instance),
             Answer::Skipped(skip) => Ok(Assertion::Skipped(skip)),
-            Answer::Wrong(message, guard) => {
-                self.tell(Answer::Wrong(message, guard))?;
+            Answer::Wrong(message, _) => {
+                self.tell(message)?;
                 Ok(Assertion::Faulty)
             }
             Answer::Faulty => Ok(Assertion::Faulty),
@@ -81,8 +82,9 @@ impl Evaluator<'_> {
     fn refuted(&mut self, token: usize, text: &str) -> Result<Assertion, AllocError>
         ensures { IfOk result (λ found. (found ≡ Assertion.Faulty) × IsTold (setting_of self.old) (setting_of self.new)) }
     {
-        let fault = self.wrong_text(token, text)?;
-        self.tell(fault)?;
+        let text = String::from_str(self.alloc, text)?;
+        let extent = self.reading.extent(token);
+        self.tell(Message::fault(extent, text))?;
         Ok(Assertion::Faulty)
     }
 }

@@ -38,9 +38,10 @@ ghost use Rattle.wgsl_rules.specs.View.{type_view};
 ghost use Rattle.wgsl_source.specs.Readings.{word_at};
 ghost use Rattle.wgsl_values.specs.View.{value_of};
 
-use crate::answer::{Answer, Guard, Need, Part, Size, SizedType, Value};
+use crate::answer::{Answer, Guard, Need, Part, Size, Value};
 use crate::evaluator::Evaluator;
 use crate::opaque::is_opaque;
+use crate::sized::SizedType;
 use crate::types::generated;
 use std::alloc::AllocError;
 use std::slice;

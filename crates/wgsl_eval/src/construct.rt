@@ -37,10 +37,11 @@ ghost use Rattle.wgsl_scalar.specs.Literals.{literal_of as value_of_literal};
 ghost use Rattle.wgsl_source.specs.declared.names.Generator.TheVariants as generators;
 ghost use Rattle.wgsl_values.specs.View.{value_of};
 
-use crate::answer::{Answer, Guard, Need, Size, SizedType, Value};
+use crate::answer::{Answer, Guard, Need, Size, Value};
 use crate::call::{Arguments, INTEGRAL};
 use crate::evaluator::Evaluator;
 use crate::literals::{Conversion, Scalars, columns_of, components_of, flattened, vector_of};
+use crate::sized::SizedType;
 use std::alloc::AllocError;
 use wgsl_apply::{
     automatic, in_common, literal_of, make_array, make_matrix, make_structure, zero, zero_literal,

@@ -8,8 +8,9 @@ ghost use Rattle.wgsl_eval.specs.Meanings.{IsAlias, IsConcreteValue, IsConstant,
 ghost use Rattle.wgsl_eval.specs.Messages.{faults_with};
 ghost use Rattle.wgsl_eval.specs.Evaluators.{setting_of};
 
-use crate::answer::{Answer, Guard, Need, SizedType, Value};
+use crate::answer::{Answer, Guard, Need, Value};
 use crate::evaluator::Evaluator;
+use crate::sized::SizedType;
 use std::alloc::AllocError;
 use wgsl_apply::concrete;
 use wgsl_source::{Declared, Span};
@@ -81,8 +82,8 @@ impl Evaluator<'_> {
         ensures answer { IfOk result IsAnswer }
     {
         match meaning {
-            Answer::Wrong(message, guard) => {
-                self.tell(Answer::Wrong(message, guard))?;
+            Answer::Wrong(message, _) => {
+                self.tell(message)?;
                 Ok(Answer::Faulty)
             }
             other => Ok(other),

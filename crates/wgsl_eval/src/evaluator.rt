@@ -19,17 +19,18 @@ ghost use Rattle.wgsl_eval.specs.Evaluation.{has_value, value_names};
 ghost use Rattle.wgsl_eval.specs.Evaluators.{is_obeyed, setting_of};
 ghost use Rattle.wgsl_eval.specs.Given.{IsConverted, IsJudged, IsLanguageName, IsNamed, IsOfLiteral, IsOfNumber, IsOfOne, IsOfTwo, IsOfValue, IsOfValues, UnlessRefused, below, is_decided, top};
 ghost use Rattle.wgsl_eval.specs.Waitings.{AreWaiting, IsCharged, IsDone, IsWaiting, Stands, work_of};
-ghost use Rattle.wgsl_eval.specs.Meanings.{AreDeclared, with_faults};
+ghost use Rattle.wgsl_eval.specs.Meanings.{AreDeclared, with_fault};
 ghost use Rattle.wgsl_eval.specs.Messages.{AreTold};
 ghost use Rattle.wgsl_eval.specs.Reasons.{is_wide};
 ghost use Rattle.wgsl_eval.specs.Runs.{IsFound};
 ghost use Rattle.wgsl_eval.specs.TypeNames.{predeclared_type};
 
-use crate::answer::{Answer, Guard, Need, Part, Size, SizedType, Skip, Value};
+use crate::answer::{Answer, Guard, Need, Part, Size, Skip, Value};
 use crate::assertions::Assertion;
 use crate::message::{Message, Messages};
 use crate::opaque::is_opaque;
 use crate::settings::Settings;
+use crate::sized::SizedType;
 use crate::types::predeclared;
 use crate::waiting::popped_waiting;
 use std::alloc::{AllocError, Global};
@@ -689,14 +690,11 @@ impl Evaluator<'_> {
     }
 
     /// Tells what is wrong.
-    pub(crate) fn tell(&mut self, answer: Answer) -> Result<(), AllocError>
-        ensures told { OnOk result (setting_of self.new ≡ with_faults (setting_of self.old) answer) }
+    pub(crate) fn tell(&mut self, message: Message) -> Result<(), AllocError>
+        ensures told { OnOk result (setting_of self.new ≡ with_fault (setting_of self.old) message) }
         ensures kept { OnErr result (setting_of self.new ≡ setting_of self.old) }
     {
-        match answer {
-            Answer::Wrong(message, _) => self.messages.add_fault(message),
-            _ => Ok(()),
-        }
+        self.messages.add_fault(message)
     }
 }
 

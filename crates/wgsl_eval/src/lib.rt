@@ -15,6 +15,7 @@ mod message;
 mod opaque;
 mod part;
 mod settings;
+mod sized;
 mod steps;
 mod structure;
 mod types;

@@ -103,13 +103,10 @@ impl Messages {
     {
         let Messages {
             faults: mut messages,
-            warnings,
+            mut warnings,
         } = self;
-        for warning in warnings {
-            if messages.len() < MESSAGES {
-                messages.push(warning)?;
-            }
-        }
+        warnings.truncate(MESSAGES.saturating_sub(messages.len()));
+        messages.append(&mut warnings)?;
         messages.sort_by_key(|message| message.start)?;
         Ok(messages)
     }

@@ -8,9 +8,10 @@ ghost use Rattle.wgsl_eval.specs.Evaluators.{setting_of};
 ghost use Rattle.wgsl_eval.specs.Reasons.{have_floats};
 ghost use Rattle.wgsl_eval.specs.Structures.{IsFoundMember, IsStructure, IsStructureOf, IsTypeFound};
 
-use crate::answer::{Answer, SizedType};
+use crate::answer::Answer;
 use crate::attribute::{Attribute, Use};
 use crate::evaluator::Evaluator;
+use crate::sized::SizedType;
 use crate::types::{Together, structure};
 use std::alloc::AllocError;
 use std::collections::BTreeMap;

@@ -7,7 +7,8 @@ ghost use Rattle.wgsl_source.specs.Names.{scalar_type};
 ghost use Rattle.wgsl_eval.specs.Reasons.{has_floats};
 ghost use Rattle.wgsl_eval.specs.TypeNames.{generated_type, predeclared_type};
 
-use crate::answer::{Size, SizedType};
+use crate::answer::Size;
+use crate::sized::SizedType;
 use std::alloc::{AllocError, Global};
 use wgsl_source::{Generator, Predeclared, Scalar};
 use wgsl_types::{StructType, Type};

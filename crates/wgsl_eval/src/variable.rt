@@ -6,9 +6,10 @@ ghost use Rattle.wgsl_eval.specs.Answers.{AreAnswers, IsAnswer};
 ghost use Rattle.wgsl_eval.specs.Evaluators.{setting_of};
 ghost use Rattle.wgsl_eval.specs.Structures.{IsTypeFound, IsVariable};
 
-use crate::answer::{Answer, Need, SizedType};
+use crate::answer::{Answer, Need};
 use crate::attribute::{Attribute, Use};
 use crate::evaluator::Evaluator;
+use crate::sized::SizedType;
 use std::alloc::AllocError;
 use wgsl_source::{DeclaredVariable, Span};
 use wgsl_types::{AccessMode, AddressSpace, Type};

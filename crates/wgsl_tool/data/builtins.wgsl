@@ -62,8 +62,13 @@ const r60 = extractBits(112i, 4u, 4u); // i32 = 7i
 const r61 = extractBits(240u, 0u, 32u); // u32 = 240u
 const r62 = extractBits(240u, 4u, 0u); // u32 = 0u
 const r63 = extractBits(vec2(240u, 31u), 4u, 4u); // vec2<u32> = vec2(15u, 1u)
+<<<<<<< HEAD
 const r64 = extractBits(240, 4, 4); // error: an i32 or a u32 is expected
 const r65 = extractBits(240u, -1, 4); // error: an argument does not convert
+=======
+const r64 = extractBits(240, 4, 4); // i32 = -1i
+const r65 = extractBits(240u, -1, 4); // error: -1 is no u32
+>>>>>>> 00155e874a529ca702e61995ad9bab95edc0ac1c
 const r66 = extractBits(240u, 1i, 4u); // error: an argument does not convert
 const r67 = insertBits(0u, 5u, 3, 2); // u32 = 8u
 const r68 = insertBits(0i, -1, 31, 1); // i32 = -2147483648i
