@@ -1,6 +1,7 @@
 -- Blank text, and what a text is made of (WGSL: blankspace and line breaks; comments; tokens).
-use Rattle.std.specs.Prelude.{◌≡◌, ℕ, nat_eq, ◌<◌, ◌≤◌, Bool, true, false, not, ◌||◌, ⊤, Option, Some, None, ◌⊎◌, List, [], ◌∷◌, ◌++◌, Contains, codes, drop, encode_utf8, length}
+use Rattle.std.specs.Prelude.{◌≡◌, ℕ, nat_eq, ◌<◌, ◌≤◌, Bool, true, false, not, ◌||◌, ⊤, Option, Some, None, IfSome, ◌⊎◌, List, [], ◌∷◌, ◌++◌, Contains, codes, drop, encode_utf8, length}
 use Rattle.std.specs.List.{list_any, starts_with}
+use Rattle.wgsl_source.specs.Faults.{IsTold}
 use Rattle.wgsl_source.specs.declared.fault.Fault.{Fault}
 use Rattle.wgsl_source.specs.declared.fault.Reason.TheVariants.{OpenComment}
 use Rattle.wgsl_source.specs.declared.lexer.Piece.{Piece}
@@ -81,3 +82,7 @@ IsCutOr text tokens None = IsCut text tokens (length text)
 IsCutOr text tokens (Some fault) =
     IsCut text tokens fault.start × (fault.end ≡ length text) × (fault.reason ≡ OpenComment)
     × (starts_with nat_eq (drop fault.start text) (codes "/*") ≡ true)
+
+-- these tokens and what is blank are the whole text, or all of it before a comment without an end, which is told
+abbrev pub IsCovered : List ℕ → List Extent → List Fault → Type 0
+IsCovered text tokens faults = (open_comment : Option Fault) × IsCutOr text tokens open_comment × IfSome open_comment (IsTold faults)
