@@ -70,9 +70,10 @@ Begins text at piece = BeginsAs text at piece.end piece.kind
 
 -- ---- a text up to a place
 
--- it is made of these tokens, in order, and of what is blank
+-- it is made of these tokens, in order, and of what is blank; a mark of byte order may begin it
 pub data IsCut : List ℕ → List Extent → ℕ → Type 0 where
   nothing : {text : List ℕ} → IsCut text [] 0
+  mark : {text : List ℕ} → starts_with nat_eq text (encode_utf8 0xfeff) ≡ true → IsCut text [] 3
   blank : {text : List ℕ} {tokens : List Extent} {at end : ℕ} → IsCut text tokens at → at < end → end ≤ length text → IsBlank (drop at text) (drop end text) → IsCut text tokens end
   token : {text : List ℕ} {tokens : List Extent} {at end : ℕ} → IsCut text tokens at → at < end → end ≤ length text → IsCut text (tokens ++ record { start = at; end = end } ∷ []) end
 

@@ -1,8 +1,8 @@
 //! Cuts a source into tokens (WGSL: tokens; comments; blankspace and line breaks).
 
-ghost use Rattle.std.specs.Prelude.{◌≡◌, ◌+◌, ◌≤◌, ◌<◌, true, nat_eq, codes, drop, length, map, IfOk, IfSome};
+ghost use Rattle.std.specs.Prelude.{◌≡◌, ◌+◌, ◌≤◌, ◌<◌, [], true, nat_eq, codes, drop, length, map, IfOk, IfSome};
 ghost use Rattle.std.specs.List.{list_any, starts_with};
-ghost use Rattle.wgsl_source.specs.Blanks.{Begins, Comment, IsCharacter, IsCutOr, Line, begins_line_break};
+ghost use Rattle.wgsl_source.specs.Blanks.{Begins, Comment, IsCharacter, IsCut, IsCutOr, Line, begins_line_break};
 ghost use Rattle.wgsl_source.specs.Readings.{extent_in};
 
 use crate::bytes::{Class, class_of, may_begin_line_break, may_break};
@@ -17,6 +17,8 @@ pub(crate) struct Lexed {
     pub(crate) tokens: Vec<Token>,
     pub(crate) fault: Option<Fault>,
 }
+
+const BYTE_ORDER_MARK: [u8; 3] = [0xef, 0xbb, 0xbf];
 
 const NEXT_LINE: [u8; 2] = [0xc2, 0x85];
 
@@ -59,7 +61,7 @@ pub(crate) fn tokens_of(alloc: Global, text: &str) -> Result<Lexed, AllocError>
 {
     let bytes = text.as_bytes();
     let mut tokens = Vec::new(alloc);
-    let mut start = 0;
+    let mut start = byte_order_mark_len(bytes);
     while start < bytes.len() {
         let class = class_of(bytes[start]);
         if class.is_blank() {
@@ -83,6 +85,18 @@ pub(crate) fn tokens_of(alloc: Global, text: &str) -> Result<Lexed, AllocError>
     }
     let fault = None;
     Ok(Lexed { tokens, fault })
+}
+
+// The bytes of the mark of byte order that the text begins with, if it does.
+fn byte_order_mark_len(bytes: &[u8]) -> usize
+    ensures within { result ≤ length bytes.now }
+    ensures cut { IsCut bytes.now [] result }
+{
+    if bytes.starts_with(&BYTE_ORDER_MARK) {
+        BYTE_ORDER_MARK.len()
+    } else {
+        0
+    }
 }
 
 // What begins with this byte, which is of this class.

@@ -1,7 +1,7 @@
 use Rattle.std.proofs.Common.{List, ℕ, [], ◌∷◌, ◌++◌, map, subst, ap, sym, ◌∙◌, arith}
 use Rattle.std.proofs.lemmas.List.{map-append}
 use Rattle.wgsl_source.specs.Blanks.{IsCut}
-use Rattle.wgsl_source.specs.Blanks.IsCut.{nothing, blank, token}
+use Rattle.wgsl_source.specs.Blanks.IsCut.{blank, token}
 use Rattle.wgsl_source.specs.Readings.{extent_in}
 use Rattle.wgsl_source.specs.declared.module.Extent.{Extent}
 use Rattle.wgsl_source.specs.declared.token.Token.{Token}
@@ -10,8 +10,8 @@ use Rattle.wgsl_source.proofs.lexer.tokens_of.Goals as goal
 
 pub loop-start-init : goal.loop-start-init
 loop-start-init c =
-    let P : List Token → Type 0 = λ ts. IsCut c.as_bytes-bytes.result.now (map extent_in ts) 0 in
-    record { within = omega arith; cut = subst P (sym c.new-tokens.ensures.items) nothing }
+    let P : List Token → Type 0 = λ ts. IsCut c.as_bytes-bytes.result.now (map extent_in ts) c.byte_order_mark_len-start.result in
+    record { within = c.byte_order_mark_len-start.ensures.within; cut = subst P (sym c.new-tokens.ensures.items) c.byte_order_mark_len-start.ensures.cut }
 
 pub loop-start-preserved-then-is_blank : goal.loop-start-preserved-then-is_blank
 loop-start-preserved-then-is_blank c = record {
