@@ -1,17 +1,19 @@
 -- Blank text.
 use lib.Utf8.{encode}
 use Rattle.std.proofs.Common.{◌≡◌, ℕ, ◌+◌, ◌<◌, ◌≤◌, nat_eq, Bool, true, false, not, List, [], ◌∷◌, ◌++◌, Contains, length, take, drop, zero, suc, refl, subst, sym, ◌∙◌, ap, encode_utf8, inl, inr, get_or, append_assoc, ◌-◌, ◌||◌, length-drop, drop-cons, add-one, ◌⊎◌, arith}
+use Rattle.std.proofs.lemmas.Bool.{cases_lt}
 use Rattle.std.proofs.lemmas.Bool.Decides.{Decides-eqb}
 use Rattle.std.proofs.lemmas.Grind.{common_steps}
 use Rattle.std.proofs.lemmas.List.{take-append-drop, drop-drop}
 use Rattle.std.proofs.lemmas.Slice.Eq.{starts_is}
+use Rattle.std.specs.Char.{is_ascii_alphanumeric}
 use Rattle.std.specs.List.{list_any, starts_with}
-use Rattle.wgsl_source.specs.Blanks.{blanks, IsBlank, IsCharacter, IsLineComment, IsBlockComment, Line, Comment, begins_line_break, has_no_mark}
+use Rattle.wgsl_source.specs.Blanks.{blanks, IsBlank, IsCharacter, IsLineComment, IsBlockComment, Line, Comment, begins_line_break, begins_with_one, HasNoBlank, has_no_mark}
 use Rattle.wgsl_source.specs.Blanks.Line.{ends, breaks, goes_on}
 use Rattle.wgsl_source.specs.Blanks.Comment.{closes, inner, passes}
-use Rattle.wgsl_source.specs.Bytes.{class_of, may_begin_line_break}
+use Rattle.wgsl_source.specs.Bytes.{class_of, may_begin_line_break, may_begin_blank, wide_blanks}
 use Rattle.wgsl_source.specs.declared.bytes.Class.{Class}
-use Rattle.wgsl_source.specs.declared.bytes.Class.TheVariants.{Lead, Blank, Break}
+use Rattle.wgsl_source.specs.declared.bytes.Class.TheVariants.{Letter, Digit, Lead, Symbol, Blank, Break}
 
 -- a character that begins a text
 pub begun : (text needle : List ℕ) (r : Bool) → r ≡ starts_with nat_eq text needle → r ≡ true → text ≡ needle ++ drop (length needle) text
@@ -170,3 +172,93 @@ blank_byte bytes start class within is blank =
         ]
       ]
     ])
+
+-- ---- what is not blank
+
+pub no_blank_begins : (byte : ℕ) (rest : List ℕ) → may_begin_blank byte ≡ false → begins_with_one blanks (byte ∷ rest) ≡ false
+unfolding encode
+no_blank_begins byte rest none = grind (arith, common_steps)
+
+pub plain_class : (byte : ℕ) (class : Class) → class ≡ class_of byte → (class ≡ Letter) ⊎ ((class ≡ Digit) ⊎ (class ≡ Symbol)) → may_begin_blank byte ≡ false
+unfolding encode
+plain_class byte class is (inl e) = grind (arith, common_steps)
+plain_class byte class is (inr (inl e)) = grind (arith, common_steps)
+plain_class byte class is (inr (inr e)) = grind (arith, common_steps)
+
+pub lead_class : (byte : ℕ) (rest : List ℕ) (class : Class) → class ≡ class_of byte → class ≡ Lead → begins_with_one wide_blanks (byte ∷ rest) ≡ false → begins_with_one blanks (byte ∷ rest) ≡ false
+unfolding encode
+lead_class byte rest class is lead none = grind (arith, common_steps)
+
+pub none_of_five : (a b c d e : Bool) → a ≡ false → b ≡ false → c ≡ false → d ≡ false → e ≡ false → (a || (b || (c || (d || (e || false))))) ≡ false
+none_of_five a b c d e p q r s t = grind (arith, common_steps)
+
+pub sign_or_point : (byte c : ℕ) → byte ≡ c → may_begin_blank c ≡ false → may_begin_blank byte ≡ false
+sign_or_point byte c same none = ap may_begin_blank same ∙ none
+
+pub letter_or_digit : (byte : ℕ) (b : Bool) → b ≡ is_ascii_alphanumeric byte → b ≡ true → may_begin_blank byte ≡ false
+unfolding encode
+letter_or_digit byte b is found = grind (arith, common_steps)
+
+-- ---- at a place of a text
+
+pub plain_at : (bytes : List ℕ) (at : ℕ) (class : Class) → at < length bytes → class ≡ class_of (get_or bytes at 0) → (class ≡ Letter) ⊎ ((class ≡ Digit) ⊎ (class ≡ Symbol)) → begins_with_one blanks (drop at bytes) ≡ false
+plain_at bytes at class within is plain =
+    let P : List ℕ → Type 0 = λ text. begins_with_one blanks text ≡ false in
+    subst P (sym (drop-cons bytes at 0 within)) (no_blank_begins (get_or bytes at 0) (drop (suc at) bytes) (plain_class (get_or bytes at 0) class is plain))
+
+pub lead_at : (bytes : List ℕ) (at : ℕ) (class : Class) → at < length bytes → class ≡ class_of (get_or bytes at 0) → class ≡ Lead → begins_with_one wide_blanks (drop at bytes) ≡ false → begins_with_one blanks (drop at bytes) ≡ false
+lead_at bytes at class within is lead none =
+    let P : List ℕ → Type 0 = λ text. begins_with_one blanks text ≡ false in
+    let Q : List ℕ → Type 0 = λ text. begins_with_one wide_blanks text ≡ false in
+    let first = drop-cons bytes at 0 within in
+    subst P (sym first) (lead_class (get_or bytes at 0) (drop (suc at) bytes) class is lead (subst Q first none))
+
+pub no_blank_none : (text : List ℕ) (at : ℕ) → HasNoBlank text at at
+no_blank_none text at = λ place low high. absurd (omega arith)
+
+pub no_blank_more : (text : List ℕ) (at end : ℕ) → HasNoBlank text at end → begins_with_one blanks (drop end text) ≡ false → HasNoBlank text at (end + 1)
+no_blank_more text at end before here = λ place low high.
+    elim (cases_lt place end) [
+      | inl less ↦ before place low less
+      | inr more ↦ let same : place ≡ end = omega arith in ap (λ p. begins_with_one blanks (drop p text)) same ∙ here
+    ]
+
+-- with the first place
+pub no_blank_from : (text : List ℕ) (at end : ℕ) → begins_with_one blanks (drop at text) ≡ false → HasNoBlank text (at + 1) end → HasNoBlank text at end
+no_blank_from text at end here behind = λ place low high.
+    elim (cases_lt at place) [
+      | inl more ↦ behind place (omega arith) high
+      | inr less ↦ let same : place ≡ at = omega arith in ap (λ p. begins_with_one blanks (drop p text)) same ∙ here
+    ]
+
+pub no_blank_below : (text : List ℕ) (at end less : ℕ) → less ≤ end → HasNoBlank text at end → HasNoBlank text at less
+no_blank_below text at end less below all = λ place low high. all place low (omega arith)
+
+-- of the rest of a text
+pub no_blank_behind : (text : List ℕ) (start end : ℕ) → start ≤ end → HasNoBlank (drop start text) 0 (end - start) → HasNoBlank text start end
+no_blank_behind text start end within all = λ place low high.
+    let there : drop (place - start) (drop start text) ≡ drop place text = drop-drop (place - start) start text ∙ ap (λ n. drop n text) (omega arith) in
+    let P : List ℕ → Type 0 = λ t. begins_with_one blanks t ≡ false in
+    subst P there (all (place - start) (omega arith) (omega arith))
+
+pub one_place : (text : List ℕ) (at : ℕ) → begins_with_one blanks (drop at text) ≡ false → HasNoBlank text at (at + 1)
+one_place text at here = no_blank_more text at at (no_blank_none text at) here
+
+pub not_blank_at : (bytes : List ℕ) (at : ℕ) → at < length bytes → may_begin_blank (get_or bytes at 0) ≡ false → begins_with_one blanks (drop at bytes) ≡ false
+not_blank_at bytes at within none =
+    let P : List ℕ → Type 0 = λ text. begins_with_one blanks text ≡ false in
+    subst P (sym (drop-cons bytes at 0 within)) (no_blank_begins (get_or bytes at 0) (drop (suc at) bytes) none)
+
+pub rest_at : (bytes : List ℕ) (at : ℕ) (class : Class) → at < length bytes → class ≡ class_of (get_or bytes at 0) → ¬ ((class ≡ Blank) ⊎ (class ≡ Break)) → begins_with_one wide_blanks (drop at bytes) ≡ false → begins_with_one blanks (drop at bytes) ≡ false
+rest_at bytes at Letter within is not_blank none = plain_at bytes at Letter within is (inl refl)
+rest_at bytes at Digit within is not_blank none = plain_at bytes at Digit within is (inr (inl refl))
+rest_at bytes at Lead within is not_blank none = lead_at bytes at Lead within is refl none
+rest_at bytes at Symbol within is not_blank none = plain_at bytes at Symbol within is (inr (inr refl))
+rest_at bytes at Blank within is not_blank none = absurd (not_blank (inl refl))
+rest_at bytes at Break within is not_blank none = absurd (not_blank (inr refl))
+
+pub blank_at : (bytes text : List ℕ) (start count : ℕ) → text ≡ drop start bytes → IsCharacter text (drop count text) → IsBlank (drop start bytes) (drop (start + count) bytes)
+blank_at bytes text start count same is =
+    let P : List ℕ → Type 0 = λ t. IsCharacter t (drop count t) in
+    let Q : List ℕ → Type 0 = λ behind. IsCharacter (drop start bytes) behind in
+    inl (subst Q (drop-drop count start bytes) (subst P same is))

@@ -57,10 +57,14 @@ IsBlockComment text behind = (rest : List ℕ) × (text ≡ codes "/*" ++ rest) 
 abbrev pub IsBlank : List ℕ → List ℕ → Type 0
 IsBlank text behind = IsCharacter text behind ⊎ (IsLineComment text behind ⊎ IsBlockComment text behind)
 
+-- no blank character begins between these places of the text
+abbrev pub HasNoBlank : List ℕ → ℕ → ℕ → Type 0
+HasNoBlank text at end = (place : ℕ) → at ≤ place → place < end → begins_with_one blanks (drop place text) ≡ false
+
 -- ---- what begins at a place of a text, and where it ends
 
 abbrev pub BeginsAs : List ℕ → ℕ → ℕ → PieceKind → Type 0
-BeginsAs text at end (pieces.Token kind) = ⊤
+BeginsAs text at end (pieces.Token kind) = HasNoBlank text at end
 BeginsAs text at end pieces.Blank = IsBlank (drop at text) (drop end text)
 BeginsAs text at end pieces.OpenComment =
     (end ≡ length text) × (starts_with nat_eq (drop at text) (codes "/*") ≡ true)
@@ -75,7 +79,7 @@ pub data IsCut : List ℕ → List Extent → ℕ → Type 0 where
   nothing : {text : List ℕ} → IsCut text [] 0
   mark : {text : List ℕ} → starts_with nat_eq text (encode_utf8 0xfeff) ≡ true → IsCut text [] 3
   blank : {text : List ℕ} {tokens : List Extent} {at end : ℕ} → IsCut text tokens at → at < end → end ≤ length text → IsBlank (drop at text) (drop end text) → IsCut text tokens end
-  token : {text : List ℕ} {tokens : List Extent} {at end : ℕ} → IsCut text tokens at → at < end → end ≤ length text → IsCut text (tokens ++ record { start = at; end = end } ∷ []) end
+  token : {text : List ℕ} {tokens : List Extent} {at end : ℕ} → IsCut text tokens at → at < end → end ≤ length text → HasNoBlank text at end → IsCut text (tokens ++ record { start = at; end = end } ∷ []) end
 
 -- these tokens and what is blank are the whole text, or all of it before this comment, which has no end
 abbrev pub IsCutOr : List ℕ → List Extent → Option Fault → Type 0

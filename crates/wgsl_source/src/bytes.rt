@@ -1,6 +1,6 @@
 //! What the bytes of a source may be of.
 
-ghost use Rattle.std.specs.Prelude.{◌≡◌, ◌⊎◌, false, All, IsTrue};
+ghost use Rattle.std.specs.Prelude.{◌≡◌, ◌↔◌, ◌⊎◌, false, All, IsTrue};
 ghost use Rattle.wgsl_source.specs.Bytes.{class_of, may_begin_line_break};
 
 /// What a byte begins or goes on with.
@@ -21,7 +21,7 @@ pub(crate) enum Class {
 
 impl Class {
     pub(crate) fn is_blank(self) -> bool
-        ensures { IsTrue result → (self ≡ Class.Blank) ⊎ (self ≡ Class.Break) }
+        ensures { IsTrue result ↔ ((self ≡ Class.Blank) ⊎ (self ≡ Class.Break)) }
     {
         matches!(self, Class::Blank | Class::Break)
     }

@@ -1,8 +1,9 @@
 //! Cuts a source into tokens (WGSL: tokens; comments; blankspace and line breaks).
 
-ghost use Rattle.std.specs.Prelude.{◌≡◌, ◌+◌, ◌≤◌, ◌<◌, [], true, nat_eq, codes, drop, length, map, IfOk, IfSome};
+ghost use Rattle.std.specs.Prelude.{◌≡◌, ◌⊎◌, ◌+◌, ◌-◌, ◌≤◌, ◌<◌, [], IsTrue, true, false, slice_index, nat_eq, codes, drop, length, map, IfOk, IfSome};
 ghost use Rattle.std.specs.List.{list_any, starts_with};
-ghost use Rattle.wgsl_source.specs.Blanks.{Begins, Comment, IsCharacter, IsCut, IsCutOr, Line, begins_line_break};
+ghost use Rattle.wgsl_source.specs.Blanks.{Begins, Comment, HasNoBlank, IsCharacter, IsCut, IsCutOr, Line, begins_line_break, begins_with_one, blanks};
+ghost use Rattle.wgsl_source.specs.Bytes.{class_of, may_begin_blank, wide_blanks};
 ghost use Rattle.wgsl_source.specs.Readings.{extent_in};
 
 use crate::bytes::{Class, class_of, may_begin_line_break, may_break};
@@ -101,7 +102,9 @@ fn byte_order_mark_len(bytes: &[u8]) -> usize
 
 // What begins with this byte, which is of this class.
 fn piece_at(class: Class, bytes: &[u8], start: usize) -> Piece
-    requires { start < length bytes.now }
+    requires within { start < length bytes.now }
+    requires class { class ≡ class_of (slice_index bytes.now start) }
+    requires no_blank { ¬ ((class ≡ Class.Blank) ⊎ (class ≡ Class.Break)) }
     ensures later { start < result.end }
     ensures within { result.end ≤ length bytes.now }
     ensures is { Begins bytes.now start result }
@@ -119,12 +122,14 @@ fn piece_at(class: Class, bytes: &[u8], start: usize) -> Piece
 // What begins with a byte that is neither an ASCII letter nor a symbol.
 #[inline(never)]
 fn rare_at(class: Class, bytes: &[u8], start: usize) -> Piece
-    requires { start < length bytes.now }
+    requires within { start < length bytes.now }
+    requires class { class ≡ class_of (slice_index bytes.now start) }
+    requires no_blank { ¬ ((class ≡ Class.Blank) ⊎ (class ≡ Class.Break)) }
     ensures later { start < result.end }
     ensures within { result.end ≤ length bytes.now }
     ensures is { Begins bytes.now start result }
 {
-    let blank = wide_blank_len(&bytes[start..]);
+    let blank = wide_blank_len(behind(bytes, start));
     if blank > 0 {
         return Piece {
             kind: PieceKind::Blank,
@@ -142,7 +147,8 @@ fn rare_at(class: Class, bytes: &[u8], start: usize) -> Piece
 
 // What begins with a character that is neither of a name nor blank nor a digit.
 fn symbol_at(bytes: &[u8], start: usize) -> Piece
-    requires { start < length bytes.now }
+    requires within { start < length bytes.now }
+    requires begins { begins_with_one blanks (drop start bytes.now) ≡ false }
     ensures later { start < result.end }
     ensures within { result.end ≤ length bytes.now }
     ensures is { Begins bytes.now start result }
@@ -160,7 +166,8 @@ fn symbol_at(bytes: &[u8], start: usize) -> Piece
 // What begins with a character that may begin a comment or a number.
 #[inline(never)]
 fn slash_or_point_at(bytes: &[u8], start: usize) -> Piece
-    requires { start < length bytes.now }
+    requires within { start < length bytes.now }
+    requires begins { begins_with_one blanks (drop start bytes.now) ≡ false }
     ensures later { start < result.end }
     ensures within { result.end ≤ length bytes.now }
     ensures is { Begins bytes.now start result }
@@ -217,12 +224,13 @@ fn comment_at(bytes: &[u8], start: usize) -> Piece
 }
 
 fn number_at(bytes: &[u8], start: usize) -> Piece
-    requires { start < length bytes.now }
+    requires within { start < length bytes.now }
+    requires begins { begins_with_one blanks (drop start bytes.now) ≡ false }
     ensures later { start < result.end }
     ensures within { result.end ≤ length bytes.now }
     ensures is { Begins bytes.now start result }
 {
-    let left = behind_number(bytes[start], &bytes[start + 1..]);
+    let left = behind_number(bytes[start], behind(bytes, start + 1));
     Piece {
         kind: PieceKind::Token(TokenKind::Number),
         end: bytes.len() - left.len(),
@@ -231,18 +239,30 @@ fn number_at(bytes: &[u8], start: usize) -> Piece
 
 // Where a name ends that begins here: letters, digits and `_`. What is no ASCII is taken for a letter.
 fn name_end(bytes: &[u8], start: usize) -> usize
-    requires { start < length bytes.now }
+    requires within { start < length bytes.now }
+    requires begins { begins_with_one blanks (drop start bytes.now) ≡ false }
     ensures later { start < result }
     ensures within { result ≤ length bytes.now }
+    ensures no_blank { HasNoBlank bytes.now start result }
 {
     for at in start + 1..bytes.len() {
-        match class_of(bytes[at]) {
-            Class::Letter | Class::Digit => {}
-            Class::Lead if wide_blank_len(&bytes[at..]) == 0 => {}
-            _ => return at,
+        if !is_of_name(bytes, at) {
+            return at;
         }
     }
     bytes.len()
+}
+
+fn is_of_name(bytes: &[u8], at: usize) -> bool
+    requires { at < length bytes.now }
+    ensures { IsTrue result → begins_with_one blanks (drop at bytes.now) ≡ false }
+{
+    match class_of(bytes[at]) {
+        Class::Letter => true,
+        Class::Digit => true,
+        Class::Lead => wide_blank_len(behind(bytes, at)) == 0,
+        Class::Symbol | Class::Blank | Class::Break => false,
+    }
 }
 
 /// The bytes of the blank character at the front, if it has several; 0 where there is none (WGSL:
@@ -250,6 +270,7 @@ fn name_end(bytes: &[u8], start: usize) -> usize
 fn wide_blank_len(rest: &[u8]) -> usize
     ensures within { result ≤ length rest.now }
     ensures blank { 0 < result → IsCharacter rest.now (drop result rest.now) }
+    ensures none { result ≡ 0 → begins_with_one wide_blanks rest.now ≡ false }
 {
     if rest.starts_with(&NEXT_LINE) {
         2
@@ -350,14 +371,14 @@ fn behind_comment(rest: &[u8]) -> Option<&[u8]>
 
 // What is behind a number that begins with this character, with its point, its exponent and its suffix.
 fn behind_number(first: u8, rest: &[u8]) -> &[u8]
-    ensures { length result.now ≤ length rest.now }
+    ensures within { length result.now ≤ length rest.now }
+    ensures no_blank { HasNoBlank rest.now 0 (length rest.now - length result.now) }
 {
     let is_hexadecimal = first == b'0' && matches!(rest, [b'x' | b'X', ..]);
     let mut may_sign = false;
     for (at, byte) in rest.iter().enumerate() {
-        let is_sign = may_sign && matches!(*byte, b'+' | b'-');
-        if !byte.is_ascii_alphanumeric() && *byte != b'.' && !is_sign {
-            return &rest[at..];
+        if !is_of_number(*byte, may_sign) {
+            return behind(rest, at);
         }
         may_sign = match *byte {
             b'e' | b'E' => !is_hexadecimal,
@@ -366,4 +387,18 @@ fn behind_number(first: u8, rest: &[u8]) -> &[u8]
         };
     }
     &[]
+}
+
+fn is_of_number(byte: u8, may_sign: bool) -> bool
+    ensures { IsTrue result → may_begin_blank byte ≡ false }
+{
+    if byte.is_ascii_alphanumeric() {
+        return true;
+    }
+    match byte {
+        b'.' => true,
+        b'+' => may_sign,
+        b'-' => may_sign,
+        _ => false,
+    }
 }

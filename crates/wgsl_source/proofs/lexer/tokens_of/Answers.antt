@@ -18,7 +18,7 @@ loop-start-preserved-then-is_blank c = record {
   within = omega arith;
   cut =
       blank c.loop-start.invariant.cut (omega arith) (omega arith)
-      (blank_byte c.as_bytes-bytes.result.now c.loop-start.start c.class_of-class.result (omega arith) c.class_of-class.ensures (c.is_blank.ensures c.if-is_blank.true));
+      (blank_byte c.as_bytes-bytes.result.now c.loop-start.start c.class_of-class.result (omega arith) c.class_of-class.ensures (c.is_blank.ensures.0 c.if-is_blank.true));
 }
 
 pub loop-start-preserved-in-Blank : goal.loop-start-preserved-in-Blank
@@ -36,5 +36,5 @@ loop-start-preserved c =
       within = c.piece_at-kind.ensures.within;
       cut =
           subst P (sym (ap (map extent_in) c.in_ok-push-in-Token.ensures.items ∙ map-append extent_in before (t ∷ [])))
-          (token c.loop-start.invariant.cut c.piece_at-kind.ensures.later c.piece_at-kind.ensures.within);
+          (token c.loop-start.invariant.cut c.piece_at-kind.ensures.later c.piece_at-kind.ensures.within (rw c.in-Token.is at c.piece_at-kind.ensures.is));
     }
