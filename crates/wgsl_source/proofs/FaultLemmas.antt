@@ -3,8 +3,11 @@ use Rattle.std.proofs.Common.{ℕ, ◌≡◌, ◌<◌, List, length, arith}
 use Rattle.std.proofs.lemmas.List.Sorted.{Contains-permutation, length_permutation}
 use Rattle.std.specs.List.{Contains}
 use Rattle.std.specs.List.Sorted.{IsPermutation}
+use Rattle.std.proofs.lemmas.Option.{IfSome_then}
+use Rattle.wgsl_source.specs.Blanks.{IsCovered}
 use Rattle.wgsl_source.specs.Faults.{KeepsFaults, IsTold}
 use Rattle.wgsl_source.specs.declared.fault.Fault.{Fault}
+use Rattle.wgsl_source.specs.declared.module.Extent.{Extent}
 
 pub kept_then : (xs ys zs : List Fault) → KeepsFaults xs ys → KeepsFaults ys zs → KeepsFaults xs zs
 kept_then xs ys zs a b = (omega (arith, a.0, b.0), λ fault h. b.1 fault (a.1 fault h))
@@ -18,3 +21,6 @@ permuted xs ys moved = (omega (arith, length_permutation xs ys moved), λ fault.
 -- over three calls and the sort
 pub kept_to_end : (xs ys zs us vs : List Fault) → KeepsFaults xs ys → KeepsFaults ys zs → KeepsFaults zs us → IsPermutation us vs → KeepsFaults xs vs
 kept_to_end xs ys zs us vs a b c moved = kept_then xs ys vs a (kept_then ys zs vs b (kept_then zs us vs c (permuted us vs moved)))
+
+pub covered_then : (text : List ℕ) (tokens : List Extent) (xs ys : List Fault) → KeepsFaults xs ys → IsCovered text tokens xs → IsCovered text tokens ys
+covered_then text tokens xs ys kept (comment, cut, told) = (comment, cut, IfSome_then comment told (λ fault. told_then xs ys fault kept))

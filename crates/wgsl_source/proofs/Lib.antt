@@ -1,3 +1,4 @@
+pub mod BlankLemmas
 pub mod Boundaries
 pub mod FaultLemmas
 pub mod IdentifierLemmas

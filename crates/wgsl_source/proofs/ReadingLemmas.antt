@@ -1,6 +1,6 @@
 -- What a reading shows is what was read.
 use lib.Pointwise.{bytes_decides}
-use Rattle.std.proofs.Common.{◌≡◌, ◌↔◌, IsTrue, ℕ, ◌+◌, ◌<◌, nat_lt, Bool, true, false, cond, not, Option, Some, None, List, [], ◌∷◌, length, map, slice_get, unwrap_or, zero, suc, refl, ◌∙◌, ap, sym, arith}
+use Rattle.std.proofs.Common.{◌≡◌, ◌↔◌, IsTrue, ℕ, ◌+◌, ◌<◌, nat_lt, Bool, true, false, cond, not, Option, Some, None, List, [], ◌∷◌, length, map, get_or, set, slice_get, unwrap_or, zero, suc, refl, ◌∙◌, ap, sym, arith}
 use Rattle.std.proofs.lemmas.Grind.{common_steps}
 use Rattle.std.proofs.lemmas.Cmp.{ranked, nat_cmp_total, eq_by_cmp_equiv}
 use Rattle.std.proofs.lemmas.Map.Views.{Contains-from_any, list_any-from_Contains}
@@ -28,6 +28,12 @@ pub slice_get-map : {X Y : Type 0} (f : X → Y) (xs : List X) (at : ℕ) → sl
 slice_get-map f [] at = refl
 slice_get-map f (y ∷ ys) zero = refl
 slice_get-map f (y ∷ ys) (suc at) = slice_get-map f ys at
+
+-- an element in place of one that is mapped alike
+pub map-set_alike : {X Y : Type 0} (f : X → Y) (xs : List X) (i : ℕ) (x y : X) → x ≡ get_or xs i x → f y ≡ f x → map f (set xs i y) ≡ map f xs
+map-set_alike f [] i x y is same = refl
+map-set_alike f (z ∷ zs) zero x y is same = ap (λ t. t ∷ map f zs) (same ∙ ap f is)
+map-set_alike f (z ∷ zs) (suc i) x y is same = ap (λ ts. f z ∷ ts) (map-set_alike f zs i x y is same)
 
 pub unwrap_or-map : {X Y : Type 0} (f : X → Y) (o : Option X) (x : X) → unwrap_or (option_map f o) (f x) ≡ f (unwrap_or o x)
 unwrap_or-map f None x = refl

@@ -39,3 +39,7 @@ class_of byte =
 -- whether a line break may begin with a byte: one of ASCII, the next line, or a separator
 abbrev pub may_begin_line_break : ℕ → Bool
 may_begin_line_break byte = is_line_break byte || begins_wide_blank byte
+
+-- whether a blank character may begin with a byte
+abbrev pub may_begin_blank : ℕ → Bool
+may_begin_blank byte = is_space byte || may_begin_line_break byte

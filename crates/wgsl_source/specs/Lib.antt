@@ -1,3 +1,4 @@
+pub mod Blanks
 pub mod Brackets
 pub mod Bytes
 pub mod Cursors

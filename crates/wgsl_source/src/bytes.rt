@@ -1,6 +1,6 @@
 //! What the bytes of a source may be of.
 
-ghost use Rattle.std.specs.Prelude.{◌≡◌, false, All};
+ghost use Rattle.std.specs.Prelude.{◌≡◌, ◌↔◌, ◌⊎◌, false, All, IsTrue};
 ghost use Rattle.wgsl_source.specs.Bytes.{class_of, may_begin_line_break};
 
 /// What a byte begins or goes on with.
@@ -20,7 +20,9 @@ pub(crate) enum Class {
 }
 
 impl Class {
-    pub(crate) fn is_blank(self) -> bool {
+    pub(crate) fn is_blank(self) -> bool
+        ensures { IsTrue result ↔ ((self ≡ Class.Blank) ⊎ (self ≡ Class.Break)) }
+    {
         matches!(self, Class::Blank | Class::Break)
     }
 }
@@ -63,6 +65,13 @@ pub(crate) fn class_of(byte: u8) -> Class
     ensures { result ≡ class_of byte }
 {
     CLASSES[byte as usize]
+}
+
+/// Whether a line break may begin with this byte.
+pub(crate) fn may_begin_line_break(byte: u8) -> bool
+    ensures { result ≡ may_begin_line_break byte }
+{
+    matches!(class_of(byte), Class::Break | Class::Lead)
 }
 
 /// Eight bytes of 0x80.

@@ -1,8 +1,12 @@
 //! Cuts a source into tokens (WGSL: tokens; comments; blankspace and line breaks).
 
-ghost use Rattle.std.specs.Prelude.{◌≤◌, ◌<◌, length, IfSome};
+ghost use Rattle.std.specs.Prelude.{◌≡◌, ◌⊎◌, ◌+◌, ◌-◌, ◌≤◌, ◌<◌, [], IsTrue, true, false, slice_index, nat_eq, codes, drop, length, map, IfOk, IfSome};
+ghost use Rattle.std.specs.List.{list_any, starts_with};
+ghost use Rattle.wgsl_source.specs.Blanks.{Begins, Comment, HasNoBlank, IsCharacter, IsCut, IsCutOr, Line, begins_line_break, begins_with_one, blanks};
+ghost use Rattle.wgsl_source.specs.Bytes.{class_of, may_begin_blank, wide_blanks};
+ghost use Rattle.wgsl_source.specs.Readings.{extent_in};
 
-use crate::bytes::{Class, class_of, may_break};
+use crate::bytes::{Class, class_of, may_begin_line_break, may_break};
 use crate::fault::{Fault, Reason};
 use crate::token::{Token, TokenKind};
 use std::alloc::{AllocError, Global};
@@ -14,6 +18,29 @@ pub(crate) struct Lexed {
     pub(crate) tokens: Vec<Token>,
     pub(crate) fault: Option<Fault>,
 }
+
+const BYTE_ORDER_MARK: [u8; 3] = [0xef, 0xbb, 0xbf];
+
+const NEXT_LINE: [u8; 2] = [0xc2, 0x85];
+
+const LEFT_TO_RIGHT: [u8; 3] = [0xe2, 0x80, 0x8e];
+
+const RIGHT_TO_LEFT: [u8; 3] = [0xe2, 0x80, 0x8f];
+
+const LINE_SEPARATOR: [u8; 3] = [0xe2, 0x80, 0xa8];
+
+const PARAGRAPH_SEPARATOR: [u8; 3] = [0xe2, 0x80, 0xa9];
+
+/// The line breaks of WGSL.
+static LINE_BREAKS: [&[u8]; 7] = [
+    &[0x0a],
+    &[0x0b],
+    &[0x0c],
+    &[0x0d],
+    &[0xc2, 0x85],
+    &[0xe2, 0x80, 0xa8],
+    &[0xe2, 0x80, 0xa9],
+];
 
 /// What begins at a byte of a text, and the byte behind it.
 #[derive(Clone, Copy)]
@@ -30,11 +57,12 @@ enum PieceKind {
 }
 
 /// The tokens of the text, in order.
-pub(crate) fn tokens_of(alloc: Global, text: &str) -> Result<Lexed, AllocError> {
+pub(crate) fn tokens_of(alloc: Global, text: &str) -> Result<Lexed, AllocError>
+    ensures { IfOk result (λ lexed. IsCutOr text.entry.now (map extent_in lexed.tokens.items) lexed.fault) }
+{
     let bytes = text.as_bytes();
     let mut tokens = Vec::new(alloc);
-    let mut fault = None;
-    let mut start = 0;
+    let mut start = byte_order_mark_len(bytes);
     while start < bytes.len() {
         let class = class_of(bytes[start]);
         if class.is_blank() {
@@ -43,23 +71,43 @@ pub(crate) fn tokens_of(alloc: Global, text: &str) -> Result<Lexed, AllocError> 
         }
         let Piece { kind, end } = piece_at(class, bytes, start);
         match kind {
-            PieceKind::Blank => {}
-            PieceKind::Token(kind) => tokens.push(Token { kind, start, end })?,
+            PieceKind::Blank => {
+                start = end;
+                continue;
+            }
             PieceKind::OpenComment => {
                 let reason = Reason::OpenComment;
-                fault = Some(Fault { start, end, reason });
+                let fault = Some(Fault { start, end, reason });
+                return Ok(Lexed { tokens, fault });
             }
+            PieceKind::Token(kind) => tokens.push(Token { kind, start, end })?,
         }
         start = end;
     }
+    let fault = None;
     Ok(Lexed { tokens, fault })
+}
+
+// The bytes of the mark of byte order that the text begins with, if it does.
+fn byte_order_mark_len(bytes: &[u8]) -> usize
+    ensures within { result ≤ length bytes.now }
+    ensures cut { IsCut bytes.now [] result }
+{
+    if bytes.starts_with(&BYTE_ORDER_MARK) {
+        BYTE_ORDER_MARK.len()
+    } else {
+        0
+    }
 }
 
 // What begins with this byte, which is of this class.
 fn piece_at(class: Class, bytes: &[u8], start: usize) -> Piece
-    requires { start < length bytes.now }
+    requires within { start < length bytes.now }
+    requires class { class ≡ class_of (slice_index bytes.now start) }
+    requires no_blank { ¬ ((class ≡ Class.Blank) ⊎ (class ≡ Class.Break)) }
     ensures later { start < result.end }
     ensures within { result.end ≤ length bytes.now }
+    ensures is { Begins bytes.now start result }
 {
     match class {
         Class::Letter => Piece {
@@ -74,11 +122,14 @@ fn piece_at(class: Class, bytes: &[u8], start: usize) -> Piece
 // What begins with a byte that is neither an ASCII letter nor a symbol.
 #[inline(never)]
 fn rare_at(class: Class, bytes: &[u8], start: usize) -> Piece
-    requires { start < length bytes.now }
+    requires within { start < length bytes.now }
+    requires class { class ≡ class_of (slice_index bytes.now start) }
+    requires no_blank { ¬ ((class ≡ Class.Blank) ⊎ (class ≡ Class.Break)) }
     ensures later { start < result.end }
     ensures within { result.end ≤ length bytes.now }
+    ensures is { Begins bytes.now start result }
 {
-    let blank = wide_blank_len(&bytes[start..]);
+    let blank = wide_blank_len(behind(bytes, start));
     if blank > 0 {
         return Piece {
             kind: PieceKind::Blank,
@@ -96,9 +147,11 @@ fn rare_at(class: Class, bytes: &[u8], start: usize) -> Piece
 
 // What begins with a character that is neither of a name nor blank nor a digit.
 fn symbol_at(bytes: &[u8], start: usize) -> Piece
-    requires { start < length bytes.now }
+    requires within { start < length bytes.now }
+    requires begins { begins_with_one blanks (drop start bytes.now) ≡ false }
     ensures later { start < result.end }
     ensures within { result.end ≤ length bytes.now }
+    ensures is { Begins bytes.now start result }
 {
     let first = bytes[start];
     if first == b'/' || first == b'.' {
@@ -113,25 +166,20 @@ fn symbol_at(bytes: &[u8], start: usize) -> Piece
 // What begins with a character that may begin a comment or a number.
 #[inline(never)]
 fn slash_or_point_at(bytes: &[u8], start: usize) -> Piece
-    requires { start < length bytes.now }
+    requires within { start < length bytes.now }
+    requires begins { begins_with_one blanks (drop start bytes.now) ≡ false }
     ensures later { start < result.end }
     ensures within { result.end ≤ length bytes.now }
+    ensures is { Begins bytes.now start result }
 {
-    match &bytes[start..] {
-        [b'/', b'/', rest @ ..] => Piece {
-            kind: PieceKind::Blank,
-            end: bytes.len() - behind_line(rest).len(),
-        },
-        [b'/', b'*', rest @ ..] => match behind_comment(rest) {
-            Some(left) => Piece {
-                kind: PieceKind::Blank,
-                end: bytes.len() - left.len(),
-            },
-            None => Piece {
-                kind: PieceKind::OpenComment,
-                end: bytes.len(),
-            },
-        },
+    let text = behind(bytes, start);
+    if text.starts_with(b"//") {
+        return line_comment_at(bytes, start);
+    }
+    if text.starts_with(b"/*") {
+        return comment_at(bytes, start);
+    }
+    match text {
         [b'.', b'0'..=b'9', ..] => number_at(bytes, start),
         _ => Piece {
             kind: PieceKind::Token(TokenKind::Symbol(bytes[start])),
@@ -140,12 +188,49 @@ fn slash_or_point_at(bytes: &[u8], start: usize) -> Piece
     }
 }
 
-fn number_at(bytes: &[u8], start: usize) -> Piece
-    requires { start < length bytes.now }
+// The comment that `//` begins here.
+fn line_comment_at(bytes: &[u8], start: usize) -> Piece
+    requires within { start + 2 ≤ length bytes.now }
+    requires begins { starts_with nat_eq (drop start bytes.now) (codes "//") ≡ true }
     ensures later { start < result.end }
     ensures within { result.end ≤ length bytes.now }
+    ensures is { Begins bytes.now start result }
 {
-    let left = behind_number(bytes[start], &bytes[start + 1..]);
+    let left = behind_line(behind(bytes, start + 2));
+    Piece {
+        kind: PieceKind::Blank,
+        end: bytes.len() - left.len(),
+    }
+}
+
+// The comment that `/*` begins here.
+fn comment_at(bytes: &[u8], start: usize) -> Piece
+    requires within { start + 2 ≤ length bytes.now }
+    requires begins { starts_with nat_eq (drop start bytes.now) (codes "/*") ≡ true }
+    ensures later { start < result.end }
+    ensures within { result.end ≤ length bytes.now }
+    ensures is { Begins bytes.now start result }
+{
+    match behind_comment(behind(bytes, start + 2)) {
+        Some(left) => Piece {
+            kind: PieceKind::Blank,
+            end: bytes.len() - left.len(),
+        },
+        None => Piece {
+            kind: PieceKind::OpenComment,
+            end: bytes.len(),
+        },
+    }
+}
+
+fn number_at(bytes: &[u8], start: usize) -> Piece
+    requires within { start < length bytes.now }
+    requires begins { begins_with_one blanks (drop start bytes.now) ≡ false }
+    ensures later { start < result.end }
+    ensures within { result.end ≤ length bytes.now }
+    ensures is { Begins bytes.now start result }
+{
+    let left = behind_number(bytes[start], behind(bytes, start + 1));
     Piece {
         kind: PieceKind::Token(TokenKind::Number),
         end: bytes.len() - left.len(),
@@ -154,38 +239,58 @@ fn number_at(bytes: &[u8], start: usize) -> Piece
 
 // Where a name ends that begins here: letters, digits and `_`. What is no ASCII is taken for a letter.
 fn name_end(bytes: &[u8], start: usize) -> usize
-    requires { start < length bytes.now }
+    requires within { start < length bytes.now }
+    requires begins { begins_with_one blanks (drop start bytes.now) ≡ false }
     ensures later { start < result }
     ensures within { result ≤ length bytes.now }
+    ensures no_blank { HasNoBlank bytes.now start result }
 {
     for at in start + 1..bytes.len() {
-        match class_of(bytes[at]) {
-            Class::Letter | Class::Digit => {}
-            Class::Lead if wide_blank_len(&bytes[at..]) == 0 => {}
-            _ => return at,
+        if !is_of_name(bytes, at) {
+            return at;
         }
     }
     bytes.len()
 }
 
+fn is_of_name(bytes: &[u8], at: usize) -> bool
+    requires { at < length bytes.now }
+    ensures { IsTrue result → begins_with_one blanks (drop at bytes.now) ≡ false }
+{
+    match class_of(bytes[at]) {
+        Class::Letter => true,
+        Class::Digit => true,
+        Class::Lead => wide_blank_len(behind(bytes, at)) == 0,
+        Class::Symbol | Class::Blank | Class::Break => false,
+    }
+}
+
 /// The bytes of the blank character at the front, if it has several; 0 where there is none (WGSL:
 /// blankspace).
 fn wide_blank_len(rest: &[u8]) -> usize
-    ensures { result ≤ length rest.now }
+    ensures within { result ≤ length rest.now }
+    ensures blank { 0 < result → IsCharacter rest.now (drop result rest.now) }
+    ensures none { result ≡ 0 → begins_with_one wide_blanks rest.now ≡ false }
 {
-    match rest {
-        // The next line.
-        [0xc2, 0x85, ..] => 2,
-        // The marks of direction, and the separators of lines and of paragraphs.
-        [0xe2, 0x80, 0x8e | 0x8f | 0xa8 | 0xa9, ..] => 3,
-        _ => 0,
+    if rest.starts_with(&NEXT_LINE) {
+        2
+    } else if rest.starts_with(&LEFT_TO_RIGHT) {
+        3
+    } else if rest.starts_with(&RIGHT_TO_LEFT) {
+        3
+    } else if rest.starts_with(&LINE_SEPARATOR) {
+        3
+    } else if rest.starts_with(&PARAGRAPH_SEPARATOR) {
+        3
+    } else {
+        0
     }
 }
 
 // What is behind the line: eight bytes are passed over at a time where none of them may be of a line
 // break, the others one by one.
 fn behind_line(rest: &[u8]) -> &[u8]
-    ensures { length result.now ≤ length rest.now }
+    ensures { Line rest.now result.now }
 {
     let mut left = rest;
     while let Some((word, behind)) = left.split_first_chunk::<8>() {
@@ -199,59 +304,81 @@ fn behind_line(rest: &[u8]) -> &[u8]
 
 // The next line break, with all behind it.
 fn from_line_break(rest: &[u8]) -> &[u8]
-    ensures { length result.now ≤ length rest.now }
+    ensures { Line rest.now result.now }
 {
-    for (at, byte) in rest.iter().enumerate() {
-        match class_of(*byte) {
-            Class::Break => return &rest[at..],
-            Class::Lead if begins_line_break(&rest[at..]) => return &rest[at..],
-            _ => {}
+    let mut left = rest;
+    while left.len() > 0 {
+        if begins_line_break(left) {
+            return left;
         }
+        left = behind(left, 1);
     }
-    &[]
+    left
 }
 
-// The line breaks of several bytes: the next line, and the separators of lines and of paragraphs
+// Whether a line break begins here: one of ASCII, the next line, or a separator of lines or of paragraphs
 // (WGSL: blankspace and line breaks).
-fn begins_line_break(rest: &[u8]) -> bool {
-    matches!(rest, [0xc2, 0x85, ..] | [0xe2, 0x80, 0xa8 | 0xa9, ..])
+fn begins_line_break(rest: &[u8]) -> bool
+    requires { 0 < length rest.now }
+    ensures { result ≡ begins_line_break rest.now }
+{
+    if !may_begin_line_break(rest[0]) {
+        return false;
+    }
+    begins_with_one(rest, &LINE_BREAKS)
+}
+
+// What is behind so many bytes.
+fn behind(text: &[u8], count: usize) -> &[u8]
+    requires { count ≤ length text.now }
+    ensures { result.now ≡ drop count text.now }
+{
+    &text[count..]
+}
+
+fn begins_with_one(rest: &[u8], characters: &[&[u8]]) -> bool
+    ensures { result ≡ list_any (λ c. starts_with nat_eq rest.now c.now) characters.now }
+{
+    characters
+        .iter()
+        .any(|character| rest.starts_with(character))
 }
 
 // What is behind the `*/` of a comment that is begun, with those inside it; `None` where it has no end.
 fn behind_comment(rest: &[u8]) -> Option<&[u8]>
-    ensures { IfSome result (λ left. length left.now ≤ length rest.now) }
+    ensures { IfSome result (λ left. Comment rest.now left.now) }
 {
     let mut inner = 0usize;
     let mut left = rest;
-    while let Some((first, behind)) = left.split_first() {
-        left = match (*first, behind) {
-            (b'/', [b'*', left @ ..]) => {
-                inner = inner.saturating_add(1);
-                left
-            }
-            (b'*', [b'/', left @ ..]) => {
-                if inner == 0 {
-                    return Some(left);
-                }
-                inner = inner.saturating_sub(1);
-                left
-            }
-            _ => behind,
-        };
+    while left.len() > 0 {
+        if left.starts_with(b"/*") {
+            inner = inner.saturating_add(1);
+            left = behind(left, 2);
+            continue;
+        }
+        if !left.starts_with(b"*/") {
+            left = behind(left, 1);
+            continue;
+        }
+        if inner == 0 {
+            return Some(behind(left, 2));
+        }
+        inner = inner.saturating_sub(1);
+        left = behind(left, 2);
     }
     None
 }
 
 // What is behind a number that begins with this character, with its point, its exponent and its suffix.
 fn behind_number(first: u8, rest: &[u8]) -> &[u8]
-    ensures { length result.now ≤ length rest.now }
+    ensures within { length result.now ≤ length rest.now }
+    ensures no_blank { HasNoBlank rest.now 0 (length rest.now - length result.now) }
 {
     let is_hexadecimal = first == b'0' && matches!(rest, [b'x' | b'X', ..]);
     let mut may_sign = false;
     for (at, byte) in rest.iter().enumerate() {
-        let is_sign = may_sign && matches!(*byte, b'+' | b'-');
-        if !byte.is_ascii_alphanumeric() && *byte != b'.' && !is_sign {
-            return &rest[at..];
+        if !is_of_number(*byte, may_sign) {
+            return behind(rest, at);
         }
         may_sign = match *byte {
             b'e' | b'E' => !is_hexadecimal,
@@ -260,4 +387,18 @@ fn behind_number(first: u8, rest: &[u8]) -> &[u8]
         };
     }
     &[]
+}
+
+fn is_of_number(byte: u8, may_sign: bool) -> bool
+    ensures { IsTrue result → may_begin_blank byte ≡ false }
+{
+    if byte.is_ascii_alphanumeric() {
+        return true;
+    }
+    match byte {
+        b'.' => true,
+        b'+' => may_sign,
+        b'-' => may_sign,
+        _ => false,
+    }
 }

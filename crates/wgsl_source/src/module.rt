@@ -1,7 +1,8 @@
 //! Sources as evaluators walk them: declarations, the steps of their expressions, and names.
 
-ghost use Rattle.std.specs.Prelude.{◌≡◌, ◌≤◌, ◌↔◌, [], All, IfOk, IsTrue, Contains, map, length, slice_get, unwrap_or};
-ghost use Rattle.wgsl_source.specs.Faults.{KeepsFaults};
+ghost use Rattle.std.specs.Prelude.{◌≡◌, ◌≤◌, ◌↔◌, [], All, IfOk, IfSome, OnOk, IsTrue, Contains, map, length, slice_get, unwrap_or};
+ghost use Rattle.wgsl_source.specs.Blanks.{IsCovered};
+ghost use Rattle.wgsl_source.specs.Faults.{IsTold, KeepsFaults};
 ghost use Rattle.wgsl_source.specs.Identifiers.{IsNameOrTold};
 ghost use Rattle.wgsl_source.specs.Numbers.{Means};
 ghost use Rattle.wgsl_source.specs.Orders.{IsOrderOf};
@@ -124,6 +125,7 @@ impl<'a> Reading<'a> {
         ensures text { IfOk result (λ reading. reading.text ≡ text.entry.now) }
         ensures found { IfOk result (λ reading. reading.found_by ≡ reading.names) }
         ensures faults { IfOk result (λ reading. length reading.faults ≤ 100) }
+        ensures tokens { IfOk result (λ reading. IsCovered reading.text reading.tokens reading.faults) }
         ensures pieces { IfOk result (λ reading. Reach 0 reading.pieces (length reading.tokens)) }
         ensures holds { IfOk result (λ reading. All (IsPiece reading.text reading.tokens reading.names reading.faults) reading.pieces) }
         ensures declarations { IfOk result (λ reading. declarations_in reading.pieces ≡ numbers (length reading.declared)) }
@@ -157,6 +159,7 @@ impl<'a> Reading<'a> {
     pub fn of_expression(alloc: Global, text: &'a str) -> Result<Reading<'a>, AllocError>
         ensures text { IfOk result (λ reading. reading.text ≡ text.entry.now) }
         ensures found { IfOk result (λ reading. reading.found_by ≡ []) }
+        ensures tokens { IfOk result (λ reading. IsCovered reading.text reading.tokens reading.faults) }
         ensures pieces { IfOk result (λ reading. reading.pieces ≡ []) }
         ensures faults { IfOk result (λ reading. length reading.faults ≤ 100) }
     {
@@ -318,13 +321,23 @@ impl<'a> Reading<'a> {
     }
 }
 
-fn marked_tokens(alloc: Global, text: &str, faults: &mut Faults) -> Result<Vec<Token>, AllocError> {
+fn marked_tokens(alloc: Global, text: &str, faults: &mut Faults) -> Result<Vec<Token>, AllocError>
+    ensures { IfOk result (λ tokens. IsCovered text.entry.now (map extent_in tokens.items) faults.new.faults.items) }
+{
     let Lexed { mut tokens, fault } = tokens_of(alloc, text)?;
-    if let Some(fault) = fault {
-        faults.add(fault)?;
-    }
+    tell(fault, faults)?;
     mark_templates(alloc, &mut tokens)?;
     Ok(tokens)
+}
+
+// Tells a fault, if it is one.
+fn tell(fault: Option<Fault>, faults: &mut Faults) -> Result<(), AllocError>
+    ensures { OnOk result (IfSome fault (IsTold faults.new.faults.items)) }
+{
+    match fault {
+        Some(fault) => faults.add(fault),
+        None => Ok(()),
+    }
 }
 
 // Tells what the grammar refuses, and answers where it begins.
@@ -348,7 +361,8 @@ fn read_expression(
     cursor: Cursor<'_>,
     faults: &mut Faults,
 ) -> Result<Module, AllocError>
-    ensures { IfOk result (λ m. m.pieces.items ≡ []) }
+    ensures pieces { IfOk result (λ m. m.pieces.items ≡ []) }
+    ensures kept { KeepsFaults faults.old.faults.items faults.new.faults.items }
 {
     let mut expressions = Expressions::new(alloc, cursor);
     let mut declarations = Vec::new(alloc);

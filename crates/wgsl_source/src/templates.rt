@@ -1,5 +1,8 @@
 //! Which `<` and `>` of a source are the brackets of a template list (WGSL: template lists).
 
+ghost use Rattle.std.specs.Prelude.{◌≡◌, map};
+ghost use Rattle.wgsl_source.specs.Readings.{extent_in};
+
 use crate::token::{Token, TokenKind};
 use std::alloc::{AllocError, Global};
 
@@ -19,7 +22,9 @@ struct Discovery {
 }
 
 /// Marks the `<` and the `>` of each template list.
-pub(crate) fn mark_templates(alloc: Global, tokens: &mut Vec<Token>) -> Result<(), AllocError> {
+pub(crate) fn mark_templates(alloc: Global, tokens: &mut Vec<Token>) -> Result<(), AllocError>
+    ensures extents { map extent_in tokens.new.items ≡ map extent_in tokens.old.items }
+{
     let mut discovery = Discovery {
         candidates: Vec::new(alloc),
         depth: 0,
@@ -57,7 +62,9 @@ fn symbol_behind(tokens: &Vec<Token>, at: usize, first: Token) -> u8 {
 
 impl Discovery {
     /// Looks at one token, and answers how many are done with.
-    fn take(&mut self, tokens: &mut Vec<Token>, at: usize) -> Result<usize, AllocError> {
+    fn take(&mut self, tokens: &mut Vec<Token>, at: usize) -> Result<usize, AllocError>
+        ensures extents { map extent_in tokens.new.items ≡ map extent_in tokens.old.items }
+    {
         let Some((symbol, behind)) = symbols_at(tokens, at) else {
             return Ok(1);
         };
@@ -96,7 +103,9 @@ impl Discovery {
     }
 
     // A `>` ends the list of the last candidate, if that stands in the same brackets.
-    fn end(&mut self, tokens: &mut Vec<Token>, at: usize, behind: u8) -> usize {
+    fn end(&mut self, tokens: &mut Vec<Token>, at: usize, behind: u8) -> usize
+        ensures extents { map extent_in tokens.new.items ≡ map extent_in tokens.old.items }
+    {
         match self.candidates.last() {
             Some(candidate) if candidate.depth == self.depth => {
                 let start = candidate.token;
@@ -125,7 +134,9 @@ impl Discovery {
     }
 }
 
-fn set_kind(tokens: &mut Vec<Token>, at: usize, kind: TokenKind) {
+fn set_kind(tokens: &mut Vec<Token>, at: usize, kind: TokenKind)
+    ensures extents { map extent_in tokens.new.items ≡ map extent_in tokens.old.items }
+{
     if let Some(token) = tokens.get_mut(at) {
         token.kind = kind;
     }

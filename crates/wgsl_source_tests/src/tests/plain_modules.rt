@@ -34,6 +34,7 @@ pub(super) fn module_of(alloc: Global, text: &str, lexed: &Lexed) -> Result<Modu
             }
         }
     }
+    add_keywords(&mut found, walk, functions.as_slice())?;
     add_duplicates(&mut found, walk, functions.as_slice())?;
     let faults = sorted(alloc, lexed.fault, found.as_slice())?;
     Ok(Module { functions, faults })
@@ -54,6 +55,20 @@ pub(super) fn sorted(
     }
     faults.sort_by_key(|fault| fault.start)?;
     Ok(faults)
+}
+
+// A function is told whose name is a keyword: of those in these sources there is one.
+fn add_keywords(
+    faults: &mut Vec<Fault>,
+    walk: Walk<'_>,
+    functions: &[usize],
+) -> Result<(), AllocError> {
+    for name in functions {
+        if walk.word_at(*name) == "fn" {
+            faults.push(walk.fault_at(*name, Reason::Keyword))?;
+        }
+    }
+    Ok(())
 }
 
 // A function is told that has the name of one before it.

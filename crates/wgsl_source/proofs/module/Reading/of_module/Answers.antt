@@ -7,7 +7,7 @@ use Rattle.wgsl_source.specs.Readings.{declared_in, extent_in, field_in}
 use Rattle.wgsl_source.specs.declared.declaration.Declaration.{Declaration}
 use Rattle.wgsl_source.specs.declared.declaration.Member.{Member}
 use Rattle.wgsl_source.specs.declared.module.Field.{Field}
-use Rattle.wgsl_source.proofs.FaultLemmas.{kept_then, kept_to_end}
+use Rattle.wgsl_source.proofs.FaultLemmas.{kept_then, kept_to_end, covered_then}
 use Rattle.wgsl_source.proofs.IdentifierLemmas.{shown_names}
 use Rattle.wgsl_source.proofs.PieceLemmas.{shown_pieces}
 use Rattle.wgsl_source.specs.NameTables.{named_in}
@@ -70,3 +70,14 @@ returns-clause-order c =
     let ds = c.in_ok-module.module.declarations.items in
     let P : ℕ → Type 0 = λ count. IsOrderOf c.in_ok-order.order.items count in
     subst P (sym (length-map ds (λ (d : Declaration). declared_in d.kind))) c.in_ok-order.ensures.order
+
+pub returns-clause-tokens : goal.returns-clause-tokens
+returns-clause-tokens c =
+    let marked = c.marked_tokens.new.faults.faults.items in
+    let read = c.read_module.new.faults.faults.items in
+    let checked = c.check_names.new.faults.faults.items in
+    let sorted = c.in_ok-into_sorted.field-0.items in
+    let kept = kept_to_end checked c.names_of.new.faults.faults.items c.order_of.new.faults.faults.items c.add_refused.new.faults.faults.items sorted c.names_of.ensures.kept c.order_of.ensures.kept c.add_refused.ensures c.in_ok-into_sorted.ensures.same in
+    covered_then c.args.text.now (map extent_in c.in_ok-tokens.tokens.items) marked sorted
+    (kept_then marked read sorted c.read_module.ensures.kept (kept_then read checked sorted c.check_names.ensures.kept kept))
+    c.in_ok-tokens.ensures
