@@ -28,3 +28,4 @@ mod skips;
 mod standard;
 mod texts;
 mod using;
+mod without_memory;

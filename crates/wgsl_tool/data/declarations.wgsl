@@ -23,7 +23,7 @@ const by_alias: Id = 9; // u32 = 9u
 const floating: f32 = 1; // not evaluated: needs floats, `1`
 const of_floating = floating + 1; // not evaluated: needs floats, `floating`
 const not_type: early = 1; // error: this is no type
-const no_such: foo = 1; // error: nothing has this name
+const no_such: foo = 1; // error: nothing is named foo
 alias Id = u32;
 alias Deep = array<Point, 2>;
 struct Point { x: i32, y: i32 }
@@ -31,7 +31,7 @@ const point = Point(1, 2); // Point = Point(1i, 2i)
 const points: Deep = array(point, Point()); // array<Point, 2> = array(Point(1i, 2i), Point(0i, 0i))
 const third = table[2]; // u32 = 3u
 const y_of = points[0].y; // i32 = 2i
-const unknown = missing + 1; // error: nothing has this name
+const unknown = missing + 1; // error: nothing is named missing
 const names_unknown = unknown + 1; // nothing
 const names_itself = names_itself + 1; // error: this needs itself
 const round = trip; // nothing
@@ -41,12 +41,12 @@ const twice = 1; // AbstractInt = 1
 const twice = 2; // error: this name is there already
 override given = 3; // none
 override asked: u32; // none
-const of_override = given + 1; // not evaluated: needs what is no constant, `given`
+const of_override = given + 1; // not evaluated: needs an override, `given`
 var<private> state: i32 = 1;
-const of_variable = state; // not evaluated: needs what is no constant, `state`
+const of_variable = state; // not evaluated: needs a variable, `state`
 fn f(a: i32) -> i32 { return a; }
-const of_function = f(1); // not evaluated: needs what is no constant, `f`
-const named_function = f; // not evaluated: needs what is no constant, `f`
+const of_function = f(1); // not evaluated: needs a function of the module, `f`
+const named_function = f; // not evaluated: needs a function of the module, `f`
 const called = early(1); // error: this is no type and no function
 const generic = Id<u32>(1); // error: this takes no template list
 const min = 5; // AbstractInt = 5
@@ -55,18 +55,18 @@ const_assert early == 2; // ok
 const_assert late < 2; // error: this is asserted and false
 const_assert late; // error: what is asserted is no bool
 const_assert(late > 2 && typed == 1u); // ok
-const_assert missing == 1; // error: nothing has this name
+const_assert missing == 1; // error: nothing is named missing
 const_assert floating == 1.0; // ok
 const_assert 1 / 0 == 1; // error: division by zero
 struct Same { a: u32, a: i32 } // error: another member has this name
 struct Ring { r: Ring } // error: this needs itself
-struct Part { a: u33 } // error: nothing has this name
+struct Part { a: u33 } // error: nothing is named u33
 const of_part = Part(1); // nothing
 struct Attributed { @align(16) @size(early * 16) a: u32, b: u32 }
 const attributed = Attributed(1, 2); // Attributed = Attributed(1u, 2u)
 alias Smp = sampler;
 alias Tex = texture_2d<f32>;
 struct Held { t: Tex }
-const of_texture = Held(1); // not evaluated: needs what is no constant, `Held`
+const of_texture = Held(1); // not evaluated: needs a type without constants, `Held`
 enable f16;
 const last = late + early; // AbstractInt = 5

@@ -83,8 +83,6 @@ const r80 = -2147483648i; // error: this is no number of its kind
 const r81 = 4294967295u; // u32 = 4294967295u
 const r82 = 4294967296u; // error: this is no number of its kind
 const r83 = 9223372036854775808; // error: this is no number of its kind
-const r84 = 18446744073709551615lu; // u64 = 18446744073709551615lu
-const r85 = 5li; // i64 = 5li
 const r86 = 1.5; // not evaluated: needs floats, `1.5`
 const r87 = 1f; // not evaluated: needs floats, `1f`
 const r88 = 1e3; // not evaluated: needs floats, `1e3`

@@ -4,7 +4,7 @@
 // To make them: 20 + 11 + 10 + 9 + 4, 54.
 struct S { a: i32, b: vec2<i32>, c: i32 }
 const s = S(); // S = S(0i, vec2(0i, 0i), 0i)
-const m = mat3x2<i32>(); // mat3x2<i32> = mat3x2(vec2(0i, 0i), vec2(0i, 0i), vec2(0i, 0i))
+const m = mat3x2<i32>(); // mat3x2<i32> = mat3x2(vec2(0i, 0i), vec2(0i, 0i), vec2(0i, 0i)); warning: WGSL has no matrices of integers
 const n = array<array<i32, 3>, 2>(); // array<array<i32, 3>, 2> = array(array(0i, 0i, 0i), array(0i, 0i, 0i))
 const v = vec3<i32>(); // vec3<i32> = vec3(0i, 0i, 0i)
 const one = 1u; // u32 = 1u

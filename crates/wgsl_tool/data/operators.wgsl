@@ -7,12 +7,8 @@ const r4 = 7u + 5; // u32 = 12u
 const r5 = 7 + 5u; // u32 = 12u
 const r6 = 7i + 5i; // i32 = 12i
 const r7 = 7u + 5u; // u32 = 12u
-const r8 = 7li + 5li; // i64 = 12li
-const r9 = 7lu + 5lu; // u64 = 12lu
 const r10 = 7i + 5u; // error: no operator + for i32 and u32
 const r11 = 7u + 5i; // error: no operator + for u32 and i32
-const r12 = 7li + 5i; // error: no operator + for i64 and i32
-const r13 = 7lu + 5li; // error: no operator + for u64 and i64
 const r14 = true + 1; // error: no operator + for bool and AbstractInt
 const r15 = 1 + true; // error: no operator + for AbstractInt and bool
 const r16 = true + false; // error: no operator + for bool and bool
@@ -21,20 +17,15 @@ const r18 = 4294967295 + 1i; // error: an operand of + is no i32: 4294967295 + 1
 const r19 = -1 + 1u; // error: an operand of + is no u32: -1 + 1u
 const r20 = 2147483647i + 1i; // i32 = -2147483648i
 const r21 = 4294967295u + 1u; // u32 = 0u
-const r22 = 9223372036854775807li + 1li; // i64 = -9223372036854775808li
-const r23 = 18446744073709551615lu + 1lu; // u64 = 0lu
 const r24 = 0u - 1u; // u32 = 4294967295u
 const r25 = 5 - 7; // AbstractInt = -2
 const r26 = 5i - 7i; // i32 = -2i
 const r27 = 5u - 7u; // u32 = 4294967294u
-const r28 = 5li - 7li; // i64 = -2li
-const r29 = 5lu - 7lu; // u64 = 18446744073709551614lu
 const r30 = -9223372036854775807 - 2; // error: the difference is out of range: -9223372036854775807 - 2
 const r31 = 5i - 7u; // error: no operator - for i32 and u32
 const r32 = 6 * 7; // AbstractInt = 42
 const r33 = 6i * 7i; // i32 = 42i
 const r34 = 6u * 7; // u32 = 42u
-const r35 = 6 * 7lu; // error: no operator * for AbstractInt and u64
 const r36 = 65536u * 65536u; // u32 = 0u
 const r37 = 65536i * 32768i; // i32 = -2147483648i
 const r38 = 4294967296 * 4294967296; // error: the product is out of range: 4294967296 * 4294967296
@@ -48,16 +39,12 @@ const r44 = -7 / -2; // AbstractInt = 3
 const r45 = 7i / 2i; // i32 = 3i
 const r46 = -7i / 2i; // i32 = -3i
 const r47 = 7u / 2u; // u32 = 3u
-const r48 = 7li / 2li; // i64 = 3li
-const r49 = 7lu / 2lu; // u64 = 3lu
 const r50 = 7 / 2u; // u32 = 3u
 const r51 = 7i / 0i; // error: division by zero: 7i / 0i
 const r52 = 7u / 0u; // error: division by zero: 7u / 0u
 const r53 = 7 / 0; // error: division by zero: 7 / 0
-const r54 = 1li / 0li; // error: division by zero: 1li / 0li
 const r55 = (-2147483647i - 1i) / -1i; // error: the quotient is out of range: -2147483648i / -1i
 const r56 = (-9223372036854775807 - 1) / -1; // error: the quotient is out of range: -9223372036854775808 / -1
-const r57 = (-9223372036854775807li - 1li) / -1li; // i64 = -9223372036854775808li
 const r58 = true / true; // error: no operator / for bool and bool
 const r59 = 7 % 3; // AbstractInt = 1
 const r60 = -7 % 3; // AbstractInt = -1
@@ -65,7 +52,6 @@ const r61 = 7 % -3; // AbstractInt = 1
 const r62 = -7 % -3; // AbstractInt = -1
 const r63 = -7i % 2i; // i32 = -1i
 const r64 = 7u % 4u; // u32 = 3u
-const r65 = 7li % 4li; // i64 = 3li
 const r66 = 7i % 0i; // error: division by zero: 7i % 0i
 const r67 = 7u % 0; // error: division by zero: 7u % 0
 const r68 = (-2147483647i - 1i) % -1i; // error: the quotient is out of range
@@ -79,8 +65,6 @@ const r74 = - -5i; // i32 = 5i
 const r75 = ~0i; // i32 = -1i
 const r76 = ~0u; // u32 = 4294967295u
 const r77 = ~0; // AbstractInt = -1
-const r78 = ~5li; // i64 = -6li
-const r79 = ~0lu; // u64 = 18446744073709551615lu
 const r80 = ~true; // error: no operator ~ for bool: ~true
 const r81 = !true; // bool = false
 const r82 = !false; // bool = true
@@ -104,7 +88,6 @@ const r98 = true | false; // bool = true
 const r99 = true ^ false; // error: no operator ^ for bool and bool: true ^ false
 const r100 = true & 1; // error: no operator & for bool and AbstractInt
 const r101 = 0xFFu & 0x18u; // u32 = 24u
-const r102 = 0xFli | 0x10li; // i64 = 31li
 const r103 = vec2(12u, 3u) & vec2(10u, 1u); // vec2<u32> = vec2(8u, 1u)
 const r104 = vec2(true, false) | vec2(false, false); // vec2<bool> = vec2(true, false)
 const r105 = vec2(1u, 2u) | vec3(1u, 2u, 3u); // error: vec2<u32> and vec3<u32> have unequal sizes: vec2(1u, 2u) | vec3(1u, 2u, 3u)
@@ -121,7 +104,6 @@ const r114 = 3000000000u << 1u; // error: bits are shifted out: 3000000000u << 1
 const r115 = 1u << 1i; // error: no operator << for u32 and i32
 const r116 = 1u << 1; // u32 = 2u
 const r117 = 1 << 1u; // AbstractInt = 2
-const r118 = 1li << 40u; // i64 = 1099511627776li
 const r119 = 8 >> 1; // AbstractInt = 4
 const r120 = 8u >> 3u; // u32 = 1u
 const r121 = -8i >> 1u; // i32 = -4i
@@ -153,8 +135,6 @@ const r145 = -1 < 0; // bool = true
 const r146 = -1i < 0i; // bool = true
 const r147 = 4294967295u > 0u; // bool = true
 const r148 = -1 < 0u; // error: an operand of < is no u32: -1 < 0u
-const r149 = 1li < 2li; // bool = true
-const r150 = 1lu >= 2lu; // bool = false
 const r151 = 1 == true; // error: no operator == for AbstractInt and bool
 const r152 = vec2(1u, 2u) < vec2(2u, 2u); // vec2<bool> = vec2(true, false)
 const r153 = vec2(1, 2) == vec2(1, 3); // vec2<bool> = vec2(true, false)
@@ -179,7 +159,7 @@ const r169 = false || (1 / 0 == 1); // error: division by zero: 1 / 0
 const r170 = (5 > 10) && (10 < i32(5 * 1000 * 1000 * 1000)); // bool = false
 const r171 = (5 < 10) && (10 < i32(5 * 1000 * 1000 * 1000)); // error: 5000000000 is no i32
 const r172 = false && (1u + 1i == 2); // error: no operator + for u32 and i32
-const r173 = false && nothing; // error: nothing has this name
+const r173 = false && nothing; // error: nothing is named nothing
 const r174 = false && (array(1, 2)[5] == 1); // bool = false
 // Vectors, and vectors with scalars.
 const r175 = vec2(1, 2) + vec2(10, 20); // vec2<AbstractInt> = vec2(11, 22)
@@ -201,6 +181,5 @@ const r190 = 2u + vec2(1i, 2i); // error: no operator + for vec2<i32> and u32
 const r191 = 2u - vec2(1i, 2i); // error: no operator - for u32 and vec2<i32>
 const r192 = vec2(9223372036854775807, 1) + 1; // error: the sum is out of range
 const r193 = vec2(true, false) + vec2(true, false); // error: no operator + for bool and bool
-const r194 = mat2x2<u32>() + mat2x2<u32>(); // error: no operator + for mat2x2<u32> and mat2x2<u32>
 const r195 = array(1) + array(1); // error: no operator + for array<AbstractInt, 1> and array<AbstractInt, 1>
 const r196 = -array(1); // error: no operator - for array<AbstractInt, 1>

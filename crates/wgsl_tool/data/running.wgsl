@@ -3,7 +3,6 @@
 const r1 = (-2147483647i - 1i) / -1i; // i32 = -2147483648i
 const r2 = (-2147483647i - 1i) % -1i; // i32 = 0i
 const r3 = 7i % 0i; // i32 = 0i
-const r4 = 1li / 0li; // i64 = 1li
 const r5 = vec2(7, 7) / 0i; // vec2<i32> = vec2(7i, 7i)
 const r6 = 3000000000u << 1u; // u32 = 1705032704u
 const r7 = 8u >> 32u; // u32 = 8u
@@ -15,5 +14,5 @@ const r12 = 1i << 33u; // i32 = 2i
 const r13 = 1i << 31u; // i32 = -2147483648i
 override count = 3; // i32 = 3i
 override width: u32 = 4; // u32 = 4u
-override height: u32; // not evaluated: needs what is no constant, `height`
+override height: u32; // not evaluated: needs an override, `height`
 const area = width * 2; // u32 = 8u

@@ -14,10 +14,9 @@ const r12 = extractBits(1u, 16, 16); // u32 = 0u
 const r13 = insertBits(255u, 0u, 4, 32); // u32 = 15u; warning: the standard refuses offset + count past 32
 const r14 = 1i << 33u; // i32 = 2i; warning: the standard shifts by less than the width
 const r15 = 1u << 32u; // u32 = 1u; warning: the standard shifts by less than the width
-const r16 = 1li << 64u; // i64 = 1li; warning: the standard shifts by less than the width
 const r17 = vec2(1u, 1u) << vec2(1u, 33u); // vec2<u32> = vec2(2u, 2u); warning: the standard shifts by less than the width
 const r18 = 1 << 64; // AbstractInt = 0; warning: the standard shifts by less than the width
 const r19 = 0 << 64; // AbstractInt = 0
-const r20 = countLeadingZeros(1); // AbstractInt = 63; warning: the standard takes this as an i32 first
-const r21 = countOneBits(7); // AbstractInt = 3; warning: the standard takes this as an i32 first
-const r22 = bitcast<u32>(-1); // error: -1 is no u32: bitcast<u32>(-1); the standard takes it as an i32 first
+const r20 = countLeadingZeros(1); // i32 = 31i
+const r21 = countOneBits(7); // i32 = 3i
+const r22 = bitcast<u32>(-1); // u32 = 4294967295u

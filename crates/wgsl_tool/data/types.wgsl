@@ -28,7 +28,6 @@ const n21 = !!false; // bool = false
 const n22 = ~~5i; // i32 = 5i
 const n23 = -(-2147483647i - 1i); // i32 = -2147483648i
 const n24 = 7i; // i32 = 7i
-const n25 = 9223372036854775807li; // i64 = 9223372036854775807li
 const n26 = 0u; // u32 = 0u
 const n27 = 0X00ffu; // u32 = 255u
 const n28 = 0xABCDEFi; // i32 = 11259375i
@@ -43,10 +42,6 @@ const f4 = .5; // not evaluated: needs floats, `.5`
 const f5 = 1.e-3f; // not evaluated: needs floats, `1.e-3f`
 const f6 = 0x.8p+1h; // not evaluated: needs floats, `0x.8p+1h`
 // Types that a value shows.
-alias Longs = vec2<i64>;
-const longs = Longs(); // vec2<i64> = vec2(0li, 0li)
-alias Long = u64;
-const long = Long(); // u64 = 0lu
 alias Bools = vec2<bool>;
 const bools = Bools(); // vec2<bool> = vec2(false, false)
 alias Two = vec2<i32,>;
@@ -61,18 +56,18 @@ const_assert 1 < 2; // ok
 // What is no constant.
 override factor: f32; // none
 @id(7) override count: u32; // none
-const of_count = count + 1; // not evaluated: needs what is no constant, `count`
+const of_count = count + 1; // not evaluated: needs an override, `count`
 struct Overridden { a: array<u32, count>, } // ok
-const overridden = Overridden(); // not evaluated: needs what is no constant, `Overridden`
+const overridden = Overridden(); // not evaluated: needs an override, `Overridden`
 override width = 4; // none
 var<workgroup> shared_row: array<f32, width>; // ok
 alias Doubled = array<u32, width * 2>; // ok
-const doubled = Doubled(); // not evaluated: needs what is no constant, `Doubled`
+const doubled = Doubled(); // not evaluated: needs an override, `Doubled`
 override below: u32 = -1; // none
 @group(0) @binding(0) var image: texture_2d<f32>; // ok
 var nearest: sampler; // ok
-const of_image = image; // not evaluated: needs what is no constant, `image`
-const of_nearest = nearest; // not evaluated: needs what is no constant, `nearest`
+const of_image = image; // not evaluated: needs a type without constants, `image`
+const of_nearest = nearest; // not evaluated: needs a type without constants, `nearest`
 fn limited(a: i32) -> i32 { if (a < 1) { return 2; } return a; }
 const behind_limited = 1; // AbstractInt = 1
 // Faults of attributes and variables.
@@ -106,7 +101,7 @@ struct OfAlias { a: Three } // ok
 const of_alias = OfAlias(); // nothing
 struct Lines {
     a: u32,
-    b: é, // error: nothing has this name
+    b: é, // error: nothing is named é
 }
 struct A { a: vec2u, b: vec2u, c: vec2u, d: vec2u } // ok
 struct B { a: A, b: A, c: A, d: A, e: A, f: A, g: A, h: A } // ok

@@ -1,5 +1,5 @@
-//! Tests of types and literals, which stand in a crate of their own: a crate is proved a second time with
-//! its tests, and tests of several crates are proved side by side.
+//! Tests of types, literals and what variables share, which stand in a crate of their own: a crate is proved a
+//! second time with its tests, and tests of several crates are proved side by side.
 #![tactic(auto)]
 
 #[cfg(test)]

@@ -1,9 +1,11 @@
 //! Each call that takes memory.
 
 mod declarations;
+mod dialects;
 mod evaluations;
 mod functions;
 mod operators;
+mod parameters;
 mod values;
 
 use std::alloc::AllocError;

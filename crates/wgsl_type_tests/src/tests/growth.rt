@@ -2,4 +2,5 @@
 //! be so after each.
 
 mod errors;
+mod shared;
 mod types;
