@@ -7,7 +7,7 @@ use Rattle.std.proofs.lemmas.Grind.{common_steps}
 use Rattle.std.proofs.lemmas.List.{take-append-drop, drop-drop}
 use Rattle.std.proofs.lemmas.Slice.Eq.{starts_is}
 use Rattle.std.specs.Char.{is_ascii_alphanumeric}
-use Rattle.std.specs.List.{list_any, starts_with}
+use Rattle.std.specs.List.{starts_with}
 use Rattle.wgsl_source.specs.Blanks.{blanks, IsBlank, IsCharacter, IsLineComment, IsBlockComment, Line, Comment, begins_line_break, begins_with_one, HasNoBlank, has_no_mark}
 use Rattle.wgsl_source.specs.Blanks.Line.{ends, breaks, goes_on}
 use Rattle.wgsl_source.specs.Blanks.Comment.{closes, inner, passes}

@@ -1,7 +1,6 @@
 -- What was told is told.
-use Rattle.std.proofs.Common.{ℕ, ◌≡◌, ◌<◌, List, length, arith}
+use Rattle.std.proofs.Common.{ℕ, List, arith}
 use Rattle.std.proofs.lemmas.List.Sorted.{Contains-permutation, length_permutation}
-use Rattle.std.specs.List.{Contains}
 use Rattle.std.specs.List.Sorted.{IsPermutation}
 use Rattle.std.proofs.lemmas.Option.{IfSome_then}
 use Rattle.wgsl_source.specs.Blanks.{IsCovered}

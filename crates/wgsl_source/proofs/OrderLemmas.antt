@@ -1,7 +1,6 @@
 -- Each declaration has one place.
-use Rattle.std.proofs.Common.{◌≡◌, ◌≢◌, ℕ, ◌+◌, ◌<◌, ◌≤◌, ◌==◌, nat_lt, Bool, true, false, cond, eqb, Option, Some, None, List, [], ◌∷◌, ◌++◌, length, set, slice_get, zero, suc, inl, inr, eq-eqb, ne_eqb, lt-ltb, le-ltb, refl, ◌∙◌, ap, sym, arith}
+use Rattle.std.proofs.Common.{◌≡◌, ◌≢◌, ℕ, ◌+◌, ◌<◌, ◌==◌, nat_lt, true, false, cond, Some, List, [], ◌∷◌, ◌++◌, length, set, slice_get, zero, suc, inl, inr, eq-eqb, ne_eqb, lt-ltb, le-ltb, refl, ◌∙◌, ap, sym, arith}
 use Rattle.std.proofs.lemmas.Bool.{cases_eq, cases_lt}
-use Rattle.std.proofs.lemmas.Grind.{common_steps}
 use Rattle.std.proofs.lemmas.List.Sums.{sum_by_push}
 use Rattle.std.proofs.lemmas.Option.{slice_get_past, slice_get_within}
 use Rattle.wgsl_source.specs.Orders.{times_in, places_with}

@@ -1,20 +1,18 @@
 -- One piece more.
-use Rattle.std.proofs.Common.{◌≡◌, ℕ, ◌+◌, ◌<◌, ◌≤◌, All, Contains, Option, Some, None, List, [], ◌∷◌, ◌++◌, length, get_or, slice_index, map, zero, suc, refl, subst, sym, ◌∙◌, ap, add-one, append-nil, Result, IfOk, arith}
+use Rattle.std.proofs.Common.{◌≡◌, ℕ, ◌+◌, ◌<◌, ◌≤◌, All, None, List, [], ◌∷◌, ◌++◌, length, slice_index, map, refl, subst, sym, ◌∙◌, ap, add-one, append-nil, Result, IfOk, arith}
 use Rattle.std.proofs.lemmas.Grind.{common_steps}
 use Rattle.std.proofs.lemmas.List.Elements.{All-weaker, All-push, filter_map-append}
 use Rattle.std.proofs.lemmas.List.{map-append, length-map}
 use Rattle.std.proofs.lemmas.Result.{IfOk-weaker}
-use Rattle.std.specs.List.{filter_map}
 use Rattle.std.specs.List.{cons_option}
-use Rattle.wgsl_source.specs.Declarations.{IsRead, IsItem}
-use Rattle.wgsl_source.specs.Faults.{KeepsFaults, IsTold}
+use Rattle.wgsl_source.specs.Declarations.{IsRead}
+use Rattle.wgsl_source.specs.Faults.{KeepsFaults}
 use Rattle.wgsl_source.specs.Pieces.{Reach, Has, IsPiece, declaration_in, assertion_in, declarations_in, assertions_in, numbers}
 use Rattle.wgsl_source.specs.Readings.{extent_in, fault_at}
 use Rattle.wgsl_source.specs.declared.cursor.Cursor.{Cursor}
 use Rattle.wgsl_source.specs.declared.declaration.Declaration.{Declaration as Declared}
 use Rattle.wgsl_source.specs.declared.expression.Span.{Span}
 use Rattle.wgsl_source.specs.declared.fault.Fault.{Fault}
-use Rattle.wgsl_source.specs.declared.fault.Reason.{Reason}
 use Rattle.wgsl_source.specs.declared.module.Extent.{Extent}
 use Rattle.wgsl_source.specs.declared.piece.Piece.{Piece}
 use Rattle.wgsl_source.specs.declared.piece.PieceKind.{PieceKind}

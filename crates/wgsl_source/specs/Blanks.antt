@@ -1,5 +1,5 @@
 -- Blank text, and what a text is made of (WGSL: blankspace and line breaks; comments; tokens).
-use Rattle.std.specs.Prelude.{◌≡◌, ℕ, nat_eq, ◌<◌, ◌≤◌, Bool, true, false, not, ◌||◌, ⊤, Option, Some, None, IfSome, ◌⊎◌, List, [], ◌∷◌, ◌++◌, Contains, codes, drop, encode_utf8, length}
+use Rattle.std.specs.Prelude.{◌≡◌, ℕ, nat_eq, ◌<◌, ◌≤◌, Bool, true, false, not, ◌||◌, Option, Some, None, IfSome, ◌⊎◌, List, [], ◌∷◌, ◌++◌, Contains, codes, drop, encode_utf8, length}
 use Rattle.std.specs.List.{list_any, starts_with}
 use Rattle.wgsl_source.specs.Faults.{IsTold}
 use Rattle.wgsl_source.specs.declared.fault.Fault.{Fault}

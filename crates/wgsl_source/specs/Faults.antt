@@ -1,5 +1,5 @@
 -- The faults that are told of a source.
-use Rattle.std.specs.Prelude.{ℕ, ◌<◌, ◌≤◌, List, length, Contains}
+use Rattle.std.specs.Prelude.{◌<◌, ◌≤◌, List, length, Contains}
 use Rattle.wgsl_source.specs.declared.fault.Fault.{Fault}
 
 -- the fault is told, unless as many are as are told of a source

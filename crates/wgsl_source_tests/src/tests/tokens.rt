@@ -21,7 +21,10 @@ const TEMPLATES: [(&str, &str); 5] = [
 
 const TOKENS: [(&str, &str); 6] = [
     ("\u{feff}const N = 1;", "const N"),
-    ("const N = 1;\u{feff}", "const N; 1:13 expected a declaration"),
+    (
+        "const N = 1;\u{feff}",
+        "const N; 1:13 expected a declaration",
+    ),
     (
         "/* a /* b */ /* c /* d */ */ e */ const N = 1; // f */ const M = 2;",
         "const N",

@@ -1,4 +1,4 @@
-use Rattle.std.proofs.Common.{All, List, None, map, subst, arith}
+use Rattle.std.proofs.Common.{All, List, map, subst, arith}
 use Rattle.std.proofs.lemmas.List.{take_all}
 use Rattle.wgsl_source.specs.Identifiers.{IsNameOrTold}
 use Rattle.wgsl_source.specs.Readings.{extent_in}

@@ -1,5 +1,4 @@
-use Rattle.std.proofs.Common.{◌≡◌, ◌+◌, ◌≤◌, List, ℕ, length, suc, sym, subst, ap, drop, ◌∙◌, add-one, length-drop, arith}
-use Rattle.wgsl_source.specs.Blanks.{Comment}
+use Rattle.std.proofs.Common.{◌≡◌, ◌+◌, List, ℕ, length, sym, subst, ap, drop, ◌∙◌, add-one, length-drop, arith}
 use Rattle.wgsl_source.proofs.BlankLemmas.{Comments, comment_opens_here, comment_closes_here, comment_closed, comment_passes}
 use Rattle.wgsl_source.proofs.lexer.behind_comment.Goals as goal
 

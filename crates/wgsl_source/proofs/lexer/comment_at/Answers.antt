@@ -1,4 +1,4 @@
-use Rattle.std.proofs.Common.{List, ℕ, inl, inr, subst, arith}
+use Rattle.std.proofs.Common.{List, ℕ, inr, subst, arith}
 use Rattle.wgsl_source.specs.Blanks.{Comment}
 use Rattle.wgsl_source.proofs.BlankLemmas.{block_comment}
 use Rattle.wgsl_source.proofs.lexer.comment_at.Goals as goal

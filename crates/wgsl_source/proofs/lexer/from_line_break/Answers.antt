@@ -1,4 +1,4 @@
-use Rattle.std.proofs.Common.{List, ℕ, sym, subst, arith}
+use Rattle.std.proofs.Common.{List, ℕ, subst, arith}
 use Rattle.wgsl_source.specs.Blanks.{Line}
 use Rattle.wgsl_source.proofs.BlankLemmas.{line_breaks_here, line_ends_here, line_goes_on}
 use Rattle.wgsl_source.proofs.lexer.from_line_break.Goals as goal

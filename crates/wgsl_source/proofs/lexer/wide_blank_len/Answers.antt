@@ -1,6 +1,5 @@
 use lib.Utf8.{encode}
-use Rattle.std.proofs.Common.{◌<◌, [], ◌∷◌, refl, sym, ◌∙◌, arith}
-use Rattle.wgsl_source.specs.Blanks.{IsCharacter}
+use Rattle.std.proofs.Common.{[], ◌∷◌, refl, sym, ◌∙◌, arith}
 use Rattle.wgsl_source.proofs.BlankLemmas.{begun, none_of_five}
 use Rattle.wgsl_source.proofs.lexer.wide_blank_len.Goals as goal
 

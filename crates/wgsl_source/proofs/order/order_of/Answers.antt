@@ -1,4 +1,4 @@
-use Rattle.std.proofs.Common.{ℕ, List, length, IfOk, subst}
+use Rattle.std.proofs.Common.{ℕ, IfOk, subst}
 use Rattle.wgsl_source.specs.Orders.{IsOrderOf}
 use Rattle.wgsl_source.proofs.FaultLemmas.{kept_then}
 use Rattle.wgsl_source.proofs.order.order_of.Goals as goal

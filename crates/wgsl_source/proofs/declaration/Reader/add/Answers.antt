@@ -1,7 +1,5 @@
 use Rattle.std.proofs.Common.{Contains, List, ℕ, refl, subst, sym, ◌∙◌, arith}
-use Rattle.wgsl_source.specs.Declarations.{IsItem}
 use Rattle.wgsl_source.specs.Pieces.{directives}
-use Rattle.wgsl_source.specs.declared.declaration.Declaration.{Declaration}
 use Rattle.wgsl_source.specs.declared.piece.PieceKind.TheVariants.{Directive, Semicolon}
 use Rattle.wgsl_source.proofs.PieceLemmas.{added-declaration, added-assertion, added-other}
 use Rattle.wgsl_source.proofs.ReadingLemmas.{word_of-token}

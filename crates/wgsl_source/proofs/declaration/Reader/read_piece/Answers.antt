@@ -1,7 +1,6 @@
-use Rattle.std.proofs.Common.{ℕ, List, length, map, subst, refl, sym, ap, ◌∙◌, arith}
+use Rattle.std.proofs.Common.{ℕ, length, map, subst, refl, sym, ◌∙◌, arith}
 use Rattle.wgsl_source.specs.Declarations.{IsItem}
 use Rattle.wgsl_source.specs.Faults.{IsTold}
-use Rattle.wgsl_source.specs.Readings.{extent_in, fault_at}
 use Rattle.wgsl_source.specs.declared.cursor.Cursor.{Cursor}
 use Rattle.wgsl_source.specs.declared.declaration.Declaration.{Declaration}
 use Rattle.wgsl_source.specs.declared.piece.PieceKind.TheVariants.{Fault}

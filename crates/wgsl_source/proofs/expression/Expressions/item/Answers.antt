@@ -1,4 +1,4 @@
-use Rattle.std.proofs.Common.{◌≡◌, ◌+◌, ◌≤◌, ◌∙◌, ap, sym, arith}
+use Rattle.std.proofs.Common.{◌∙◌, ap, sym, arith}
 use Rattle.wgsl_source.specs.declared.cursor.Cursor.{Cursor}
 use Rattle.wgsl_source.proofs.expression.Expressions.item.Goals as goal
 

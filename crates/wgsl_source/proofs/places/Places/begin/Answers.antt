@@ -1,4 +1,3 @@
-use Rattle.std.proofs.Common.{Some, ◌∙◌, ap, sym}
 use Rattle.wgsl_source.proofs.OrderLemmas.{begun-once}
 use Rattle.wgsl_source.proofs.places.Places.begin.Goals as goal
 

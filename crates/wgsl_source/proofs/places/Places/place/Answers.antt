@@ -1,4 +1,4 @@
-use Rattle.std.proofs.Common.{◌≡◌, ◌++◌, ◌∷◌, [], ℕ, List, subst, sym, arith}
+use Rattle.std.proofs.Common.{◌≡◌, ℕ, List, subst, sym, arith}
 use Rattle.wgsl_source.specs.Orders.{times_in, places_with}
 use Rattle.wgsl_source.specs.declared.places.Mark.TheVariants.{Done}
 use Rattle.std.proofs.Common.{set, slice_get}
