@@ -74,7 +74,7 @@ fn a_bool_in_arrays(rt: HostRuntime) {
     let alloc = rt.alloc();
     let levels = levels(&rt);
     let ty = arrays(&rt, alloc, levels, Type::Bool);
-    assert_of_bool(&rt, alloc, ty, 2 * levels);
+    assert_of_bool(&rt, alloc, ty, levels.saturating_mul(2));
 }
 
 #[test]
@@ -82,7 +82,7 @@ fn a_bool_in_structures(rt: HostRuntime) {
     let alloc = rt.alloc();
     let levels = levels(&rt);
     let ty = structures(&rt, alloc, levels, Type::Bool);
-    assert_of_bool(&rt, alloc, ty, 2 * levels - 1);
+    assert_of_bool(&rt, alloc, ty, levels.saturating_mul(2).saturating_sub(1));
 }
 
 /// Asserts how long the path of the one fault is that is told of the structure.
@@ -95,7 +95,8 @@ fn assert_declared(rt: &impl Abort, alloc: Global, ty: StructType, length: usize
 #[test]
 fn an_abstract_number_in_arrays_of_a_member(rt: HostRuntime) {
     let alloc = rt.alloc();
-    let inside = levels(&rt) - 1;
+    let inside = levels(&rt).saturating_sub(1);
     let arrays = arrays(&rt, alloc, inside, Type::AbstractInt);
-    assert_declared(&rt, alloc, structure(&rt, alloc, arrays), 1 + 2 * inside);
+    let length = inside.saturating_mul(2).saturating_add(1);
+    assert_declared(&rt, alloc, structure(&rt, alloc, arrays), length);
 }
