@@ -25,7 +25,7 @@ loop-number-preserved c =
       members = members_pushed s t c.args.first n members.items c.push.new.self.items c.in-Member.member c.field.result c.in-Some.field c.loop-number.invariant.keeps
           c.field.ensures c.in-Some.is (subst P c.in-Member.is c.in_ok-member.ensures.found).0 at c.in_ok-push-in-Member.ensures.items c.loop-number.invariant.members;
       floats = floats_more members.items c.push.new.self.items c.in-Member.member _ _ _ c.in_ok-push-in-Member.ensures.items c.loop-number.invariant.floats
-          (subst P c.in-Member.is c.in_ok-member.ensures.found).1 c.with.ensures;
+          (subst P c.in-Member.is c.in_ok-member.ensures.found).1 c.with-together.ensures;
     }
 
 pub returns-clause-structure : goal.returns-clause-structure
