@@ -61,6 +61,7 @@ IsNumberGiven s (Some span) valid n =
 abbrev pub IsNoNumber : Answer → Answer → Type 0
 IsNoNumber (answers.Skipped s) answer =
     IsFault answer ⊎ ((s.need ≡ needs.Float) × (answer ≡ answers.Skipped (record s { part = parts.Attribute })))
+IsNoNumber (answers.Value v) answer = IsFault answer
 IsNoNumber (answers.Variable v) answer = IsFault answer
 IsNoNumber (answers.Type t) answer = IsFault answer
 IsNoNumber (answers.Bitcast t) answer = IsFault answer
