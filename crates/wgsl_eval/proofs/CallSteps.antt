@@ -1,10 +1,11 @@
 -- What template lists and calls give.
 use Rattle.std.specs.declared.alloc.AllocError.{AllocError}
-use Rattle.std.proofs.Common.{◌≡◌, ◌∙◌, inl, inr, ℕ, Bool, true, false, List, [], ◌∷◌, ◌++◌, map, Option, Some, None, Result, Ok, Err, IfOk, MatchOption, refl, sym, ap, subst}
+use Rattle.std.proofs.Common.{◌≡◌, ◌∙◌, ◌⊎◌, inl, inr, ℕ, Bool, true, false, List, [], ◌∷◌, ◌++◌, map, Option, Some, None, Result, Ok, Err, IfOk, MatchOption, refl, sym, ap, subst}
 use Rattle.std.specs.Prelude.{IsTrue, codes}
 use Rattle.wgsl_functions.specs.Names.{IsNameOf}
 use Rattle.wgsl_functions.specs.declared.builtin.Builtin.{Builtin}
 use Rattle.wgsl_functions.specs.declared.parameters.Dialect.{Dialect}
+use Rattle.wgsl_apply.specs.Literals.{natural_of}
 use Rattle.wgsl_rules.specs.InCommon.{prepended}
 use Rattle.wgsl_rules.specs.Types.{Ty}
 use Rattle.wgsl_rules.specs.Values.{Val}
@@ -18,11 +19,12 @@ use Rattle.wgsl_values.specs.View.{value_of}
 use Rattle.wgsl_values.specs.declared.inst.Instance.{Instance}
 use Rattle.wgsl_eval.proofs.Answered.{fault-maybe}
 use Rattle.wgsl_eval.specs.Answers.{AreSound, IsAnswer, IsFault, IsSkippedFor, IsUnready, value_in}
-use Rattle.wgsl_eval.specs.Calls.{AreValues, IsBitcastOf, IsCall, IsCallOf, IsCounted, IsForValues, IsFunctionCall, IsGenerated, IsGeneratedOf, IsLanguageCall, IsNoValue, IsOfType, IsOfValuesOf, IsSomeCall, IsTemplateOf, IsTypeCall, values_of}
+use Rattle.wgsl_eval.specs.Calls.{AreValues, IsBitcastOf, IsCall, IsCallOf, IsCounted, IsForValues, IsFunctionCall, IsGenerated, IsGeneratedOf, IsLanguageCall, IsLanguageType, IsNoValue, IsOfType, IsOfValuesOf, IsSomeCall, IsTemplateOf, IsTypeCall, values_of}
 use Rattle.wgsl_eval.specs.Constructors.{MayBe}
 use Rattle.wgsl_eval.specs.Evaluators.{Setting}
 use Rattle.wgsl_eval.specs.Opaque.{is_opaque}
 use Rattle.wgsl_eval.specs.Reasons.{has_floats}
+use Rattle.wgsl_eval.specs.TypeNames.{predeclared_type}
 use Rattle.wgsl_eval.specs.declared.answer.Answer.{Answer}
 use Rattle.wgsl_eval.specs.declared.answer.Answer.TheVariants as answers
 use Rattle.wgsl_eval.specs.declared.answer.Need.TheVariants as needs
@@ -56,10 +58,6 @@ for-values given P vs a e h = let Q : Option (List Val) → Type 0 = λ o. Match
 pub all-for-values : (given : List Answer) (P : List Val → Answer → Type 0) (vs : List Val) (r : Result Answer AllocError) → values_of given ≡ Some vs → IfOk r (P vs) → IfOk r (IsForValues given P)
 all-for-values given P vs (Ok a) e h = for-values given P vs a e h
 all-for-values given P vs (Err x) e h = tt
-
--- the values that were taken of the arguments
-taken-are : (given : List Answer) (x : Arguments) (is : List Instance) (size : Size) → AreValues given x → x ≡ arguments.Values is size → values_of given ≡ Some (map value_of is)
-taken-are given x is size h e = let P : Arguments → Type 0 = λ y. AreValues given y in (subst P e h).0
 
 -- what there is in their place
 pub no-values-for : (given : List Answer) (P : List Val → Answer → Type 0) (a : Answer) → IsNoValue given a → IsForValues given P a
@@ -122,6 +120,25 @@ pub some-call : (d : Dialect) (P : Answer → Type 0) (callee : Answer) (given :
     → IfOk r (IsSomeCall d P given)
 some-call d P callee given (Ok a) h k = (callee, h, k)
 some-call d P callee given (Err x) h k = tt
+
+-- in a dialect that stays
+pub some-call-at : (d e : Dialect) (P : Answer → Type 0) (callee : Answer) (given : List Answer) (r : Result Answer AllocError) → e ≡ d → P callee → IfOk r (IsCallOf e callee given)
+    → IfOk r (IsSomeCall d P given)
+some-call-at d e P callee given r same h k =
+    let Q : Dialect → Type 0 = λ x. IfOk r (IsCallOf x callee given) in
+    some-call d P callee given r h (subst Q same k)
+
+-- a type by its name, which is no generator
+pub typed-call : (s : Setting) (e : Dialect) (p : Predeclared) (callee : Answer) (given : List Answer) (r : Result Answer AllocError) → ((g : Generator) → p ≡ named.Generator g → ⊥)
+    → e ≡ s.dialect → IsLanguageType (predeclared_type p) callee → IfOk r (IsCallOf e callee given) → IfOk r (IsTypeCall s p given)
+typed-call s e (named.Generator g) callee given r n same h k = absurd (n g refl)
+typed-call s e (named.Scalar x) callee given r n same h k = some-call-at s.dialect e (IsLanguageType (predeclared_type (named.Scalar x))) callee given r same h k
+typed-call s e (named.Vec m x) callee given r n same h k = some-call-at s.dialect e (IsLanguageType (predeclared_type (named.Vec m x))) callee given r same h k
+typed-call s e (named.Mat m q x) callee given r n same h k = some-call-at s.dialect e (IsLanguageType (predeclared_type (named.Mat m q x))) callee given r same h k
+
+-- what there is in place of the values
+pub other-for : (given : List Answer) (x : Arguments) (P : List Val → Answer → Type 0) (a : Answer) → AreValues given x → x ≡ arguments.Other a → IsForValues given P a
+other-for given x P a h e = let Q : Arguments → Type 0 = λ y. AreValues given y in no-values-for given P a (subst Q e h).0
 
 -- ---- calls of functions
 
@@ -187,6 +204,17 @@ fault-generated g given (Err x) h = tt
 pub one-generated : (g : Generator) (given : List Answer) (inner : Answer) (r : Result Answer AllocError) → given ≡ inner ∷ [] → IfOk r (IsGeneratedOf g inner None) → IfOk r (IsGenerated g given)
 one-generated g given inner (Ok a) e h = inr (inl (inner, e, h))
 one-generated g given inner (Err x) e h = tt
+
+counted-fault : (inner : Answer) (o : Option ℕ) (a : Answer) → IsFault a → MatchOption o (IsFault a) (λ n. IsFault a ⊎ IsGeneratedOf generators.Array inner (Some n) a)
+counted-fault inner None a h = h
+counted-fault inner (Some n) a h = inl h
+
+-- a count that is no number from 1 on
+pub fault-counted : (inner count : Answer) (v : Value) (r : Result Answer AllocError) → count ≡ answers.Value v → IfOk r IsFault → IfOk r (IsCounted inner count)
+fault-counted inner count v (Ok a) e h =
+    let P : Answer → Type 0 = λ x. IsCounted inner x a in
+    subst P (sym e) (counted-fault inner (natural_of (value_of v.instance)) a h)
+fault-counted inner count v (Err x) e h = tt
 
 pub two-generated : (g : Generator) (given : List Answer) (inner count : Answer) (r : Result Answer AllocError) → g ≡ generators.Array → given ≡ inner ∷ count ∷ []
     → IfOk r (IsCounted inner count) → IfOk r (IsGenerated g given)

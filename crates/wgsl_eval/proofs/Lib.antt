@@ -1,4 +1,5 @@
 pub mod Answered
+pub mod Beyond
 pub mod CallSteps
 pub mod Columns
 pub mod ConvertedLists

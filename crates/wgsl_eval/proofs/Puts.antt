@@ -1,5 +1,6 @@
 -- A meaning in the place of its declaration.
-use Rattle.std.proofs.Common.{◌≡◌, ◌≢◌, ◌↔◌, ℕ, ◌<◌, Bool, true, false, List, length, Result, Ok, Err, Some, refl, sym, ap, ◌∙◌, subst, inl, inr}
+use Rattle.std.specs.declared.alloc.AllocError.{AllocError}
+use Rattle.std.proofs.Common.{◌⊎◌, IfOk, ◌≡◌, ◌≢◌, ◌↔◌, ℕ, ◌<◌, Bool, true, false, List, length, Result, Ok, Err, Some, refl, sym, ap, ◌∙◌, subst, inl, inr}
 use Rattle.std.specs.Prelude.{OnOk, slice_get, slice_set}
 use Rattle.std.proofs.lemmas.Bool.{false≢true}
 use Rattle.std.proofs.Math.Seq.{lt-length-set}
@@ -9,9 +10,13 @@ use Rattle.wgsl_eval.specs.Answers.{meaning_at}
 use Rattle.wgsl_eval.specs.Evaluation.{name_at}
 use Rattle.wgsl_eval.specs.Evaluators.{Setting}
 use Rattle.wgsl_eval.specs.Meanings.{IsDeclared, IsFoundAt, IsPlaced, IsSecond, told, with_fault, with_faults, with_meaning}
-use Rattle.wgsl_eval.specs.Assertions.{IsTold}
+use Rattle.wgsl_eval.specs.Assertions.{IsAssertion, IsTold}
 use Rattle.wgsl_eval.specs.Messages.{IsFaultMessage, faults_with}
 use Rattle.wgsl_eval.specs.declared.answer.Guard.{Guard}
+use Rattle.wgsl_eval.specs.declared.assertions.Assertion.{Assertion}
+use Rattle.wgsl_eval.specs.declared.assertions.Assertion.TheVariants as asserts
+use Rattle.wgsl_eval.specs.declared.sized.SizedType.{SizedType}
+use Rattle.wgsl_eval.specs.declared.variable.Variable.{Variable}
 use Rattle.wgsl_eval.specs.declared.message.Message.{Message}
 use Rattle.wgsl_eval.specs.declared.answer.Answer.{Answer}
 use Rattle.wgsl_eval.specs.declared.answer.Answer.TheVariants as answers
@@ -106,3 +111,13 @@ told_nothing s a n = told_not s a n
 -- a message that is a fault
 pub told_fault : (s t : Setting) (m : Message) → IsFaultMessage m → t ≡ with_fault s m → IsTold s t
 told_fault s t m h e = record { message = m; fault = h; told = e }
+
+-- what is asserted and neither a value nor skipped
+pub refuted_assertion : (s t : Setting) (a : Answer) (r : Result Assertion AllocError)
+    → ((u : SizedType) × (a ≡ answers.Type u)) ⊎ (((u : SizedType) × (a ≡ answers.Bitcast u)) ⊎ (((v : Variable) × (a ≡ answers.Variable v)) ⊎ ((n : ℕ) × (a ≡ answers.Named n))))
+    → IfOk r (λ found. (found ≡ asserts.Faulty) × IsTold s t) → IfOk r (λ found. IsAssertion s a found t)
+refuted_assertion s t a (Err e) is h = tt
+refuted_assertion s t a (Ok found) (inl w) h = let P : Answer → Type 0 = λ x. IsAssertion s x found t in subst P (sym w.1) h
+refuted_assertion s t a (Ok found) (inr (inl w)) h = let P : Answer → Type 0 = λ x. IsAssertion s x found t in subst P (sym w.1) h
+refuted_assertion s t a (Ok found) (inr (inr (inl w))) h = let P : Answer → Type 0 = λ x. IsAssertion s x found t in subst P (sym w.1) h
+refuted_assertion s t a (Ok found) (inr (inr (inr w))) h = let P : Answer → Type 0 = λ x. IsAssertion s x found t in subst P (sym w.1) h

@@ -1,6 +1,6 @@
 -- What is no type, and what is a structure.
 use Rattle.std.specs.declared.alloc.AllocError.{AllocError}
-use Rattle.std.proofs.Common.{◌≡◌, ◌∙◌, ◌+◌, ◌-◌, ◌≤◌, ◌<◌, ◌⊎◌, inl, inr, ℕ, Bool, true, false, ◌||◌, List, [], ◌∷◌, ◌++◌, Option, Some, Result, Ok, Err, IfOk, length, map, refl, sym, ap, subst}
+use Rattle.std.proofs.Common.{◌≡◌, ◌∙◌, ◌+◌, ◌-◌, ◌≤◌, ◌<◌, ◌⊎◌, inl, inr, ℕ, Bool, true, false, ◌||◌, List, [], ◌∷◌, ◌++◌, Option, Some, None, Result, Ok, Err, IfOk, length, map, refl, sym, ap, subst}
 use Rattle.std.specs.Prelude.{IsSomeAnd, slice_get}
 use Rattle.std.proofs.lemmas.List.{length-map, map-append}
 use Rattle.wgsl_rules.specs.Types.{struct}
@@ -9,12 +9,20 @@ use Rattle.wgsl_rules.specs.declared.ty.StructMemberType.{StructMemberType}
 use Rattle.wgsl_source.specs.Readings.{word_at}
 use Rattle.wgsl_source.specs.declared.module.Field.{Field}
 use Rattle.wgsl_eval.proofs.Told.{all_pushed}
+use Rattle.std.specs.Option.{option_and_then}
+use Rattle.wgsl_apply.specs.Literals.{natural_of}
+use Rattle.wgsl_values.specs.View.{value_of}
+use Rattle.wgsl_source.specs.declared.expression.Span.{Span}
+use Rattle.wgsl_eval.proofs.Answered.{fault-answer}
+use Rattle.wgsl_eval.specs.declared.answer.Skip.{Skip}
+use Rattle.wgsl_eval.specs.declared.attribute.Attribute.{Attribute}
+use Rattle.wgsl_eval.specs.declared.attribute.Attribute.TheVariants as attributes
 use Rattle.wgsl_eval.specs.Answers.{IsAnswer, IsFault, IsNoType, value_in}
 use Rattle.wgsl_eval.specs.Evaluators.{Setting}
 use Rattle.wgsl_eval.specs.Lists.{AllFrom}
 use Rattle.wgsl_eval.specs.Reasons.{has_floats, have_floats}
 use Rattle.wgsl_eval.specs.Runs.{IsFound}
-use Rattle.wgsl_eval.specs.Structures.{IsFoundMember, IsMember, IsMemberAt, IsNoMember, IsNone, IsNotGiven, IsNotTyped, IsStructure, IsStructureOf, IsWithout}
+use Rattle.wgsl_eval.specs.Structures.{IsAttribute, IsFoundMember, IsMember, IsMemberAt, IsNoMember, IsNoNumber, IsNone, IsNotGiven, IsNotTyped, IsNumberGiven, IsNumberOf, IsStructure, IsStructureOf, IsWithout}
 use Rattle.wgsl_eval.specs.declared.answer.Answer.{Answer}
 use Rattle.wgsl_eval.specs.declared.answer.Answer.TheVariants as answers
 use Rattle.wgsl_eval.specs.declared.sized.SizedType.{SizedType}
@@ -130,3 +138,29 @@ pub floats_more : (ms all : List StructMemberType) (m : StructMemberType) (b c d
 floats_more ms all m b c d put h k e =
     let P : List StructMemberType → Type 0 = λ xs. d ≡ have_floats (fields_of (map member_view xs)) in
     subst P (sym put) (e ∙ ap (λ x. x || c) h ∙ ap (λ x. have_floats (fields_of (map member_view ms)) || x) k ∙ floats_last ms m)
+
+-- ---- attributes
+
+-- what is no number and stays
+pub other_number : (a b : Answer) → b ≡ a → value_in a ≡ None → ((s : Skip) → a ≡ answers.Skipped s → ⊥) → ((v : Variable) → a ≡ answers.Variable v → ⊥) → ((t : SizedType) → a ≡ answers.Type t → ⊥)
+    → ((t : SizedType) → a ≡ answers.Bitcast t → ⊥) → IsNoNumber a b
+other_number (answers.Value v) b e none n1 n2 n3 n4 = absurd (cc)
+other_number (answers.Skipped s) b e none n1 n2 n3 n4 = absurd (n1 s refl)
+other_number (answers.Variable v) b e none n1 n2 n3 n4 = absurd (n2 v refl)
+other_number (answers.Type t) b e none n1 n2 n3 n4 = absurd (n3 t refl)
+other_number (answers.Bitcast t) b e none n1 n2 n3 n4 = absurd (n4 t refl)
+other_number (answers.Named k) b e none n1 n2 n3 n4 = e
+other_number (answers.Wrong m g) b e none n1 n2 n3 n4 = e
+other_number answers.Faulty b e none n1 n2 n3 n4 = e
+
+-- the number that a value is, or a fault
+pub number_attribute : (s : Setting) (o : Option Span) (span : Span) (valid : ℕ → Bool) (a : Answer) (v : Value) (r : Result Attribute AllocError) → o ≡ Some span → IsFound s span a
+    → a ≡ answers.Value v → IfOk r (IsNumberOf (value_of v.instance) valid) → IfOk r (IsAttribute s o valid)
+number_attribute s o span valid a v (Err e) is found k h = tt
+number_attribute s o span valid a v (Ok (attributes.Number n)) is found k h =
+    let P : Option Span → Type 0 = λ q. IsNumberGiven s q valid n in
+    subst P (sym is) (a, found, ap (λ x. option_and_then natural_of (value_in x)) k ∙ h.0, h.1)
+number_attribute s o span valid a v (Ok (attributes.Other b)) is found k h =
+    let P : Option Span → Type 0 = λ q. IsNotGiven s q b in
+    let Q : Answer → Type 0 = λ x. IsNoNumber x b in
+    (fault-answer b h, fault-nothing b h, subst P (sym is) (a, found, subst Q (sym k) h))

@@ -14,7 +14,7 @@ use Rattle.wgsl_source.specs.declared.expression.Span.{Span}
 use Rattle.wgsl_source.specs.declared.expression.Step.{Step}
 use Rattle.wgsl_source.specs.declared.expression.Step.TheVariants as steps
 use Rattle.wgsl_eval.specs.Answers.{AreAnswers, IsAnswer, IsSoundValue, meaning_at}
-use Rattle.wgsl_eval.specs.Calls.{IsCall, IsCallOf}
+use Rattle.wgsl_eval.specs.Calls.{IsCall, IsCallOf, IsTemplate}
 use Rattle.wgsl_eval.specs.Evaluators.{Setting}
 use Rattle.wgsl_eval.specs.Given.{IsGiven, IsOfOne, IsOfTwo, UnlessRefused, below, last_ones, rest_of, top, without}
 use Rattle.wgsl_eval.specs.Parts.{IsElementOf, IsMemberOf}
@@ -249,6 +249,11 @@ pub done_binary : (s : Setting) (old mid new : List Answer) (op : BinaryOperator
     → IsDone s (steps.Binary op token) old new a
 done_binary s old mid new op token l r a right left given sound =
     done_two s (steps.Binary op token) old mid new l r a (λ x y b. UnlessRefused s.source token b (IsOfTwo s op x y b)) (λ before b g. g) (λ before. refl) right left given sound
+
+pub done_template : (s : Setting) (old new list : List Answer) (token n : ℕ) (a : Answer)
+    → IsTaken s.meanings n old list new → IsTemplate s (word_at s.source token) list a → IsAnswer a → IsDone s (steps.Template token n) old new a
+done_template s old new list token n a taken given sound =
+    done_list s (steps.Template token n) n old new list a (λ xs b. IsTemplate s (word_at s.source token) xs b) (λ before b g. g) (λ before. refl) taken given sound
 
 pub done_call_name : (s : Setting) (old new list : List Answer) (token n : ℕ) (a : Answer)
     → IsTaken s.meanings n old list new → IsCall s (word_at s.source token) list a → IsAnswer a → IsDone s (steps.Call token callees.Name n) old new a

@@ -84,23 +84,21 @@ pub record AreAssertedSoFar (s : Setting) (all : List Span) (i : ℕ) (found : L
 pub asserted_none : (s : Setting) (all : List Span) → AreAssertedSoFar s all 0 [] s
 asserted_none s all = record { asserted = λ left last r. r }
 
-pub asserted_more : (s : Setting) (all : List Span) (i : ℕ) (d span : Span) (found more : List Assertion) (a : Assertion) (now next : Setting)
-    → i < length all → span ≡ get_or all i d → more ≡ found ++ a ∷ [] → AreAssertedSoFar s all i found now → IsAsserted now span a next → AreAssertedSoFar s all (i + 1) more next
-asserted_more s all i d span found more a now next h is added so_far one = record {
+pub asserted_more : (s : Setting) (all : List Span) (i : ℕ) (d : Span) (found more : List Assertion) (a : Assertion) (now next : Setting)
+    → i < length all → more ≡ found ++ a ∷ [] → AreAssertedSoFar s all i found now → IsAsserted now (get_or all i d) a next → AreAssertedSoFar s all (i + 1) more next
+asserted_more s all i d found more a now next h added so_far one = record {
   asserted = λ left last r.
       let P : List Span → Type 0 = λ ss. AreAsserted now ss (a ∷ left) last in
       let Q : List Assertion → Type 0 = λ xs. AreAsserted s all xs last in
-      let R : Span → Type 0 = λ x. IsAsserted now x a next in
       let same : found ++ a ∷ left ≡ more ++ left = sym (append_assoc found (a ∷ []) left) ∙ ap (λ xs. xs ++ left) (sym added) in
-      subst Q same (so_far.asserted (a ∷ left) last (subst P (sym (dropped_at all i d h)) (next, subst R is one, r)));
+      subst Q same (so_far.asserted (a ∷ left) last (subst P (sym (dropped_at all i d h)) (next, one, r)));
 }
 
-pub asserted_all : (s : Setting) (all : List Span) (i : ℕ) (found : List Assertion) (now : Setting) → i ≡ length all → AreAssertedSoFar s all i found now → AreAsserted s all found now
-asserted_all s all i found now e so_far =
+pub asserted_all : (s : Setting) (all : List Span) (found : List Assertion) (now : Setting) → AreAssertedSoFar s all (length all) found now → AreAsserted s all found now
+asserted_all s all found now so_far =
     let P : List Span → Type 0 = λ ss. AreAsserted now ss [] now in
     let Q : List Assertion → Type 0 = λ xs. AreAsserted s all xs now in
-    let none : drop i all ≡ [] = ap (λ k. drop k all) e ∙ drop-length all in
-    subst Q (append-nil found) (so_far.asserted [] now (subst P (sym none) refl))
+    subst Q (append-nil found) (so_far.asserted [] now (subst P (sym (drop-length all)) refl))
 
 -- all but the faults stays
 abbrev pub IsLike : Setting → Setting → Type 0

@@ -61,9 +61,11 @@ IsNumberGiven s (Some span) valid n =
 abbrev pub IsNoNumber : Answer → Answer → Type 0
 IsNoNumber (answers.Skipped s) answer =
     IsFault answer ⊎ ((s.need ≡ needs.Float) × (answer ≡ answers.Skipped (record s { part = parts.Attribute })))
-IsNoNumber (answers.Wrong m guard) answer = answer ≡ answers.Wrong m guard
-IsNoNumber answers.Faulty answer = answer ≡ answers.Faulty
-IsNoNumber a answer = IsFault answer
+IsNoNumber (answers.Value v) answer = IsFault answer
+IsNoNumber (answers.Variable v) answer = IsFault answer
+IsNoNumber (answers.Type t) answer = IsFault answer
+IsNoNumber (answers.Bitcast t) answer = IsFault answer
+IsNoNumber a answer = answer ≡ a
 
 abbrev pub IsNotGiven : Setting → Option Span → Answer → Type 0
 IsNotGiven s None answer = ⊥

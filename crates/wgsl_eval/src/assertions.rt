@@ -25,6 +25,7 @@ pub enum Assertion {
 
 impl Evaluator<'_> {
     /// What is found of each assertion, one after the other.
+    #[tactic(auto, using(crate::proofs::Walks::asserted_none, crate::proofs::Walks::asserted_all))]
     pub(crate) fn assert_all(&mut self) -> Result<Vec<Assertion>, AllocError>
         requires { AreAnswers self.old.meanings.items }
         ensures asserted { IfOk result (λ found. AreAsserted (setting_of self.old) self.old.reading.now.asserts found.items (setting_of self.new)) }
@@ -60,7 +61,9 @@ impl Evaluator<'_> {
                 Ok(Assertion::Faulty)
             }
             Answer::Faulty => Ok(Assertion::Faulty),
-            _ => self.refuted(token, "a type stands where a value belongs"),
+            Answer::Type(_) | Answer::Bitcast(_) | Answer::Variable(_) | Answer::Named(_) => {
+                self.refuted(token, "a type stands where a value belongs")
+            }
         }
     }
 

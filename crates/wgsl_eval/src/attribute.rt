@@ -85,10 +85,11 @@ impl Evaluator<'_> {
     {
         match answer {
             Answer::Skipped(skip) => self.skipped_number(span, skip),
-            Answer::Wrong(message, guard) => Ok(Answer::Wrong(message, guard)),
-            Answer::Faulty => Ok(Answer::Faulty),
             Answer::Variable(_) => self.wrong_text(span.token, "an attribute is a constant"),
-            _ => self.wrong_text(span.token, "a type stands where a value belongs"),
+            Answer::Type(_) | Answer::Bitcast(_) => {
+                self.wrong_text(span.token, "a type stands where a value belongs")
+            }
+            other => Ok(other),
         }
     }
 

@@ -585,19 +585,32 @@ impl Evaluator<'_> {
         if self.reading.is_refused(token) {
             return Ok(Answer::Faulty);
         }
-        match (left, right) {
-            (Answer::Value(left), Answer::Value(right)) => {
-                self.of_two(operator, token, left, right)
+        match left {
+            Answer::Value(left) => self.binary_with(operator, token, left, right),
+            other => self.unready(token, other),
+        }
+    }
+
+    // The operator behind a left operand that is a value.
+    fn binary_with(
+        &mut self,
+        operator: BinaryOperator,
+        token: usize,
+        left: Value,
+        right: Answer,
+    ) -> Result<Answer, AllocError>
+        requires left { IsSoundValue left }
+        requires right { IsAnswer right }
+        ensures keeps { setting_of self.new ≡ setting_of self.old }
+        ensures given { IfOk result (IsOfTwo (setting_of self.old) operator (Answer.Value left) right) }
+        ensures answer { IfOk result IsAnswer }
+    {
+        match right {
+            Answer::Value(right) => self.of_two(operator, token, left, right),
+            Answer::Wrong(message, Guard::Guarded) if is_decided(operator, &left.instance) => {
+                Ok(Answer::Value(left))
             }
-            (Answer::Value(left), Answer::Wrong(message, Guard::Guarded)) => {
-                if is_decided(operator, &left.instance) {
-                    Ok(Answer::Value(left))
-                } else {
-                    Ok(Answer::Wrong(message, Guard::Guarded))
-                }
-            }
-            (Answer::Value(_), right) => self.unready(token, right),
-            (left, _) => self.unready(token, left),
+            other => self.unready(token, other),
         }
     }
 

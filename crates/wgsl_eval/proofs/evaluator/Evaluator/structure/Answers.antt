@@ -1,4 +1,4 @@
-use Rattle.std.proofs.Common.{◌≡◌, ◌∙◌, ◌+◌, ◌-◌, length, map, vec_len, ap, subst, arith, rules}
+use Rattle.std.proofs.Common.{◌≡◌, ◌∙◌, ◌+◌, ◌-◌, ◌≤◌, ◌<◌, length, map, vec_len, ap, subst, arith, rules}
 use Rattle.std.proofs.lemmas.Grind.{common_steps}
 use Rattle.std.proofs.lemmas.List.{length-map}
 use Rattle.wgsl_rules.specs.View.{member_view}
@@ -25,7 +25,7 @@ loop-number-preserved c =
       members = members_pushed s t c.args.first n members.items c.push.new.self.items c.in-Member.member c.field.result c.in-Some.field c.loop-number.invariant.keeps
           c.field.ensures c.in-Some.is (subst P c.in-Member.is c.in_ok-member.ensures.found).0 at c.in_ok-push-in-Member.ensures.items c.loop-number.invariant.members;
       floats = floats_more members.items c.push.new.self.items c.in-Member.member _ _ _ c.in_ok-push-in-Member.ensures.items c.loop-number.invariant.floats
-          (subst P c.in-Member.is c.in_ok-member.ensures.found).1 c.with.ensures;
+          (subst P c.in-Member.is c.in_ok-member.ensures.found).1 c.with-together.ensures;
     }
 
 pub returns-clause-structure : goal.returns-clause-structure
@@ -37,3 +37,13 @@ returns-clause-structure c =
     structures s c.args.name c.args.first c.args.end _ (map member_view members.items) c.structure_of.result
     (ap (λ (u : Setting). word_at u.source c.args.name) c.loop-number.invariant.keeps) (length-map members.items member_view ∙ counted ∙ count)
     c.loop-number.invariant.members c.structure_of.ensures.structure
+
+pub returns-in-Other-clause-structure : goal.returns-in-Other-clause-structure
+returns-in-Other-clause-structure c =
+    let t = setting_of c.loop-number.self in
+    let P : FoundMember → Type 0 = λ x. IsFoundMember t c.in-Some.field x in
+    let found = subst P c.in-Other.is c.in_ok-member.ensures.found in
+    let from : c.args.first ≤ c.loop-number.number = omega arith in
+    let to : c.loop-number.number < c.args.end = omega arith in
+    member-none (setting_of c.args.self.now) t c.args.name c.args.first c.args.end c.loop-number.number c.field.result c.in-Some.field c.in-Other.answer c.loop-number.invariant.keeps
+    c.field.ensures c.in-Some.is from to found.1 found.2

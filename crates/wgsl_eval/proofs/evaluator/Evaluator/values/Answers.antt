@@ -17,3 +17,10 @@ loop-argument-preserved c =
       sound = taken-stored all taken rest more a v c.loop-argument.values.items c.push.new.self.items c.requires c.loop-argument.invariant.all c.in-Some.ensures.steps.0
           c.in-Value.is c.loop-argument.invariant.sound c.in_ok-push-in-Value.ensures.items;
     }
+
+pub returns-in_default : goal.returns-in_default
+returns-in_default c = (
+  no-value-among c.args.arguments.items c.loop-argument.yielded (into_iter_items c.loop-argument.argument-iterator) (into_iter_items c.next.new.self) _ c.in-Some.argument _
+      c.loop-argument.invariant.all c.in-Some.ensures.steps.0 c.loop-argument.invariant.values c.in_default.not-Value c.in_ok-unready-in_default.ensures.unready,
+  c.in_ok-unready-in_default.ensures.answer,
+)
