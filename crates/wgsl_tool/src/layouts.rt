@@ -150,8 +150,7 @@ fn add_unknown(
     ensures { OnOk result (string_len errors.old < string_len errors.new) }
 {
     write!(errors, "{file}: error: nothing is named {name}")?;
-    let names = items.iter().map(|item| item.name.as_str());
-    if let Some(other) = nearest(alloc, name, names)? {
+    if let Some(other) = nearest(alloc, name, items)? {
         write!(errors, ", but {other} is there")?;
     }
     errors.push('\n')
