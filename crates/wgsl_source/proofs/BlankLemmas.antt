@@ -8,7 +8,7 @@ use Rattle.std.proofs.lemmas.List.{take-append-drop, drop-drop}
 use Rattle.std.proofs.lemmas.Slice.Eq.{starts_is}
 use Rattle.std.specs.Char.{is_ascii_alphanumeric}
 use Rattle.std.specs.List.{starts_with}
-use Rattle.wgsl_source.specs.Blanks.{blanks, IsBlank, IsCharacter, IsLineComment, IsBlockComment, Line, Comment, begins_line_break, begins_with_one, HasNoBlank, has_no_mark}
+use Rattle.wgsl_source.specs.Blanks.{blanks, IsBlank, IsCharacter, IsHashLine, IsLineComment, IsBlockComment, Line, Comment, begins_line_break, begins_with_one, HasNoBlank, has_no_mark}
 use Rattle.wgsl_source.specs.Blanks.Line.{ends, breaks, goes_on}
 use Rattle.wgsl_source.specs.Blanks.Comment.{closes, inner, passes}
 use Rattle.wgsl_source.specs.Bytes.{class_of, may_begin_line_break, may_begin_blank, wide_blanks}
@@ -113,13 +113,13 @@ no_break_at (x ∷ xs) b some is none = sym (no_break_begins x xs (sym is ∙ no
 
 -- ---- where a comment ends
 
-suffix_end : (bytes front left : List ℕ) (start : ℕ) → drop (start + 2) bytes ≡ front ++ left → start + 2 ≤ length bytes → (length left ≤ length bytes - (start + 2)) × (drop (length bytes - length left) bytes ≡ left)
-suffix_end bytes front left start is within =
-    let all : bytes ≡ (take (start + 2) bytes ++ front) ++ left = sym (take-append-drop (start + 2) bytes) ∙ ap (λ t. take (start + 2) bytes ++ t) is ∙ sym (append_assoc (take (start + 2) bytes) front left) in
+suffix_end : (bytes front left : List ℕ) (place : ℕ) → drop place bytes ≡ front ++ left → place ≤ length bytes → (length left ≤ length bytes - place) × (drop (length bytes - length left) bytes ≡ left)
+suffix_end bytes front left place is within =
+    let all : bytes ≡ (take place bytes ++ front) ++ left = sym (take-append-drop place bytes) ∙ ap (λ t. take place bytes ++ t) is ∙ sym (append_assoc (take place bytes) front left) in
     let P : List ℕ → Type 0 = λ t. drop (length t - length left) t ≡ left in
-    let l : length bytes - (start + 2) ≡ length (front ++ left) = sym (length-drop (start + 2) bytes) ∙ ap length is in
+    let l : length bytes - place ≡ length (front ++ left) = sym (length-drop place bytes) ∙ ap length is in
     let m : length (front ++ left) ≡ length front + length left = grind (arith, common_steps) in
-    (omega (arith, l, m), subst P (sym all) (drop_front (take (start + 2) bytes ++ front) left))
+    (omega (arith, l, m), subst P (sym all) (drop_front (take place bytes ++ front) left))
 
 drop_two : (bytes : List ℕ) (start : ℕ) → drop 2 (drop start bytes) ≡ drop (start + 2) bytes
 drop_two bytes start = drop-drop 2 start bytes
@@ -127,7 +127,7 @@ drop_two bytes start = drop-drop 2 start bytes
 pub line_comment : (bytes left : List ℕ) (start : ℕ) → starts_with nat_eq (drop start bytes) (47 ∷ 47 ∷ []) ≡ true → Line (drop (start + 2) bytes) left → start + 2 ≤ length bytes → (length left ≤ length bytes - (start + 2)) × IsLineComment (drop start bytes) (drop (length bytes - length left) bytes)
 line_comment bytes left start begins line within =
     let s = line_suffix line in
-    let e = suffix_end bytes s.0 left start s.1 within in
+    let e = suffix_end bytes s.0 left (start + 2) s.1 within in
     let P : List ℕ → Type 0 = λ b. Line (drop (start + 2) bytes) b in
     let text = begun (drop start bytes) (47 ∷ 47 ∷ []) (starts_with nat_eq (drop start bytes) (47 ∷ 47 ∷ [])) refl begins in
     (e.0, (drop (start + 2) bytes, text ∙ ap (λ t. 47 ∷ 47 ∷ t) (drop_two bytes start), subst P (sym e.1) line))
@@ -135,10 +135,18 @@ line_comment bytes left start begins line within =
 pub block_comment : (bytes left : List ℕ) (start : ℕ) → starts_with nat_eq (drop start bytes) (47 ∷ 42 ∷ []) ≡ true → Comment (drop (start + 2) bytes) left → start + 2 ≤ length bytes → (length left ≤ length bytes - (start + 2)) × IsBlockComment (drop start bytes) (drop (length bytes - length left) bytes)
 block_comment bytes left start begins comment within =
     let s = comment_suffix comment in
-    let e = suffix_end bytes s.0 left start s.1 within in
+    let e = suffix_end bytes s.0 left (start + 2) s.1 within in
     let P : List ℕ → Type 0 = λ b. Comment (drop (start + 2) bytes) b in
     let text = begun (drop start bytes) (47 ∷ 42 ∷ []) (starts_with nat_eq (drop start bytes) (47 ∷ 42 ∷ [])) refl begins in
     (e.0, (drop (start + 2) bytes, text ∙ ap (λ t. 47 ∷ 42 ∷ t) (drop_two bytes start), subst P (sym e.1) comment))
+
+pub hash_line : (bytes left : List ℕ) (start : ℕ) → start < length bytes → get_or bytes start 0 ≡ 35 → Line (drop (start + 1) bytes) left → (length left ≤ length bytes - (start + 1)) × IsHashLine (drop start bytes) (drop (length bytes - length left) bytes)
+hash_line bytes left start within hash line =
+    let s = line_suffix line in
+    let e = suffix_end bytes s.0 left (start + 1) s.1 (omega (arith, within)) in
+    let P : List ℕ → Type 0 = λ b. Line (drop (start + 1) bytes) b in
+    let text = drop-cons bytes start 0 within ∙ ap (λ b. b ∷ drop (suc start) bytes) hash ∙ ap (λ n. 35 ∷ drop n bytes) (sym (add-one start)) in
+    (e.0, (drop (start + 1) bytes, text, subst P (sym e.1) line))
 
 -- ---- a blank byte
 
@@ -248,6 +256,14 @@ pub not_blank_at : (bytes : List ℕ) (at : ℕ) → at < length bytes → may_b
 not_blank_at bytes at within none =
     let P : List ℕ → Type 0 = λ text. begins_with_one blanks text ≡ false in
     subst P (sym (drop-cons bytes at 0 within)) (no_blank_begins (get_or bytes at 0) (drop (suc at) bytes) none)
+
+no_brace : (may_begin_blank 123 ≡ false) × (may_begin_blank 125 ≡ false)
+unfolding encode
+no_brace = (refl, refl)
+
+pub brace_at : (bytes : List ℕ) (at : ℕ) → at < length bytes → (get_or bytes at 0 ≡ 123) ⊎ (get_or bytes at 0 ≡ 125) → begins_with_one blanks (drop at bytes) ≡ false
+brace_at bytes at within (inl is) = not_blank_at bytes at within (ap may_begin_blank is ∙ no_brace.0)
+brace_at bytes at within (inr is) = not_blank_at bytes at within (ap may_begin_blank is ∙ no_brace.1)
 
 pub rest_at : (bytes : List ℕ) (at : ℕ) (class : Class) → at < length bytes → class ≡ class_of (get_or bytes at 0) → ¬ ((class ≡ Blank) ⊎ (class ≡ Break)) → begins_with_one wide_blanks (drop at bytes) ≡ false → begins_with_one blanks (drop at bytes) ≡ false
 rest_at bytes at Letter within is not_blank none = plain_at bytes at Letter within is (inl refl)

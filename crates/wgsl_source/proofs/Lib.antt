@@ -1,6 +1,9 @@
 pub mod BlankLemmas
 pub mod Boundaries
+pub mod DirectiveLemmas
+pub mod EndingLemmas
 pub mod FaultLemmas
+pub mod GroupLemmas
 pub mod IdentifierLemmas
 pub mod LineEnds
 pub mod LineStarts
@@ -14,4 +17,5 @@ pub mod PieceLemmas
 pub mod Positions
 pub mod ReadingLemmas
 pub mod Suffixes
+pub mod UseLemmas
 pub mod Words

@@ -1,13 +1,16 @@
 -- Blank text, and what a text is made of (WGSL: blankspace and line breaks; comments; tokens).
-use Rattle.std.specs.Prelude.{◌≡◌, ℕ, nat_eq, ◌<◌, ◌≤◌, Bool, true, false, not, ◌||◌, Option, Some, None, IfSome, ◌⊎◌, List, [], ◌∷◌, ◌++◌, Contains, codes, drop, encode_utf8, length}
+use Rattle.std.specs.Prelude.{◌≡◌, ℕ, nat_eq, ◌<◌, ◌≤◌, Bool, true, false, not, ◌||◌, ◌⊎◌, All, List, [], ◌∷◌, ◌++◌, Contains, codes, drop, encode_utf8, length, map}
 use Rattle.std.specs.List.{list_any, starts_with}
 use Rattle.wgsl_source.specs.Faults.{IsTold}
 use Rattle.wgsl_source.specs.declared.fault.Fault.{Fault}
-use Rattle.wgsl_source.specs.declared.fault.Reason.TheVariants.{OpenComment}
+use Rattle.wgsl_source.specs.declared.fault.Reason.{Reason}
+use Rattle.wgsl_source.specs.declared.fault.Reason.TheVariants as reasons
 use Rattle.wgsl_source.specs.declared.lexer.Piece.{Piece}
 use Rattle.wgsl_source.specs.declared.lexer.PieceKind.{PieceKind}
 use Rattle.wgsl_source.specs.declared.lexer.PieceKind.TheVariants as pieces
+use Rattle.wgsl_source.specs.Readings.{extent_in}
 use Rattle.wgsl_source.specs.declared.module.Extent.{Extent}
+use Rattle.wgsl_source.specs.declared.token.Token.{Token}
 
 -- line feed, vertical tab, form feed, carriage return, the next line, and the separators of lines and of paragraphs
 abbrev pub line_breaks : List ℕ
@@ -61,33 +64,50 @@ IsBlank text behind = IsCharacter text behind ⊎ (IsLineComment text behind ⊎
 abbrev pub HasNoBlank : List ℕ → ℕ → ℕ → Type 0
 HasNoBlank text at end = (place : ℕ) → at ≤ place → place < end → begins_with_one blanks (drop place text) ≡ false
 
+-- ---- what is neither blank nor a token
+
+-- `#`, and the rest of a line, which is for a preprocessor
+abbrev pub IsHashLine : List ℕ → List ℕ → Type 0
+IsHashLine text behind = (rest : List ℕ) × (text ≡ codes "#" ++ rest) × Line rest behind
+
+-- what is passed over for this reason: a line for a preprocessor; a comment that has no end, with all behind it
+abbrev pub IsPassedFor : Reason → List ℕ → List ℕ → Type 0
+IsPassedFor reasons.Preprocessor text behind = IsHashLine text behind
+IsPassedFor reasons.OpenComment text behind = (behind ≡ []) × (starts_with nat_eq text (codes "/*") ≡ true)
+IsPassedFor reason text behind = ⊥
+
 -- ---- what begins at a place of a text, and where it ends
 
 abbrev pub BeginsAs : List ℕ → ℕ → ℕ → PieceKind → Type 0
 BeginsAs text at end (pieces.Token kind) = HasNoBlank text at end
 BeginsAs text at end pieces.Blank = IsBlank (drop at text) (drop end text)
-BeginsAs text at end pieces.OpenComment =
-    (end ≡ length text) × (starts_with nat_eq (drop at text) (codes "/*") ≡ true)
+BeginsAs text at end (pieces.Passed reason) = IsPassedFor reason (drop at text) (drop end text)
+BeginsAs text at end pieces.Placeholder = HasNoBlank text at end
 
 abbrev pub Begins : List ℕ → ℕ → Piece → Type 0
 Begins text at piece = BeginsAs text at piece.end piece.kind
 
+abbrev pub fault_from : ℕ → ℕ → Reason → Fault
+fault_from start end reason = record { start = start; end = end; reason = reason }
+
 -- ---- a text up to a place
 
--- it is made of these tokens, in order, and of what is blank; a mark of byte order may begin it
-pub data IsCut : List ℕ → List Extent → ℕ → Type 0 where
-  nothing : {text : List ℕ} → IsCut text [] 0
-  mark : {text : List ℕ} → starts_with nat_eq text (encode_utf8 0xfeff) ≡ true → IsCut text [] 3
-  blank : {text : List ℕ} {tokens : List Extent} {at end : ℕ} → IsCut text tokens at → at < end → end ≤ length text → IsBlank (drop at text) (drop end text) → IsCut text tokens end
-  token : {text : List ℕ} {tokens : List Extent} {at end : ℕ} → IsCut text tokens at → at < end → end ≤ length text → HasNoBlank text at end → IsCut text (tokens ++ record { start = at; end = end } ∷ []) end
+-- it is made of these tokens, in order, of what is blank, and of what is passed over, each with its fault; a token that a
+-- preprocessor has to put a text for has its fault, too; a mark of byte order may begin it
+pub data IsCut : List ℕ → List Extent → List Fault → ℕ → Type 0 where
+  nothing : {text : List ℕ} → IsCut text [] [] 0
+  mark : {text : List ℕ} → starts_with nat_eq text (encode_utf8 0xfeff) ≡ true → IsCut text [] [] 3
+  blank : {text : List ℕ} {tokens : List Extent} {faults : List Fault} {at end : ℕ} → IsCut text tokens faults at → at < end → end ≤ length text → IsBlank (drop at text) (drop end text) → IsCut text tokens faults end
+  token : {text : List ℕ} {tokens : List Extent} {faults : List Fault} {at end : ℕ} → IsCut text tokens faults at → at < end → end ≤ length text → HasNoBlank text at end → IsCut text (tokens ++ record { start = at; end = end } ∷ []) faults end
+  passed : {text : List ℕ} {tokens : List Extent} {faults : List Fault} {at end : ℕ} (reason : Reason) → IsCut text tokens faults at → at < end → end ≤ length text → IsPassedFor reason (drop at text) (drop end text) → IsCut text tokens (faults ++ fault_from at end reason ∷ []) end
+  placeholder : {text : List ℕ} {tokens : List Extent} {faults : List Fault} {at end : ℕ} → IsCut text tokens faults at → at < end → end ≤ length text → HasNoBlank text at end → IsCut text (tokens ++ record { start = at; end = end } ∷ []) (faults ++ fault_from at end reasons.Placeholder ∷ []) end
 
--- these tokens and what is blank are the whole text, or all of it before this comment, which has no end
-abbrev pub IsCutOr : List ℕ → List Extent → Option Fault → Type 0
-IsCutOr text tokens None = IsCut text tokens (length text)
-IsCutOr text tokens (Some fault) =
-    IsCut text tokens fault.start × (fault.end ≡ length text) × (fault.reason ≡ OpenComment)
-    × (starts_with nat_eq (drop fault.start text) (codes "/*") ≡ true)
-
--- these tokens and what is blank are the whole text, or all of it before a comment without an end, which is told
+-- these tokens, what is blank and what is passed over, which is told, are the whole text
 abbrev pub IsCovered : List ℕ → List Extent → List Fault → Type 0
-IsCovered text tokens faults = (open_comment : Option Fault) × IsCutOr text tokens open_comment × IfSome open_comment (IsTold faults)
+IsCovered text tokens told = (faults : List Fault) × IsCut text tokens faults (length text) × All (IsTold told) faults
+
+-- where these tokens and faults are of a text up to a place, and this piece begins there, more of them are up to its end
+abbrev pub GoesOn : List Token → List Fault → ℕ → Piece → List Token → List Fault → Type 0
+GoesOn tokens faults at piece more told =
+    (text : List ℕ) → Begins text at piece → at < piece.end → piece.end ≤ length text → IsCut text (map extent_in tokens) faults at →
+    IsCut text (map extent_in more) told piece.end

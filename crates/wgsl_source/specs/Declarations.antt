@@ -2,7 +2,7 @@
 use Rattle.std.specs.Prelude.{◌≡◌, ℕ, ◌+◌, ◌<◌, ◌≤◌, ⊤, All, Contains, Option, List, codes, length, map, position}
 use Rattle.std.specs.Str.{bytes_eq}
 use Rattle.wgsl_source.specs.Cursors.{text_of}
-use Rattle.wgsl_source.specs.Pieces.{Reach, IsPiece, declarations_in, assertions_in, directives, numbers}
+use Rattle.wgsl_source.specs.Pieces.{Reach, IsPiece, IsParted, declarations_in, assertions_in, directives, numbers}
 use Rattle.wgsl_source.specs.Readings.{extent_in}
 use Rattle.wgsl_source.specs.declared.cursor.Cursor.{Cursor}
 use Rattle.wgsl_source.specs.declared.declaration.Declaration.{Declaration}
@@ -27,7 +27,8 @@ IsNamed c d name = (c.at ≤ name) × (name < length c.tokens.now) × (name < d.
 abbrev pub IsItem : Cursor → Cursor → Item → Type 0
 IsItem c d (items.Declaration declaration) = IsNamed c d declaration.name
 IsItem c d (items.Assertion condition) = ⊤
-IsItem c d items.Directive = Contains directives (text_of c c.at)
+IsItem c d items.Directive =
+    Contains directives (text_of c c.at) × IsParted (text_of c) c.at d.at × (d.at ≤ length c.tokens.now)
 IsItem c d items.Semicolon = (d.at ≤ c.at + 1) × (text_of c c.at ≡ codes ";")
 
 -- these pieces, names and so many assertions are read of the tokens before one, with these faults

@@ -1,6 +1,8 @@
 -- Which words are no names (WGSL: identifiers; keyword summary; reserved words).
-use Rattle.std.specs.Prelude.{ℕ, nat_eq, Bool, ◌||◌, Option, IfSome, Some, None, List, [], ◌∷◌, codes, if◌then◌else◌}
-use Rattle.std.specs.List.{list_any, starts_with}
+use Rattle.std.specs.Borrow.{Bor}
+use Rattle.std.specs.Prelude.{ℕ, nat_eq, ◌+◌, ◌==◌, Bool, true, false, ◌||◌, ◌&&◌, Option, IfSome, Some, None, List, [], ◌∷◌, ◌++◌, codes, map, slice_get, if◌then◌else◌}
+use Rattle.std.specs.Option.{option_map_or}
+use Rattle.std.specs.List.{list_all, list_any, starts_with}
 use Rattle.std.specs.Str.{bytes_eq}
 use Rattle.wgsl_source.specs.Faults.{IsTold}
 use Rattle.wgsl_source.specs.Readings.{word_of, fault_at}
@@ -68,3 +70,27 @@ why_no_name word =
 abbrev pub IsNameOrTold : List ℕ → List Extent → List Fault → ℕ → Type 0
 IsNameOrTold text tokens faults token =
     IfSome (why_no_name (word_of text tokens token)) (λ reason. IsTold faults (fault_at text tokens token reason))
+
+-- ---- words in groups
+
+abbrev pub Group : Type 0
+Group = Bor (List (Bor (List ℕ)))
+
+-- the groups one behind the other
+abbrev pub words_in : List Group → List (List ℕ)
+words_in [] = []
+words_in (group ∷ groups) = map (λ w. w.now) group.now ++ words_in groups
+
+abbrev pub begins_with : ℕ → List ℕ → Bool
+begins_with letter [] = false
+begins_with letter (first ∷ rest) = first == letter
+
+-- whether the words of the first group begin with this letter, and those of each further one with the next letter
+abbrev pub are_grouped : ℕ → List Group → Bool
+are_grouped letter [] = true
+are_grouped letter (group ∷ groups) = list_all (λ w. begins_with letter w.now) group.now && are_grouped (letter + 1) groups
+
+-- whether it is a word of the group of this number
+abbrev pub is_in_group : List Group → ℕ → List ℕ → Bool
+is_in_group groups number word =
+    option_map_or (λ group. list_any (λ known. bytes_eq known.now word) group.now) (slice_get groups number) false

@@ -7,6 +7,7 @@ pub mod Declarations
 pub mod Expressions
 pub mod Families
 pub mod Faults
+pub mod Finders
 pub mod Generators
 pub mod Identifiers
 pub mod Mixes
@@ -18,4 +19,6 @@ pub mod Orders
 pub mod Pieces
 pub mod Places
 pub mod Readings
+pub mod Scopes
 pub mod Texts
+pub mod Uses

@@ -20,8 +20,12 @@ expected_text asked.End = codes "the end"
 abbrev pub reason_text : Reason → List ℕ
 reason_text (reasons.Expected e) = codes "expected " ++ expected_text e
 reason_text reasons.OpenComment = codes "this comment has no end"
+reason_text reasons.Preprocessor = codes "WGSL has no preprocessor, and this line is passed over"
+reason_text reasons.Placeholder = codes "this is no WGSL: a preprocessor has to put a text here"
+reason_text reasons.Import = codes "imports are not followed"
 reason_text reasons.TooDeep = codes "too many brackets inside each other"
 reason_text reasons.DuplicateName = codes "this name is there already"
+reason_text reasons.SecondStage = codes "this function is of another stage already"
 reason_text reasons.ContainsItself = codes "this needs itself"
 reason_text reasons.Mixed = codes "this operator and the one before it need brackets"
 reason_text reasons.Double = codes "two of these beside each other are no operators here"

@@ -6,6 +6,7 @@ ghost use Rattle.wgsl_source.specs.Faults.{KeepsFaults};
 ghost use Rattle.wgsl_source.specs.declared.fault.Fault.{Fault};
 
 use crate::cursor::{Cursor, Stop};
+use crate::entry::{DeclaredEntry, EntryStage};
 use crate::expression::{Expressions, Span, Step};
 use crate::fault::{Fault, Faults};
 use crate::item::Item;
@@ -20,14 +21,18 @@ pub(crate) struct Attributes {
     pub(crate) size: Option<Span>,
     pub(crate) group: Option<Span>,
     pub(crate) binding: Option<Span>,
+    pub(crate) id: Option<Span>,
+    pub(crate) stage: Option<EntryStage>,
+    pub(crate) workgroup_size: [Option<Span>; 3],
 }
 
-/// A member of a structure: its token, and its type.
+/// A member of a structure: its token, its type, and its attributes.
 #[derive(Clone, Copy, Debug)]
 pub(crate) struct Member {
     pub(crate) name: usize,
     pub(crate) ty: Span,
-    pub(crate) attributes: Attributes,
+    pub(crate) size: Option<Span>,
+    pub(crate) align: Option<Span>,
 }
 
 /// A variable of a module.
@@ -35,8 +40,11 @@ pub(crate) struct Member {
 pub(crate) struct Variable {
     pub(crate) space: Option<AddressSpace>,
     pub(crate) access: Option<AccessMode>,
+    /// Whether it is in the space of immediate data, which is none of the others.
+    pub(crate) is_immediate: bool,
     pub(crate) ty: Option<Span>,
-    pub(crate) attributes: Attributes,
+    pub(crate) group: Option<Span>,
+    pub(crate) binding: Option<Span>,
 }
 
 /// What is declared.
@@ -48,10 +56,11 @@ pub(crate) enum Kind {
     Alias(Span),
     /// A `const`: the type, where one is given, and the value.
     Constant(Option<Span>, Span),
-    /// An `override`: the type and the value that it has by default, where they are given.
-    Override(Option<Span>, Option<Span>),
+    /// An `override`: the type, the value that it has by default and its number, where they are given.
+    Override(Option<Span>, Option<Span>, Option<Span>),
     Variable(Variable),
-    Function,
+    /// A function, which may be an entry point.
+    Function(Option<DeclaredEntry>),
 }
 
 /// A declaration: the token that names it, and all its steps.
@@ -81,7 +90,19 @@ impl Attributes {
         size: None,
         group: None,
         binding: None,
+        id: None,
+        stage: None,
+        workgroup_size: [None; 3],
     };
+
+    /// The entry point that a function with them is, if it is one.
+    pub(crate) fn entry(&self) -> Option<DeclaredEntry> {
+        let stage = self.stage?;
+        Some(DeclaredEntry {
+            stage,
+            workgroup_size: self.workgroup_size,
+        })
+    }
 }
 
 /// Reads declarations.

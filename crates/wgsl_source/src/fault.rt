@@ -53,10 +53,18 @@ pub enum Reason {
     Expected(Expected),
     /// A comment has no end.
     OpenComment,
+    /// A line is for a preprocessor.
+    Preprocessor,
+    /// A preprocessor has to put a text there.
+    Placeholder,
+    /// A module is imported.
+    Import,
     /// More brackets stand inside each other than are followed.
     TooDeep,
     /// Another declaration or attribute has the name.
     DuplicateName,
+    /// A function is an entry point of another stage already.
+    SecondStage,
     /// A declaration needs itself.
     ContainsItself,
     /// Two operators stand beside each other that need brackets.
@@ -78,8 +86,16 @@ impl fmt::Display for Reason {
         match self {
             Reason::Expected(expected) => write!(f, "expected {expected}"),
             Reason::OpenComment => f.write_str("this comment has no end"),
+            Reason::Preprocessor => {
+                f.write_str("WGSL has no preprocessor, and this line is passed over")
+            }
+            Reason::Placeholder => {
+                f.write_str("this is no WGSL: a preprocessor has to put a text here")
+            }
+            Reason::Import => f.write_str("imports are not followed"),
             Reason::TooDeep => f.write_str("too many brackets inside each other"),
             Reason::DuplicateName => f.write_str("this name is there already"),
+            Reason::SecondStage => f.write_str("this function is of another stage already"),
             Reason::ContainsItself => f.write_str("this needs itself"),
             Reason::Mixed => f.write_str("this operator and the one before it need brackets"),
             Reason::Double => f.write_str("two of these beside each other are no operators here"),

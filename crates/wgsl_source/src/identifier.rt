@@ -1,10 +1,10 @@
 //! Which words are no names (WGSL: identifiers; keyword summary; reserved words).
 
-ghost use Rattle.std.specs.Prelude.{◌≡◌, All, OnOk, map};
+ghost use Rattle.std.specs.Prelude.{◌≡◌, true, All, OnOk, map};
 ghost use Rattle.std.specs.List.{list_any};
 ghost use Rattle.std.specs.Str.{bytes_eq};
 ghost use Rattle.wgsl_source.specs.Faults.{KeepsFaults};
-ghost use Rattle.wgsl_source.specs.Identifiers.{IsNameOrTold, is_no_identifier, is_one_of, keywords, reserved_words, why_no_name};
+ghost use Rattle.wgsl_source.specs.Identifiers.{IsNameOrTold, are_grouped, is_in_group, is_no_identifier, is_one_of, keywords, reserved_words, why_no_name, words_in};
 ghost use Rattle.wgsl_source.specs.Readings.{extent_in};
 
 use crate::cursor::Cursor;
@@ -12,35 +12,94 @@ use crate::declaration::{Declaration, Member, Module};
 use crate::fault::{Faults, Reason};
 use std::alloc::AllocError;
 
-/// The words that have a meaning of their own.
+/// The words that have a meaning of their own, by their first letters.
 #[rattlefmt::skip]
-static KEYWORDS: [&str; 26] = [
-    "alias", "break", "case", "const", "const_assert", "continue", "continuing", "default",
-    "diagnostic", "discard", "else", "enable", "false", "fn", "for", "if", "let", "loop",
-    "override", "requires", "return", "struct", "switch", "true", "var", "while",
+static KEYWORDS: [&[&str]; 26] = [
+    &["alias"],
+    &["break"],
+    &["case", "const", "const_assert", "continue", "continuing"],
+    &["default", "diagnostic", "discard"],
+    &["else", "enable"],
+    &["false", "fn", "for"],
+    &[], // g
+    &[], // h
+    &["if"],
+    &[], // j
+    &[], // k
+    &["let", "loop"],
+    &[], // m
+    &[], // n
+    &["override"],
+    &[], // p
+    &[], // q
+    &["requires", "return"],
+    &["struct", "switch"],
+    &["true"],
+    &[], // u
+    &["var"],
+    &["while"],
+    &[], // x
+    &[], // y
+    &[], // z
 ];
 
-/// The words that are kept for what may come.
+/// Those of the words that are kept for what may come that begin with a capital letter.
+static CAPITALIZED: [&str; 2] = ["NULL", "Self"];
+
+/// The others, by their first letters.
 #[rattlefmt::skip]
-static RESERVED: [&str; 146] = [
-    "NULL", "Self", "abstract", "active", "alignas", "alignof", "as", "asm", "asm_fragment",
-    "async", "attribute", "auto", "await", "become", "cast", "catch", "class", "co_await",
-    "co_return", "co_yield", "coherent", "column_major", "common", "compile", "compile_fragment",
-    "concept", "const_cast", "consteval", "constexpr", "constinit", "crate", "debugger",
-    "decltype", "delete", "demote", "demote_to_helper", "do", "dynamic_cast", "enum", "explicit",
-    "export", "extends", "extern", "external", "fallthrough", "filter", "final", "finally",
-    "friend", "from", "fxgroup", "get", "goto", "groupshared", "highp", "impl", "implements",
-    "import", "inline", "instanceof", "interface", "layout", "lowp", "macro", "macro_rules",
-    "match", "mediump", "meta", "mod", "module", "move", "mut", "mutable", "namespace", "new",
-    "nil", "noexcept", "noinline", "nointerpolation", "non_coherent", "noncoherent",
-    "noperspective", "null", "nullptr", "of", "operator", "package", "packoffset", "partial",
-    "pass", "patch", "pixelfragment", "precise", "precision", "premerge", "priv", "protected",
-    "pub", "public", "readonly", "ref", "regardless", "register", "reinterpret_cast", "require",
-    "resource", "restrict", "self", "set", "shared", "sizeof", "smooth", "snorm", "static",
-    "static_assert", "static_cast", "std", "subroutine", "super", "target", "template", "this",
-    "thread_local", "throw", "trait", "try", "type", "typedef", "typeid", "typename", "typeof",
-    "union", "unless", "unorm", "unsafe", "unsized", "use", "using", "varying", "virtual",
-    "volatile", "wgsl", "where", "with", "writeonly", "yield",
+static RESERVED: [&[&str]; 26] = [
+    &[
+        "abstract", "active", "alignas", "alignof", "as", "asm", "asm_fragment", "async",
+        "attribute", "auto", "await",
+    ],
+    &["become"],
+    &[
+        "cast", "catch", "class", "co_await", "co_return", "co_yield", "coherent", "column_major",
+        "common", "compile", "compile_fragment", "concept", "const_cast", "consteval", "constexpr",
+        "constinit", "crate",
+    ],
+    &["debugger", "decltype", "delete", "demote", "demote_to_helper", "do", "dynamic_cast"],
+    &["enum", "explicit", "export", "extends", "extern", "external"],
+    &["fallthrough", "filter", "final", "finally", "friend", "from", "fxgroup"],
+    &["get", "goto", "groupshared"],
+    &["highp"],
+    &["impl", "implements", "import", "inline", "instanceof", "interface"],
+    &[], // j
+    &[], // k
+    &["layout", "lowp"],
+    &[
+        "macro", "macro_rules", "match", "mediump", "meta", "mod", "module", "move", "mut",
+        "mutable",
+    ],
+    &[
+        "namespace", "new", "nil", "noexcept", "noinline", "nointerpolation", "non_coherent",
+        "noncoherent", "noperspective", "null", "nullptr",
+    ],
+    &["of", "operator"],
+    &[
+        "package", "packoffset", "partial", "pass", "patch", "pixelfragment", "precise",
+        "precision", "premerge", "priv", "protected", "pub", "public",
+    ],
+    &[], // q
+    &[
+        "readonly", "ref", "regardless", "register", "reinterpret_cast", "require", "resource",
+        "restrict",
+    ],
+    &[
+        "self", "set", "shared", "sizeof", "smooth", "snorm", "static", "static_assert",
+        "static_cast", "std", "subroutine", "super",
+    ],
+    &[
+        "target", "template", "this", "thread_local", "throw", "trait", "try", "type", "typedef",
+        "typeid", "typename", "typeof",
+    ],
+    &["union", "unless", "unorm", "unsafe", "unsized", "use", "using"],
+    &["varying", "virtual", "volatile"],
+    &["wgsl", "where", "with", "writeonly"],
+    &[], // x
+    &["yield"],
+    &[], // z
 ];
 
 /// A fault at each declaration and each member whose name is none.
@@ -113,13 +172,13 @@ fn why_no_name(word: &str) -> Option<Reason>
 fn is_keyword(word: &str) -> bool
     ensures { result ≡ is_one_of keywords word.now }
 {
-    is_one_of(&KEYWORDS, word)
+    is_in(&KEYWORDS, word)
 }
 
 fn is_reserved(word: &str) -> bool
     ensures { result ≡ is_one_of reserved_words word.now }
 {
-    is_one_of(&RESERVED, word)
+    is_one_of(&CAPITALIZED, word) || is_in(&RESERVED, word)
 }
 
 fn is_no_identifier(word: &str) -> bool
@@ -128,7 +187,31 @@ fn is_no_identifier(word: &str) -> bool
     word == "_" || word.starts_with("__")
 }
 
-fn is_one_of(words: &[&str], word: &str) -> bool
+// Whether it is one of the words, which stand in groups by their first letters from `a` on.
+fn is_in(groups: &[&[&str]], word: &str) -> bool
+    requires { are_grouped 97 groups.now ≡ true }
+    ensures { result ≡ is_one_of (words_in groups.now) word.now }
+{
+    match word.as_bytes() {
+        [first, ..] => match first.checked_sub(b'a') {
+            Some(letter) => is_in_group(groups, usize::from(letter), word),
+            None => false,
+        },
+        [] => false,
+    }
+}
+
+fn is_in_group(groups: &[&[&str]], number: usize, word: &str) -> bool
+    ensures { result ≡ is_in_group groups.now number word.now }
+{
+    match groups.get(number) {
+        Some(group) => is_one_of(group, word),
+        None => false,
+    }
+}
+
+/// Whether it is one of these words.
+pub(crate) fn is_one_of(words: &[&str], word: &str) -> bool
     ensures { result ≡ list_any (λ known. bytes_eq known.now word.now) words.now }
 {
     words.iter().any(|known| *known == word)

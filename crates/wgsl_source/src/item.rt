@@ -6,6 +6,7 @@ ghost use Rattle.wgsl_source.specs.Declarations.{IsBehind, IsItem, IsNamed};
 
 use crate::cursor::Stop;
 use crate::declaration::{Attributes, Declaration, Kind, Member, Variable};
+use crate::entry::EntryStage;
 use crate::expression::{Expressions, Span};
 use crate::fault::{Expected, Reason};
 use crate::token::TokenKind;
@@ -26,6 +27,22 @@ struct Named {
     kind: Kind,
 }
 
+/// What the template list of a `var` says.
+#[derive(Clone, Copy)]
+struct Memory {
+    space: Option<AddressSpace>,
+    access: Option<AccessMode>,
+    is_immediate: bool,
+}
+
+impl Memory {
+    const NONE: Memory = Memory {
+        space: None,
+        access: None,
+        is_immediate: false,
+    };
+}
+
 impl<'a> Expressions<'a> {
     /// Reads what begins here. The members of a structure come behind those before.
     pub(crate) fn item(&mut self, members: &mut Vec<Member>) -> Result<Item, Stop>
@@ -37,9 +54,10 @@ impl<'a> Expressions<'a> {
                 Ok(Item::Semicolon)
             }
             "enable" | "requires" | "diagnostic" => {
-                self.skip_declaration()?;
+                self.cursor.pass_directive()?;
                 Ok(Item::Directive)
             }
+            "import" => Err(Stop::At(self.cursor.position(), Reason::Import)),
             _ => self.attributed(members),
         }
     }
@@ -77,9 +95,9 @@ impl<'a> Expressions<'a> {
             "struct" => self.structure(members),
             "alias" => self.alias(),
             "const" => self.constant(),
-            "override" => self.overridden(),
+            "override" => self.overridden(attributes.id),
             "var" => self.variable(attributes),
-            "fn" => self.function(),
+            "fn" => self.function(attributes),
             _ => Err(self.cursor.expected(Expected::Declaration)),
         }
     }
@@ -99,7 +117,7 @@ impl<'a> Expressions<'a> {
         Ok(attributes)
     }
 
-    // One that says nothing of layouts and bindings is passed over.
+    // One that says nothing to a host is passed over.
     fn attribute(&mut self, attributes: &mut Attributes) -> Result<(), Stop>
         ensures later { IsBehind self.old.cursor self.new.cursor }
     {
@@ -109,6 +127,13 @@ impl<'a> Expressions<'a> {
             "size" => attributes.size = Some(self.argument_of(name, attributes.size)?),
             "group" => attributes.group = Some(self.argument_of(name, attributes.group)?),
             "binding" => attributes.binding = Some(self.argument_of(name, attributes.binding)?),
+            "id" => attributes.id = Some(self.argument_of(name, attributes.id)?),
+            "workgroup_size" => {
+                attributes.workgroup_size = self.workgroup_size(name, attributes.workgroup_size)?;
+            }
+            "vertex" | "fragment" | "compute" => {
+                attributes.stage = Some(self.stage(name, attributes.stage)?);
+            }
             _ => {
                 if self.cursor.token().is_symbol(b'(') {
                     let open_end = self.cursor.skip_counted_group();
@@ -117,6 +142,20 @@ impl<'a> Expressions<'a> {
             }
         }
         Ok(())
+    }
+
+    // The stage that the attribute of this name gives, where none is given before.
+    fn stage(&self, name: usize, before: Option<EntryStage>) -> Result<EntryStage, Stop> {
+        let stage = match self.cursor.text_at(name) {
+            "vertex" => EntryStage::Vertex,
+            "fragment" => EntryStage::Fragment,
+            _ => EntryStage::Compute,
+        };
+        match before {
+            None => Ok(stage),
+            Some(before) if before == stage => Err(Stop::At(name, Reason::DuplicateName)),
+            Some(_) => Err(Stop::At(name, Reason::SecondStage)),
+        }
     }
 
     // The argument of an attribute that stands once.
@@ -138,6 +177,37 @@ impl<'a> Expressions<'a> {
         let _ = self.cursor.take_symbol(b',');
         self.cursor.expect_symbol(b')')?;
         Ok(argument)
+    }
+
+    // One to three expressions in brackets, of an attribute that stands once.
+    fn workgroup_size(
+        &mut self,
+        name: usize,
+        before: [Option<Span>; 3],
+    ) -> Result<[Option<Span>; 3], Stop>
+        ensures later { IsBehind self.old.cursor self.new.cursor }
+    {
+        if before[0].is_some() {
+            return Err(Stop::At(name, Reason::DuplicateName));
+        }
+        self.cursor.expect_symbol(b'(')?;
+        let x = self.expression()?;
+        let y = self.further_argument()?;
+        let z = self.further_argument()?;
+        let _ = self.cursor.take_symbol(b',');
+        self.cursor.expect_symbol(b')')?;
+        Ok([Some(x), y, z])
+    }
+
+    // None where the brackets end, behind a comma or without one.
+    fn further_argument(&mut self) -> Result<Option<Span>, Stop>
+        ensures later { IsBehind self.old.cursor self.new.cursor }
+    {
+        if !self.cursor.token().is_symbol(b',') || self.cursor.second().is_symbol(b')') {
+            return Ok(None);
+        }
+        self.cursor.advance();
+        Ok(Some(self.expression()?))
     }
 
     fn structure(&mut self, members: &mut Vec<Member>) -> Result<Named, Stop>
@@ -185,7 +255,8 @@ impl<'a> Expressions<'a> {
         let member = Member {
             name,
             ty,
-            attributes,
+            size: attributes.size,
+            align: attributes.align,
         };
         match members.push(member) {
             Ok(()) => Ok(()),
@@ -218,7 +289,7 @@ impl<'a> Expressions<'a> {
         Ok(Named { name, kind })
     }
 
-    fn overridden(&mut self) -> Result<Named, Stop>
+    fn overridden(&mut self, id: Option<Span>) -> Result<Named, Stop>
         ensures { IfOk result (λ named. IsNamed self.old.cursor self.new.cursor named.name) }
     {
         self.cursor.advance();
@@ -226,7 +297,7 @@ impl<'a> Expressions<'a> {
         let ty = self.given_type()?;
         let value = self.given_value()?;
         self.cursor.expect_symbol(b';')?;
-        let kind = Kind::Override(ty, value);
+        let kind = Kind::Override(ty, value, id);
         Ok(Named { name, kind })
     }
 
@@ -241,29 +312,31 @@ impl<'a> Expressions<'a> {
         ensures { IfOk result (λ named. IsNamed self.old.cursor self.new.cursor named.name) }
     {
         self.cursor.advance();
-        let (space, access) = self.memory()?;
+        let memory = self.memory()?;
         let name = self.cursor.expect_name()?;
         let ty = self.given_type()?;
         self.given_value()?;
         self.cursor.expect_symbol(b';')?;
         let variable = Variable {
-            space,
-            access,
+            space: memory.space,
+            access: memory.access,
+            is_immediate: memory.is_immediate,
             ty,
-            attributes,
+            group: attributes.group,
+            binding: attributes.binding,
         };
         let kind = Kind::Variable(variable);
         Ok(Named { name, kind })
     }
 
     // A function, whose parameters and body are passed over.
-    fn function(&mut self) -> Result<Named, Stop>
+    fn function(&mut self, attributes: Attributes) -> Result<Named, Stop>
         ensures { IfOk result (λ named. IsNamed self.old.cursor self.new.cursor named.name) }
     {
         self.cursor.advance();
         let name = self.cursor.expect_name()?;
         self.skip_declaration()?;
-        let kind = Kind::Function;
+        let kind = Kind::Function(attributes.entry());
         Ok(Named { name, kind })
     }
 
@@ -286,11 +359,11 @@ impl<'a> Expressions<'a> {
     }
 
     // The address space and the access mode in the template list of a `var`.
-    fn memory(&mut self) -> Result<(Option<AddressSpace>, Option<AccessMode>), Stop>
+    fn memory(&mut self) -> Result<Memory, Stop>
         ensures later { IsBehind self.old.cursor self.new.cursor }
     {
         if self.cursor.token().kind != TokenKind::TemplateStart {
-            return Ok((None, None));
+            return Ok(Memory::NONE);
         }
         self.cursor.advance();
         let space = self.space()?;
@@ -303,18 +376,24 @@ impl<'a> Expressions<'a> {
             return Err(self.cursor.expected(Expected::TemplateEnd));
         }
         self.cursor.advance();
-        Ok((Some(space), access))
+        Ok(Memory {
+            space,
+            access,
+            is_immediate: space.is_none(),
+        })
     }
 
-    fn space(&mut self) -> Result<AddressSpace, Stop>
+    // None where it is that of immediate data.
+    fn space(&mut self) -> Result<Option<AddressSpace>, Stop>
         ensures later { IsBehind self.old.cursor self.new.cursor }
     {
         let space = match self.cursor.word() {
-            "function" => AddressSpace::Function,
-            "private" => AddressSpace::Private,
-            "workgroup" => AddressSpace::Workgroup,
-            "uniform" => AddressSpace::Uniform,
-            "storage" => AddressSpace::Storage,
+            "function" => Some(AddressSpace::Function),
+            "private" => Some(AddressSpace::Private),
+            "workgroup" => Some(AddressSpace::Workgroup),
+            "uniform" => Some(AddressSpace::Uniform),
+            "storage" => Some(AddressSpace::Storage),
+            "immediate" | "push_constant" => None,
             _ => return Err(self.cursor.expected(Expected::AddressSpace)),
         };
         self.cursor.advance();

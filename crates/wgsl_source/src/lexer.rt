@@ -1,8 +1,8 @@
 //! Cuts a source into tokens (WGSL: tokens; comments; blankspace and line breaks).
 
-ghost use Rattle.std.specs.Prelude.{◌≡◌, ◌⊎◌, ◌+◌, ◌-◌, ◌≤◌, ◌<◌, [], IsTrue, true, false, slice_index, nat_eq, codes, drop, length, map, IfOk, IfSome};
+ghost use Rattle.std.specs.Prelude.{◌≡◌, ◌⊎◌, ◌+◌, ◌-◌, ◌≤◌, ◌<◌, [], IsTrue, true, false, slice_index, nat_eq, codes, drop, length, map, IfOk, IfSome, OnOk};
 ghost use Rattle.std.specs.List.{list_any, starts_with};
-ghost use Rattle.wgsl_source.specs.Blanks.{Begins, Comment, HasNoBlank, IsCharacter, IsCut, IsCutOr, Line, begins_line_break, begins_with_one, blanks};
+ghost use Rattle.wgsl_source.specs.Blanks.{Begins, Comment, GoesOn, HasNoBlank, IsCharacter, IsCut, Line, begins_line_break, begins_with_one, blanks};
 ghost use Rattle.wgsl_source.specs.Bytes.{class_of, may_begin_blank, wide_blanks};
 ghost use Rattle.wgsl_source.specs.Readings.{extent_in};
 
@@ -11,12 +11,11 @@ use crate::fault::{Fault, Reason};
 use crate::token::{Token, TokenKind};
 use std::alloc::{AllocError, Global};
 
-/// The tokens of a source, and the comment that has no end, if there is one: the rest of the
-/// source is then in it.
+/// The tokens of a source, and what is wrong in it: what is neither a token nor blank, and tokens that are none of WGSL.
 #[derive(Drop)]
 pub(crate) struct Lexed {
     pub(crate) tokens: Vec<Token>,
-    pub(crate) fault: Option<Fault>,
+    pub(crate) faults: Vec<Fault>,
 }
 
 const BYTE_ORDER_MARK: [u8; 3] = [0xef, 0xbb, 0xbf];
@@ -53,15 +52,21 @@ struct Piece {
 enum PieceKind {
     Token(TokenKind),
     Blank,
-    OpenComment,
+    /// What is passed over with this fault.
+    Passed(Reason),
+    /// A name that a preprocessor puts a text for.
+    Placeholder,
 }
 
 /// The tokens of the text, in order.
 pub(crate) fn tokens_of(alloc: Global, text: &str) -> Result<Lexed, AllocError>
-    ensures { IfOk result (λ lexed. IsCutOr text.entry.now (map extent_in lexed.tokens.items) lexed.fault) }
+    ensures { IfOk result (λ lexed. IsCut text.entry.now (map extent_in lexed.tokens.items) lexed.faults.items (length text.entry.now)) }
 {
     let bytes = text.as_bytes();
-    let mut tokens = Vec::new(alloc);
+    let mut lexed = Lexed {
+        tokens: Vec::new(alloc),
+        faults: Vec::new(alloc),
+    };
     let mut start = byte_order_mark_len(bytes);
     while start < bytes.len() {
         let class = class_of(bytes[start]);
@@ -69,29 +74,37 @@ pub(crate) fn tokens_of(alloc: Global, text: &str) -> Result<Lexed, AllocError>
             start += 1;
             continue;
         }
-        let Piece { kind, end } = piece_at(class, bytes, start);
-        match kind {
-            PieceKind::Blank => {
-                start = end;
-                continue;
-            }
-            PieceKind::OpenComment => {
-                let reason = Reason::OpenComment;
-                let fault = Some(Fault { start, end, reason });
-                return Ok(Lexed { tokens, fault });
-            }
-            PieceKind::Token(kind) => tokens.push(Token { kind, start, end })?,
-        }
-        start = end;
+        let piece = piece_at(class, bytes, start);
+        lexed.add(start, piece)?;
+        start = piece.end;
     }
-    let fault = None;
-    Ok(Lexed { tokens, fault })
+    Ok(lexed)
+}
+
+impl Lexed {
+    // Takes what begins at this byte.
+    fn add(&mut self, start: usize, piece: Piece) -> Result<(), AllocError>
+        ensures { OnOk result (GoesOn self.old.tokens.items self.old.faults.items start piece self.new.tokens.items self.new.faults.items) }
+    {
+        let Piece { kind, end } = piece;
+        match kind {
+            PieceKind::Blank => Ok(()),
+            PieceKind::Token(kind) => Ok(self.tokens.push(Token { kind, start, end })?),
+            PieceKind::Passed(reason) => Ok(self.faults.push(Fault { start, end, reason })?),
+            PieceKind::Placeholder => {
+                let kind = TokenKind::Name;
+                self.tokens.push(Token { kind, start, end })?;
+                let reason = Reason::Placeholder;
+                Ok(self.faults.push(Fault { start, end, reason })?)
+            }
+        }
+    }
 }
 
 // The bytes of the mark of byte order that the text begins with, if it does.
 fn byte_order_mark_len(bytes: &[u8]) -> usize
     ensures within { result ≤ length bytes.now }
-    ensures cut { IsCut bytes.now [] result }
+    ensures cut { IsCut bytes.now [] [] result }
 {
     if bytes.starts_with(&BYTE_ORDER_MARK) {
         BYTE_ORDER_MARK.len()
@@ -154,8 +167,8 @@ fn symbol_at(bytes: &[u8], start: usize) -> Piece
     ensures is { Begins bytes.now start result }
 {
     let first = bytes[start];
-    if first == b'/' || first == b'.' {
-        return slash_or_point_at(bytes, start);
+    if matches!(first, b'/' | b'.' | b'#') {
+        return rare_symbol_at(bytes, start);
     }
     Piece {
         kind: PieceKind::Token(TokenKind::Symbol(first)),
@@ -163,9 +176,9 @@ fn symbol_at(bytes: &[u8], start: usize) -> Piece
     }
 }
 
-// What begins with a character that may begin a comment or a number.
+// What begins with a character that may begin a comment, a number, or what is for a preprocessor.
 #[inline(never)]
-fn slash_or_point_at(bytes: &[u8], start: usize) -> Piece
+fn rare_symbol_at(bytes: &[u8], start: usize) -> Piece
     requires within { start < length bytes.now }
     requires begins { begins_with_one blanks (drop start bytes.now) ≡ false }
     ensures later { start < result.end }
@@ -179,6 +192,9 @@ fn slash_or_point_at(bytes: &[u8], start: usize) -> Piece
     if text.starts_with(b"/*") {
         return comment_at(bytes, start);
     }
+    if bytes[start] == b'#' {
+        return hash_at(bytes, start);
+    }
     match text {
         [b'.', b'0'..=b'9', ..] => number_at(bytes, start),
         _ => Piece {
@@ -186,6 +202,72 @@ fn slash_or_point_at(bytes: &[u8], start: usize) -> Piece
             end: start + 1,
         },
     }
+}
+
+// What `#` begins here: a line or a name that is for a preprocessor, else it stands for itself.
+fn hash_at(bytes: &[u8], start: usize) -> Piece
+    requires within { start < length bytes.now }
+    requires begins { begins_with_one blanks (drop start bytes.now) ≡ false }
+    requires hash { slice_index bytes.now start ≡ 35 }
+    ensures later { start < result.end }
+    ensures within { result.end ≤ length bytes.now }
+    ensures is { Begins bytes.now start result }
+{
+    if start + 1 < bytes.len() && bytes[start + 1] == b'{' {
+        return placeholder_at(bytes, start);
+    }
+    if begins_line(bytes, start) {
+        return hash_line_at(bytes, start);
+    }
+    Piece {
+        kind: PieceKind::Token(TokenKind::Symbol(b'#')),
+        end: start + 1,
+    }
+}
+
+// The line that `#` begins here, which is for a preprocessor.
+fn hash_line_at(bytes: &[u8], start: usize) -> Piece
+    requires within { start < length bytes.now }
+    requires hash { slice_index bytes.now start ≡ 35 }
+    ensures later { start < result.end }
+    ensures within { result.end ≤ length bytes.now }
+    ensures is { Begins bytes.now start result }
+{
+    let left = behind_line(behind(bytes, start + 1));
+    Piece {
+        kind: PieceKind::Passed(Reason::Preprocessor),
+        end: bytes.len() - left.len(),
+    }
+}
+
+// The name that `#{` begins here, with its `}` where that stands behind it.
+fn placeholder_at(bytes: &[u8], start: usize) -> Piece
+    requires within { start + 1 < length bytes.now }
+    requires begins { begins_with_one blanks (drop start bytes.now) ≡ false }
+    requires brace { slice_index bytes.now (start + 1) ≡ 123 }
+    ensures later { start < result.end }
+    ensures within { result.end ≤ length bytes.now }
+    ensures is { Begins bytes.now start result }
+{
+    let end = name_end(bytes, start + 1);
+    let kind = PieceKind::Placeholder;
+    if end < bytes.len() && bytes[end] == b'}' {
+        return Piece { kind, end: end + 1 };
+    }
+    Piece { kind, end }
+}
+
+// Whether only blanks of ASCII stand before this byte in its line.
+fn begins_line(bytes: &[u8], start: usize) -> bool {
+    let before = bytes.get(byte_order_mark_len(bytes)..start).unwrap_or(&[]);
+    for byte in before.iter().rev() {
+        match class_of(*byte) {
+            Class::Break => return true,
+            Class::Blank => {}
+            _ => return false,
+        }
+    }
+    true
 }
 
 // The comment that `//` begins here.
@@ -217,7 +299,7 @@ fn comment_at(bytes: &[u8], start: usize) -> Piece
             end: bytes.len() - left.len(),
         },
         None => Piece {
-            kind: PieceKind::OpenComment,
+            kind: PieceKind::Passed(Reason::OpenComment),
             end: bytes.len(),
         },
     }

@@ -5,6 +5,8 @@
 mod bytes;
 mod cursor;
 mod declaration;
+mod directive;
+mod entry;
 mod expression;
 mod fault;
 mod generator;
@@ -21,9 +23,13 @@ mod piece;
 mod place;
 mod places;
 mod recovery;
+mod role;
+mod scopes;
 mod templates;
 mod token;
+mod uses;
 
+pub use entry::{DeclaredEntry, EntryStage};
 pub use expression::{Callee, Span, Step};
 pub use fault::{Expected, Fault, Reason};
 pub use literal::Literal;

@@ -1,16 +1,17 @@
 //! Sources as evaluators walk them: declarations, the steps of their expressions, and names.
 
-ghost use Rattle.std.specs.Prelude.{◌≡◌, ◌≤◌, ◌↔◌, [], All, IfOk, IfSome, OnOk, IsTrue, Contains, map, length, slice_get, unwrap_or};
+ghost use Rattle.std.specs.Prelude.{◌≡◌, ◌≤◌, ◌↔◌, [], None, All, IfOk, IfSome, OnOk, IsTrue, Contains, map, length, slice_get, unwrap_or};
 ghost use Rattle.wgsl_source.specs.Blanks.{IsCovered};
 ghost use Rattle.wgsl_source.specs.Faults.{IsTold, KeepsFaults};
 ghost use Rattle.wgsl_source.specs.Identifiers.{IsNameOrTold};
 ghost use Rattle.wgsl_source.specs.Numbers.{Means};
 ghost use Rattle.wgsl_source.specs.Orders.{IsOrderOf};
 ghost use Rattle.wgsl_source.specs.Pieces.{IsPiece, Reach, assertions_in, declarations_in, numbers};
-ghost use Rattle.wgsl_source.specs.Readings.{extent_in, extent_at, word_at, steps_in, first_named};
+ghost use Rattle.wgsl_source.specs.Readings.{extent_in, extent_at, word_at, steps_in, steps_at, first_named};
 
 use crate::cursor::{Cursor, Stop};
 use crate::declaration::{Declaration, Kind, Module, read_module};
+use crate::entry::DeclaredEntry;
 use crate::expression::{Expressions, Span, Step};
 use crate::fault::{Expected, Fault, Faults};
 use crate::identifier::check_names;
@@ -46,7 +47,7 @@ pub struct Reading<'a> {
 impl<'a> Model for Reading<'a> {
     ghost use Rattle.std.specs.Prelude.{◌≡◌, ℕ, List, length, map};
     ghost use Rattle.wgsl_source.specs.NameTables.{named_in};
-    ghost use Rattle.wgsl_source.specs.Readings.{Outline, extent_in, declared_in, field_in, found_by_if, first_of};
+    ghost use Rattle.wgsl_source.specs.Readings.{Outline, extent_in, declared_in, entry_in, id_in, field_in, found_by_if, first_of};
 
     ghost Value = { Outline };
 
@@ -54,6 +55,9 @@ impl<'a> Model for Reading<'a> {
       text = r.text.now;
       tokens = map extent_in r.tokens.items;
       declared = map (λ d. declared_in d.kind) r.module.declarations.items;
+      entries = map (λ d. entry_in d.kind) r.module.declarations.items;
+      ids = map (λ d. id_in d.kind) r.module.declarations.items;
+      spans = map (λ d. d.steps) r.module.declarations.items;
       names = map (λ d. d.name) r.module.declarations.items;
       found_by = found_by_if (length r.names.maps.items) (map (λ d. d.name) r.module.declarations.items);
       fields = map field_in r.module.members.items;
@@ -104,6 +108,8 @@ pub struct DeclaredVariable {
     pub ty: Option<Span>,
     pub space: Option<AddressSpace>,
     pub access: Option<AccessMode>,
+    /// Whether it is in the space of immediate data (`immediate`, or `push_constant`), which is no `AddressSpace`.
+    pub is_immediate: bool,
     pub group: Option<Span>,
     pub binding: Option<Span>,
 }
@@ -213,12 +219,43 @@ impl<'a> Reading<'a> {
                 ty: variable.ty,
                 space: variable.space,
                 access: variable.access,
-                group: variable.attributes.group,
-                binding: variable.attributes.binding,
+                is_immediate: variable.is_immediate,
+                group: variable.group,
+                binding: variable.binding,
             })),
-            Kind::Function => Some(Declared::Function),
+            Kind::Function(_) => Some(Declared::Function),
             Kind::Constant(ty, value) => Some(Declared::Const { ty, value }),
-            Kind::Override(ty, value) => Some(Declared::Override { ty, value }),
+            Kind::Override(ty, value, _) => Some(Declared::Override { ty, value }),
+        }
+    }
+
+    /// The entry point that a declaration is, if it is a function with the attribute of a stage.
+    pub fn entry(&self, number: usize) -> Option<DeclaredEntry>
+        ensures { result ≡ unwrap_or (slice_get self.now.entries number) None }
+    {
+        match self.module.declarations.get(number)?.kind {
+            Kind::Function(entry) => entry,
+            _ => None,
+        }
+    }
+
+    /// The expression of the `@id` of an override, where one is given.
+    pub fn id(&self, number: usize) -> Option<Span>
+        ensures { result ≡ unwrap_or (slice_get self.now.ids number) None }
+    {
+        match self.module.declarations.get(number)?.kind {
+            Kind::Override(_, _, id) => id,
+            _ => None,
+        }
+    }
+
+    /// The steps of a declaration, with those of its attributes.
+    pub(crate) fn steps_of(&self, number: usize) -> &[Step]
+        ensures { result.now ≡ steps_at self.now number }
+    {
+        match self.module.declarations.get(number) {
+            Some(declaration) => self.steps(declaration.steps),
+            None => &[],
         }
     }
 
@@ -240,8 +277,8 @@ impl<'a> Reading<'a> {
         Some(Field {
             name: member.name,
             ty: member.ty,
-            size: member.attributes.size,
-            align: member.attributes.align,
+            size: member.size,
+            align: member.align,
         })
     }
 
@@ -324,20 +361,22 @@ impl<'a> Reading<'a> {
 fn marked_tokens(alloc: Global, text: &str, faults: &mut Faults) -> Result<Vec<Token>, AllocError>
     ensures { IfOk result (λ tokens. IsCovered text.entry.now (map extent_in tokens.items) faults.new.faults.items) }
 {
-    let Lexed { mut tokens, fault } = tokens_of(alloc, text)?;
-    tell(fault, faults)?;
+    let Lexed {
+        mut tokens,
+        faults: found,
+    } = tokens_of(alloc, text)?;
+    tell(found.as_slice(), faults)?;
     mark_templates(alloc, &mut tokens)?;
     Ok(tokens)
 }
 
-// Tells a fault, if it is one.
-fn tell(fault: Option<Fault>, faults: &mut Faults) -> Result<(), AllocError>
-    ensures { OnOk result (IfSome fault (IsTold faults.new.faults.items)) }
+fn tell(found: &[Fault], faults: &mut Faults) -> Result<(), AllocError>
+    ensures { OnOk result (All (IsTold faults.new.faults.items) found.now) }
 {
-    match fault {
-        Some(fault) => faults.add(fault),
-        None => Ok(()),
+    for fault in found {
+        faults.add(*fault)?;
     }
+    Ok(())
 }
 
 // Tells what the grammar refuses, and answers where it begins.

@@ -6,6 +6,7 @@ ghost use Rattle.wgsl_source.specs.Declarations.{number_named};
 ghost use Rattle.wgsl_source.specs.Faults.{KeepsFaults};
 ghost use Rattle.wgsl_source.specs.NameTables.{named_in};
 ghost use Rattle.wgsl_source.specs.Orders.{IsOrderOf};
+ghost use Rattle.wgsl_source.specs.Uses.{looked_up};
 
 use crate::cursor::Cursor;
 use crate::declaration::Module;
@@ -146,8 +147,10 @@ impl Search<'_> {
     }
 }
 
-// The token of the name that a step looks up.
-fn name_in(step: Step) -> Option<usize> {
+/// The token of the name that a step looks up.
+pub(crate) fn name_in(step: Step) -> Option<usize>
+    ensures { result ≡ looked_up step }
+{
     match step {
         Step::Name(name) | Step::Template(name, _) => Some(name),
         Step::Call(name, Callee::Name, _) => Some(name),

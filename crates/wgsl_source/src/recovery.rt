@@ -41,8 +41,8 @@ impl<'a> Cursor<'a> {
         }
     }
 
-    // Whether such a bracket has no end that stands between the token of this number and here.
-    fn is_open(&self, start: usize, open: u8, close: u8) -> bool {
+    /// Whether such a bracket has no end that stands between the token of this number and here.
+    pub(crate) fn is_open(&self, start: usize, open: u8, close: u8) -> bool {
         let mut depth = 0usize;
         for at in start..self.position() {
             let token = self.token_at(at);

@@ -2,6 +2,8 @@
 
 mod compared;
 mod declarations;
+mod directives;
+mod entries;
 mod faults;
 mod growth;
 mod identifiers;
@@ -13,8 +15,10 @@ mod plain_forms;
 mod plain_groups;
 mod plain_modules;
 mod plain_tokens;
+mod preprocessor;
 mod readings;
 mod reasons;
 mod recovery;
 mod texts;
 mod tokens;
+mod uses;

@@ -75,3 +75,28 @@ fn an_expression_is_shown_or_memory_is_wanting(rt: HostRuntime) {
     assert!(rt; reading.faults().is_empty());
     drop(reading);
 }
+
+#[test]
+fn uses_are_found_or_memory_is_wanting(rt: HostRuntime) {
+    let alloc = rt.alloc();
+    let text = "const N = 2; var<private> a: array<u32, N>; fn f() { let b = a; _ = b; }";
+    let reading = match Reading::of_module(alloc, text) {
+        Ok(reading) => reading,
+        Err(AllocError) => {
+            Reading::of_module(alloc, text).expect(&rt, "one growth alone is refused")
+        }
+    };
+    let uses = match reading.uses(alloc) {
+        Ok(uses) => uses,
+        Err(AllocError) => reading
+            .uses(alloc)
+            .expect(&rt, "one growth alone is refused"),
+    };
+    drop(reading);
+    assert_eq!(rt; uses.len(), 3);
+    let of_function = uses.last().expect(&rt, "there are three");
+    assert_eq!(rt; of_function.as_slice(), [1].as_slice());
+    let of_variable = uses.get(1).expect(&rt, "there are three");
+    assert_eq!(rt; of_variable.as_slice(), [0].as_slice());
+    drop(uses);
+}

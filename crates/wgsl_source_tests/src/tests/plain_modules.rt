@@ -36,19 +36,19 @@ pub(super) fn module_of(alloc: Global, text: &str, lexed: &Lexed) -> Result<Modu
     }
     add_keywords(&mut found, walk, functions.as_slice())?;
     add_duplicates(&mut found, walk, functions.as_slice())?;
-    let faults = sorted(alloc, lexed.fault, found.as_slice())?;
+    let faults = sorted(alloc, lexed.faults.as_slice(), found.as_slice())?;
     Ok(Module { functions, faults })
 }
 
 /// The faults as they stand in the source, those of the tokens before those of what is read.
 pub(super) fn sorted(
     alloc: Global,
-    of_tokens: Option<Fault>,
+    of_tokens: &[Fault],
     others: &[Fault],
 ) -> Result<Vec<Fault>, AllocError> {
     let mut faults = Vec::new(alloc);
-    if let Some(fault) = of_tokens {
-        faults.push(fault)?;
+    for fault in of_tokens {
+        faults.push(*fault)?;
     }
     for fault in others {
         faults.push(*fault)?;

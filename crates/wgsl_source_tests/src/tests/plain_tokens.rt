@@ -25,14 +25,15 @@ pub(super) struct Token {
     pub(super) end: usize,
 }
 
-/// The tokens of a source, and the comment that has no end, if there is one: the rest of the source is then in it.
+/// The tokens of a source, and what is wrong in it: lines for a preprocessor, and a comment without an end. No source here
+/// has a name for a preprocessor.
 #[derive(Drop)]
 pub(super) struct Lexed {
     pub(super) tokens: Vec<Token>,
-    pub(super) fault: Option<Fault>,
+    pub(super) faults: Vec<Fault>,
 }
 
-/// What begins a text: so many bytes, and the token that they are, if they are one.
+/// What begins a text: so many bytes, and what they are.
 #[derive(Clone, Copy)]
 struct Piece {
     kind: PieceKind,
@@ -43,44 +44,55 @@ struct Piece {
 enum PieceKind {
     Token(TokenKind),
     Blank,
-    OpenComment,
+    Passed(Reason),
 }
 
 /// The tokens of the text, in order.
 pub(super) fn tokens_of(alloc: Global, text: &str) -> Result<Lexed, AllocError> {
     let bytes = text.as_bytes();
     let mut tokens = Vec::new(alloc);
+    let mut faults = Vec::new(alloc);
     let mut next = 0;
     for start in 0..bytes.len() {
         if start < next {
             continue;
         }
-        let piece = piece_at(&bytes[start..]);
+        let piece = piece_at(&bytes[start..], begins_line(&bytes[..start]));
         let end = start.saturating_add(piece.len);
         match piece.kind {
             PieceKind::Token(kind) => tokens.push(Token { kind, start, end })?,
             PieceKind::Blank => {}
-            PieceKind::OpenComment => {
-                let reason = Reason::OpenComment;
-                let fault = Some(Fault { start, end, reason });
-                return Ok(Lexed { tokens, fault });
-            }
+            PieceKind::Passed(reason) => faults.push(Fault { start, end, reason })?,
         }
         next = end;
     }
-    Ok(Lexed {
-        tokens,
-        fault: None,
-    })
+    Ok(Lexed { tokens, faults })
 }
 
-fn piece_at(rest: &[u8]) -> Piece {
+// Whether only blanks of ASCII stand behind the last line break of ASCII.
+fn begins_line(before: &[u8]) -> bool {
+    let mut is_begin = true;
+    for byte in before {
+        match *byte {
+            b'\n' | 0x0b | 0x0c | b'\r' => is_begin = true,
+            b' ' | b'\t' => {}
+            _ => is_begin = false,
+        }
+    }
+    is_begin
+}
+
+fn piece_at(rest: &[u8], is_first: bool) -> Piece {
     match rest {
+        [b'#', ..] if is_first => Piece {
+            kind: PieceKind::Passed(Reason::Preprocessor),
+            len: line_comment_len(rest),
+        },
         [b'/', b'/', ..] => Piece::blank(line_comment_len(rest)),
         [b'/', b'*', ..] => match block_comment_len(rest) {
             Some(len) => Piece::blank(len),
             None => Piece {
-                kind: PieceKind::OpenComment,
+                kind: PieceKind::Passed(Reason::OpenComment),
                 len: rest.len(),
             },
         },

@@ -110,7 +110,7 @@ const BRACKETS: [(&str, &str); 6] = [
     ),
     (
         "@workgroup_size(64 fn f() { } const N = 1;",
-        "1:43 expected `)`",
+        "const N; 1:20 expected `)`",
     ),
     (
         "struct S { @location(0 a: u32 } const N = 1;",

@@ -9,7 +9,7 @@ use Rattle.wgsl_source.proofs.identifier.check_members.Goals as goal
 
 pub loop-member-preserved : goal.loop-member-preserved
 loop-member-preserved c =
-    let d : Member = record { name = 0; ty = record { token = 0; start = 0; end = 0 }; attributes = record { align = None; size = None; group = None; binding = None } } in
+    let d : Member = record { name = 0; ty = record { token = 0; start = 0; end = 0 }; size = None; align = None } in
     let now = c.loop-member.faults.faults.items in
     let new = c.check_name.new.faults.faults.items in
     record {

@@ -3,4 +3,4 @@ use Rattle.wgsl_source.proofs.identifier.is_keyword.Goals as goal
 
 pub returns : goal.returns
 unfolding keywords
-returns c = c.is_one_of.ensures
+returns c = c.is_in.ensures

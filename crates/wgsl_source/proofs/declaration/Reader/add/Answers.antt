@@ -1,6 +1,6 @@
-use Rattle.std.proofs.Common.{Contains, List, ℕ, refl, subst, sym, ◌∙◌, arith}
-use Rattle.wgsl_source.specs.Pieces.{directives}
+use Rattle.std.proofs.Common.{refl, ◌∙◌, arith}
 use Rattle.wgsl_source.specs.declared.piece.PieceKind.TheVariants.{Directive, Semicolon}
+use Rattle.wgsl_source.proofs.DirectiveLemmas.{directive_piece}
 use Rattle.wgsl_source.proofs.PieceLemmas.{added-declaration, added-assertion, added-other}
 use Rattle.wgsl_source.proofs.ReadingLemmas.{word_of-token}
 use Rattle.wgsl_source.proofs.declaration.Reader.add.Goals as goal
@@ -23,8 +23,9 @@ returns-in-Directive-clause-read c = λ faults read.
     let old = c.args.self.now in
     let new = c.add_piece.new.self in
     let item = rw c.in-Directive.is at c.requires.item in
-    let P : List ℕ → Type 0 = λ word. Contains directives word in
-    added-other c.add_piece.result c.args.cursor old.pieces.items new.pieces.items old.declarations.items new.declarations.items old.asserts.items new.asserts.items faults c.args.start c.end_of-end.result Directive c.add_piece.ensures (omega arith) refl refl (subst P (sym (word_of-token c.args.cursor c.args.start)) item) read
+    let cursor = c.args.cursor in
+    let has = directive_piece cursor c.args.start old.expressions.cursor.at c.end_of-end.result item.0 item.1 item.2 c.end_of-end.ensures in
+    added-other c.add_piece.result cursor old.pieces.items new.pieces.items old.declarations.items new.declarations.items old.asserts.items new.asserts.items faults c.args.start c.end_of-end.result Directive c.add_piece.ensures (omega arith) refl refl has read
 
 pub returns-in-Semicolon-clause-read : goal.returns-in-Semicolon-clause-read
 returns-in-Semicolon-clause-read c = λ faults read.
