@@ -1,8 +1,12 @@
 pub mod Bindings
 pub mod Faults
+pub mod FirstNumbers
+pub mod Marks
 pub mod Natures
 pub mod Plain
+pub mod Reach
 pub mod Shared
 pub mod Texts
 pub mod Variables
 pub mod Walks
+pub mod Workgroups

@@ -23,6 +23,7 @@ rule_code rules.GroupMissing = codes "group-missing"
 rule_code rules.BindingMissing = codes "binding-missing"
 rule_code rules.GroupSpace = codes "group-space"
 rule_code rules.BindingSpace = codes "binding-space"
+rule_code rules.SameBinding = codes "same-binding"
 
 -- the section of the standard that has it
 abbrev pub rule_section : ShareRule → List ℕ
@@ -44,6 +45,7 @@ rule_section rules.GroupMissing = codes "resource interface"
 rule_section rules.BindingMissing = codes "resource interface"
 rule_section rules.GroupSpace = codes "resource interface"
 rule_section rules.BindingSpace = codes "resource interface"
+rule_section rules.SameBinding = codes "resource interface"
 
 -- the rule in words
 abbrev pub rule_text : ShareRule → List ℕ
@@ -65,6 +67,7 @@ rule_text rules.GroupMissing = codes "a resource needs @group"
 rule_text rules.BindingMissing = codes "a resource needs @binding"
 rule_text rules.GroupSpace = codes "only a resource has @group"
 rule_text rules.BindingSpace = codes "only a resource has @binding"
+rule_text rules.SameBinding = codes "resources of one entry point differ in @group or @binding"
 
 -- a rule of types, wherever they stand
 abbrev pub is_of_each_type : ShareRule → Bool

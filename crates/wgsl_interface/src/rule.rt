@@ -5,8 +5,8 @@ ghost use Rattle.wgsl_interface.specs.Texts.{rule_code, rule_section, rule_text,
 
 use std::fmt;
 
-/// What a type breaks, wherever it stands or in the address space of a variable, or what a variable
-/// itself breaks.
+/// What a type breaks, wherever it stands or in the address space of a variable, what a variable itself
+/// breaks, or what two variables break together.
 #[derive(Clone, Copy, Debug, PartialEq, Eq)]
 pub enum ShareRule {
     /// A vector has 2 to 4 scalars, a matrix 2 to 4 columns and rows of numbers, an array an element and
@@ -47,6 +47,9 @@ pub enum ShareRule {
     GroupSpace,
     /// What is no resource has no binding (WGSL: resource interface).
     BindingSpace,
+    /// Two resources that one entry point uses differ in their group or their binding (WGSL: resource
+    /// interface).
+    SameBinding,
 }
 
 impl ShareRule {
@@ -73,6 +76,7 @@ impl ShareRule {
             ShareRule::BindingMissing => "binding-missing",
             ShareRule::GroupSpace => "group-space",
             ShareRule::BindingSpace => "binding-space",
+            ShareRule::SameBinding => "same-binding",
         }
     }
 
@@ -99,6 +103,7 @@ impl ShareRule {
             ShareRule::BindingMissing => "resource interface",
             ShareRule::GroupSpace => "resource interface",
             ShareRule::BindingSpace => "resource interface",
+            ShareRule::SameBinding => "resource interface",
         }
     }
 
@@ -113,7 +118,7 @@ impl ShareRule {
             ShareRule::BoolShared | ShareRule::RuntimeSpace | ShareRule::AtomicSpace => false,
             ShareRule::AtomicAccess | ShareRule::NotHandle | ShareRule::WriteAccess => false,
             ShareRule::AccessSpace | ShareRule::GroupMissing | ShareRule::BindingMissing => false,
-            ShareRule::GroupSpace | ShareRule::BindingSpace => false,
+            ShareRule::GroupSpace | ShareRule::BindingSpace | ShareRule::SameBinding => false,
         }
     }
 }
@@ -148,6 +153,7 @@ impl fmt::Display for ShareRule {
             ShareRule::BindingMissing => "a resource needs @binding",
             ShareRule::GroupSpace => "only a resource has @group",
             ShareRule::BindingSpace => "only a resource has @binding",
+            ShareRule::SameBinding => "resources of one entry point differ in @group or @binding",
         })
     }
 }

@@ -1,10 +1,11 @@
-//! What types break of the rules of address spaces, and resources at one binding.
+//! What types break of the rules of address spaces, what declarations reach, and resources at one binding.
 
 use crate::tests::asserts::assert_same;
 use std::alloc::{AllocError, Global};
 use std::process::Abort;
 use wgsl_interface::{
-    Binding, ShareFault, ShareRule, first_at_binding, share_faults, struct_faults,
+    Binding, BindingPair, ShareFault, ShareRule, first_at_binding, pairs_at_binding, reached,
+    share_faults, struct_faults,
 };
 use wgsl_rules::{AddressSpace, StructType, Type};
 use wgsl_samples::types::{array, member, struct_type};
@@ -92,4 +93,49 @@ fn firsts_at_a_binding_are_refused_or_found(rt: HostRuntime) {
     assert_same(&rt, firsts[0], None);
     assert_same(&rt, firsts[4], None);
     assert_same(&rt, firsts[8], Some(0));
+}
+
+#[test]
+fn pairs_at_a_binding_are_refused_or_found(rt: HostRuntime) {
+    let alloc = rt.alloc();
+    let bindings = [Some(Binding {
+        group: 0,
+        binding: 0,
+    }); 9];
+    let used = [0, 1, 2, 3, 4, 5, 6, 7, 8];
+    let pairs = match pairs_at_binding(alloc, &bindings, &used) {
+        Ok(pairs) => pairs,
+        Err(_) => pairs_at_binding(alloc, &bindings, &used).expect(&rt, "memory"),
+    };
+    assert_same(&rt, pairs.len(), 8);
+    assert_same(&rt, pairs[0], BindingPair { first: 0, later: 1 });
+    assert_same(&rt, pairs[7], BindingPair { first: 0, later: 8 });
+}
+
+/// Ten declarations, of which the first names all others.
+fn of_many_uses(alloc: Global) -> Result<Vec<Vec<usize>>, AllocError> {
+    let mut uses = Vec::with_capacity(alloc, 10)?;
+    uses.push(Vec::from_slice(alloc, &[1, 2, 3, 4, 5, 6, 7, 8, 9])?)?;
+    for _ in 1..10 {
+        uses.push(Vec::new(alloc))?;
+    }
+    Ok(uses)
+}
+
+/// Asserts what the first one reaches, where one growth alone may be refused.
+fn assert_reached(rt: &impl Abort, alloc: Global, uses: &[Vec<usize>]) {
+    let found = match reached(alloc, uses, 0) {
+        Ok(found) => found,
+        Err(_) => reached(alloc, uses, 0).expect(rt, "memory"),
+    };
+    let wanted: &[usize] = &[0, 1, 2, 3, 4, 5, 6, 7, 8, 9];
+    assert_eq!(rt; found.as_slice(), wanted);
+}
+
+#[test]
+fn what_is_reached_is_refused_or_found(rt: HostRuntime) {
+    let alloc = rt.alloc();
+    if let Ok(uses) = of_many_uses(alloc) {
+        assert_reached(&rt, alloc, uses.as_slice());
+    }
 }

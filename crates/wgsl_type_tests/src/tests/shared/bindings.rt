@@ -1,8 +1,8 @@
-//! The first of the resources that are at one group and binding.
+//! The resources that are at one group and binding: the first of them, and the pairs that one entry point uses.
 
 use std::alloc::Global;
 use std::process::Abort;
-use wgsl_interface::{Binding, first_at_binding};
+use wgsl_interface::{Binding, BindingPair, first_at_binding, pairs_at_binding};
 
 fn at(group: u32, binding: u32) -> Binding {
     Binding { group, binding }
@@ -53,4 +53,51 @@ fn firsts_of_many(rt: HostRuntime) {
         let wanted = (i >= 77).then_some(i % 77);
         assert_eq!(&rt; *first, wanted, "{i}");
     }
+}
+
+fn pair(first: usize, later: usize) -> BindingPair {
+    BindingPair { first, later }
+}
+
+/// Asserts the pairs among seven declarations, of which two have no binding.
+fn assert_pairs(rt: &impl Abort, alloc: Global, used: &[usize], wanted: &[BindingPair]) {
+    let bindings = [
+        Some(at(0, 1)),
+        Some(at(1, 0)),
+        None,
+        Some(at(0, 1)),
+        None,
+        Some(at(0, 1)),
+        Some(at(1, 0)),
+    ];
+    let pairs = pairs_at_binding(alloc, &bindings, used).expect(rt, "memory");
+    assert_eq!(rt; pairs.as_slice(), wanted);
+}
+
+#[test]
+fn pairs_of_what_is_used(rt: HostRuntime) {
+    let alloc = rt.alloc();
+    assert_pairs(&rt, alloc, &[], &[]);
+    assert_pairs(&rt, alloc, &[0, 1, 2], &[]);
+    assert_pairs(&rt, alloc, &[2, 4], &[]);
+    assert_pairs(&rt, alloc, &[0, 3], &[pair(0, 3)]);
+    assert_pairs(&rt, alloc, &[1, 2, 3, 4, 5], &[pair(3, 5)]);
+    assert_pairs(&rt, alloc, &[3, 0], &[pair(3, 0)]);
+}
+
+#[test]
+fn pairs_with_the_first_of_many(rt: HostRuntime) {
+    let alloc = rt.alloc();
+    let all = [pair(0, 3), pair(0, 5), pair(1, 6)];
+    assert_pairs(&rt, alloc, &[0, 1, 2, 3, 4, 5, 6], &all);
+    let all = [pair(0, 5), pair(1, 6), pair(0, 3)];
+    assert_pairs(&rt, alloc, &[0, 1, 5, 6, 3], &all);
+}
+
+#[test]
+fn pairs_of_no_declarations(rt: HostRuntime) {
+    let alloc = rt.alloc();
+    assert_pairs(&rt, alloc, &[7, 0, usize::MAX, 3, 8], &[pair(0, 3)]);
+    let pairs = pairs_at_binding(alloc, &[], &[0, 1]).expect(&rt, "memory");
+    assert!(&rt; pairs.is_empty());
 }

@@ -112,7 +112,7 @@ fn rules_that_a_type_breaks_in_a_space(rt: HostRuntime) {
 }
 
 #[test]
-fn rules_that_a_variable_breaks(rt: HostRuntime) {
+fn rules_that_variables_break(rt: HostRuntime) {
     let alloc = rt.alloc();
     for (rule, code, section, words) in [
         (
@@ -150,6 +150,12 @@ fn rules_that_a_variable_breaks(rt: HostRuntime) {
             "binding-space",
             "resource interface",
             "only a resource has @binding",
+        ),
+        (
+            ShareRule::SameBinding,
+            "same-binding",
+            "resource interface",
+            "resources of one entry point differ in @group or @binding",
         ),
     ] {
         assert_rule(&rt, alloc, rule, code, section, words);
