@@ -4,6 +4,7 @@ pub mod CallSteps
 pub mod Columns
 pub mod ConvertedLists
 pub mod Each
+pub mod Faults
 pub mod Items
 pub mod Kept
 pub mod MadeTypes
@@ -20,6 +21,7 @@ pub mod Structures
 pub mod Swizzles
 pub mod TakenValues
 pub mod Told
+pub mod ValueNames
 pub mod WaitingSteps
 pub mod Walks
 pub mod Wholes

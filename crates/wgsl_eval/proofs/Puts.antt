@@ -9,7 +9,7 @@ use Rattle.std.proofs.lemmas.Option.{slice_get-get_or, slice_get_cases, slice_ge
 use Rattle.wgsl_eval.specs.Answers.{meaning_at}
 use Rattle.wgsl_eval.specs.Evaluation.{name_at}
 use Rattle.wgsl_eval.specs.Evaluators.{Setting}
-use Rattle.wgsl_eval.specs.Meanings.{IsDeclared, IsFoundAt, IsPlaced, IsSecond, told, with_fault, with_faults, with_meaning}
+use Rattle.wgsl_eval.specs.Meanings.{AreOthers, IsDeclared, IsFoundAt, IsPlaced, IsSecond, told, with_all, with_fault, with_faults, with_meaning}
 use Rattle.wgsl_eval.specs.Assertions.{IsAssertion, IsTold}
 use Rattle.wgsl_eval.specs.Messages.{IsFaultMessage, faults_with}
 use Rattle.wgsl_eval.specs.declared.answer.Guard.{Guard}
@@ -31,13 +31,13 @@ slice_get-set_other xs i k v ne =
 pub placed_same : (s t : Setting) (n : ℕ) → t ≡ s → IsPlaced s n t
 placed_same s t n e =
     let P : Setting → Type 0 = λ u. IsPlaced s n u in
-    subst P (sym e) (record { source = refl; stage = refl; is_strict = refl; dialect = refl; count = refl; others = λ k ne. refl })
+    subst P (sym e) (record { source = refl; stage = refl; is_strict = refl; dialect = refl; given = refl; count = refl; others = λ k ne. refl })
 
 -- a fault is told in no place
 pub placed_told : (s t : Setting) (n : ℕ) (a : Answer) → t ≡ with_faults s a → IsPlaced s n t
 placed_told s t n a e =
     let P : Setting → Type 0 = λ u. IsPlaced s n u in
-    subst P (sym e) (record { source = refl; stage = refl; is_strict = refl; dialect = refl; count = refl; others = λ k ne. refl })
+    subst P (sym e) (record { source = refl; stage = refl; is_strict = refl; dialect = refl; given = refl; count = refl; others = λ k ne. refl })
 
 placed : (s : Setting) (n : ℕ) (m : Answer) → IsPlaced s n (with_meaning s n m)
 placed s n m = record {
@@ -45,6 +45,7 @@ placed s n m = record {
   stage = refl;
   is_strict = refl;
   dialect = refl;
+  given = refl;
   count = length-set s.meanings n m;
   others = λ k ne. slice_get-set_other s.meanings n k m ne;
 }
@@ -55,6 +56,7 @@ placed_both s t u n h k = record {
   stage = k.stage ∙ h.stage;
   is_strict = k.is_strict ∙ h.is_strict;
   dialect = k.dialect ∙ h.dialect;
+  given = k.given ∙ h.given;
   count = k.count ∙ h.count;
   others = λ i ne. k.others i ne ∙ h.others i ne;
 }
@@ -82,19 +84,22 @@ fails b A e is a = false≢true (sym is ∙ e.1 a)
 pub found_second : (s : Setting) (n : ℕ) → IsSecond s.source n → IsFoundAt s n s
 found_second s n h = record { others = placed_same s s n refl; second = λ _. refl; first = λ not. absurd (not h) }
 
-pub found_first : {T E : Type 0} (result : Result T E) (s t u : Setting) (n len : ℕ) (m : Answer)
-    → t ≡ s → length t.meanings ≡ len → IsPlaced t n u → OnOk result (n < len → meaning_at u.meanings n ≡ told m)
-    → OnOk result (u.faults ≡ faults_with t.faults m) → IsDeclared s (name_at s.source n) (slice_get s.source.declared n) m → (IsSecond s.source n → ⊥) → OnOk result (IsFoundAt s n u)
-found_first (Ok x) s t u n len m e counted others there faults declared not =
-    let P : Setting → Type 0 = λ v. IsPlaced v n u in
-    let Q : Setting → Type 0 = λ v. n < length v.meanings in
+pub found_first : {T E : Type 0} (result : Result T E) (s t v u : Setting) (n len : ℕ) (m : Answer) (others : List Message)
+    → t ≡ s → v ≡ with_all t others → length v.meanings ≡ len → IsPlaced v n u → OnOk result (n < len → meaning_at u.meanings n ≡ told m)
+    → OnOk result (u.faults ≡ faults_with v.faults m) → IsDeclared s (name_at s.source n) (slice_get s.source.declared n) m
+    → AreOthers s (slice_get s.source.declared n) m others → (IsSecond s.source n → ⊥) → OnOk result (IsFoundAt s n u)
+found_first (Ok x) s t v u n len m others e f counted placed there faults declared beside not =
+    let same : v ≡ with_all s others = f ∙ ap (λ (x : Setting). with_all x others) e in
+    let P : Setting → Type 0 = λ x. IsPlaced x n u in
+    let Q : Setting → Type 0 = λ x. n < length x.meanings in
     let R : ℕ → Type 0 = λ k. n < k in
+    let p : IsPlaced (with_all s others) n u = subst P same placed in
     record {
-      others = subst P e others;
+      others = record { source = p.source; stage = p.stage; is_strict = p.is_strict; dialect = p.dialect; given = p.given; count = p.count; others = p.others };
       second = λ h. absurd (not h);
-      first = λ _. (m, declared, λ h. there (subst R counted (subst Q (sym e) h)), faults ∙ ap (λ (x : Setting). faults_with x.faults m) e);
+      first = λ _. (m, others, declared, beside, (λ h. there (subst R counted (subst Q (sym same) h))), faults ∙ ap (λ (x : Setting). faults_with x.faults m) same);
     }
-found_first (Err x) s t u n len m e counted others there faults declared not = tt
+found_first (Err x) s t v u n len m others e f counted placed there faults declared beside not = tt
 
 -- what is told of an answer
 pub told_wrong : (s t : Setting) (m : Message) (guard : Guard) → t ≡ with_fault s m → t ≡ with_faults s (answers.Wrong m guard)

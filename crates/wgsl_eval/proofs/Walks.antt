@@ -3,13 +3,16 @@ use Rattle.std.proofs.Common.{◌≡◌, ℕ, Bool, true, false, Result, Ok, Err
 use Rattle.std.proofs.Math.Seq.{drop-length}
 use Rattle.wgsl_rules.specs.Values.{Val}
 use Rattle.wgsl_values.specs.View.{value_of}
+use Rattle.wgsl_rules.specs.declared.syntax.ShaderStage.{ShaderStage}
 use Rattle.wgsl_source.specs.Readings.{Outline}
+use Rattle.wgsl_source.specs.declared.module.Declared.{Declared}
+use Rattle.wgsl_source.specs.declared.module.Declared.TheVariants as declareds
 use Rattle.wgsl_source.specs.declared.expression.Span.{Span}
 use Rattle.wgsl_source.specs.declared.expression.Step.{Step}
 use Rattle.wgsl_eval.specs.Answers.{AreAnswers}
 use Rattle.wgsl_eval.specs.Assertions.{AreAsserted, IsAsserted, IsAssertion, IsTold, is_truth}
-use Rattle.wgsl_eval.specs.Evaluated.{AreDeclarations, AreItems, IsEvaluated, setting_before, values_of}
-use Rattle.wgsl_eval.specs.Evaluation.{value_names}
+use Rattle.wgsl_eval.specs.Evaluated.{AreDeclarations, AreDeclarationsWith, AreItems, IsEvaluated, IsEvaluatedWith, setting_with, values_of}
+use Rattle.wgsl_eval.specs.Evaluation.{has_value, has_value_among, name_at, value_names, value_names_among}
 use Rattle.wgsl_eval.specs.Evaluators.{Setting}
 use Rattle.wgsl_eval.specs.Given.{IsGiven, rest_of}
 use Rattle.wgsl_eval.specs.Meanings.{AreDeclared, IsFoundAt}
@@ -20,8 +23,10 @@ use Rattle.wgsl_eval.specs.declared.answer.Answer.TheVariants as answers
 use Rattle.wgsl_eval.specs.declared.assertions.Assertion.{Assertion}
 use Rattle.wgsl_eval.specs.declared.assertions.Assertion.TheVariants as asserts
 use Rattle.wgsl_eval.specs.declared.declarations.Declarations.{Declarations}
-use Rattle.wgsl_eval.specs.declared.evaluator.Evaluation.{Evaluation}
+use Rattle.wgsl_eval.specs.declared.evaluation.Evaluation.{Evaluation}
+use Rattle.wgsl_eval.specs.declared.given.Given.{Given}
 use Rattle.wgsl_eval.specs.declared.settings.Settings.{Settings}
+use Rattle.wgsl_eval.proofs.Told.{told_alike}
 
 dropped_at : {A : Type 0} (xs : List A) (i : ℕ) (d : A) → i < length xs → drop i xs ≡ get_or xs i d ∷ drop (i + 1) xs
 dropped_at xs i d h = rw add-one (drop-cons xs i d h)
@@ -74,6 +79,10 @@ same_source (n ∷ ns) s after d = same_source ns d.0 after d.2 ∙ d.1.others.s
 pub same_stage : (ns : List ℕ) (s after : Setting) → AreDeclared s ns after → after.stage ≡ s.stage
 same_stage [] s after e = ap (λ (x : Setting). x.stage) e
 same_stage (n ∷ ns) s after d = same_stage ns d.0 after d.2 ∙ d.1.others.stage
+
+pub same_given : (ns : List ℕ) (s after : Setting) → AreDeclared s ns after → after.given ≡ s.given
+same_given [] s after e = ap (λ (x : Setting). x.given) e
+same_given (n ∷ ns) s after d = same_given ns d.0 after d.2 ∙ d.1.others.given
 
 -- ---- assertions
 
@@ -145,26 +154,45 @@ asserted_answers s t span a h k =
 
 -- the same declarations have values
 same_names : (ns : List ℕ) (s t u : Setting) → AreDeclared s ns t → IsLike t u
-    → value_names s.source s.stage 0 s.source.declared ≡ value_names u.source u.stage 0 u.source.declared
+    → value_names_among s.source s.given s.stage 0 s.source.declared ≡ value_names_among u.source u.given u.stage 0 u.source.declared
 same_names ns s t u d e =
     let source : u.source ≡ s.source = ap (λ (x : Setting). x.source) e ∙ same_source ns s t d in
+    let given : u.given ≡ s.given = ap (λ (x : Setting). x.given) e ∙ same_given ns s t d in
     let stage : u.stage ≡ s.stage = ap (λ (x : Setting). x.stage) e ∙ same_stage ns s t d in
-    sym (ap (λ o. value_names o u.stage 0 o.declared) source ∙ ap (λ g. value_names s.source g 0 s.source.declared) stage)
+    sym (ap (λ o. value_names_among o u.given u.stage 0 o.declared) source
+    ∙ ap (λ vs. value_names_among s.source vs u.stage 0 s.source.declared) given
+    ∙ ap (λ g. value_names_among s.source s.given g 0 s.source.declared) stage)
 
 -- from nothing that is known to all that is told
-pub named : {T E : Type 0} (o : Outline) (given : Settings) (f : T → List ℕ) (s t u : Setting) (found : List Assertion) (r : Result T E)
-    → s ≡ setting_before o given → AreDeclared s s.source.order t → AreAsserted t t.source.asserts found u
-    → IfOk r (λ x. f x ≡ value_names u.source u.stage 0 u.source.declared) → IfOk r (λ x. f x ≡ value_names o given.stage 0 o.declared)
-named o given f s t u found (Err x) e d asserted h = tt
-named o given f s t u found (Ok x) e d asserted h =
-    h ∙ sym (same_names s.source.order s t u d (asserted_like t t.source.asserts found u asserted)) ∙ ap (λ (v : Setting). value_names v.source v.stage 0 v.source.declared) e
+pub named : {T E : Type 0} (o : Outline) (given : List Given) (settings : Settings) (f : T → List ℕ) (s t u : Setting) (found : List Assertion) (r : Result T E)
+    → s ≡ setting_with o given settings → AreDeclared s s.source.order t → AreAsserted t t.source.asserts found u
+    → IfOk r (λ x. f x ≡ value_names_among u.source u.given u.stage 0 u.source.declared) → IfOk r (λ x. f x ≡ value_names_among o given settings.stage 0 o.declared)
+named o given settings f s t u found (Err x) e d asserted h = tt
+named o given settings f s t u found (Ok x) e d asserted h =
+    h ∙ sym (same_names s.source.order s t u d (asserted_like t t.source.asserts found u asserted)) ∙ ap (λ (v : Setting). value_names_among v.source v.given v.stage 0 v.source.declared) e
 
-pub evaluated : {E : Type 0} (o : Outline) (given : Settings) (s t u : Setting) (found : Vec Assertion Global) (r : Result Evaluation E)
-    → s ≡ setting_before o given → AreDeclared s s.source.order t → AreAsserted t t.source.asserts found.items u
+has_alike : (o : Outline) (stage : ShaderStage) (number : ℕ) (d : Declared) → has_value_among o [] stage number d ≡ has_value stage d
+has_alike o stage number (declareds.Const ty value) = refl
+has_alike o stage number (declareds.Override ty value) = refl
+has_alike o stage number (declareds.Alias ty) = refl
+has_alike o stage number (declareds.Struct first end) = refl
+has_alike o stage number (declareds.Variable v) = refl
+has_alike o stage number declareds.Function = refl
+
+-- the names where a host gives nothing
+pub named_before : {T E : Type 0} (o : Outline) (given : List Given) (stage : ShaderStage) (f : T → List ℕ) (r : Result T E) → given ≡ []
+    → IfOk r (λ x. f x ≡ value_names_among o given stage 0 o.declared) → IfOk r (λ x. f x ≡ value_names o stage 0 o.declared)
+named_before o given stage f (Err x) none h = tt
+named_before o given stage f (Ok x) none h =
+    h ∙ ap (λ vs. value_names_among o vs stage 0 o.declared) none
+    ∙ told_alike (has_value_among o [] stage) (λ number. has_value stage) (name_at o) 0 o.declared (has_alike o stage)
+
+pub evaluated : {E : Type 0} (o : Outline) (given : List Given) (settings : Settings) (s t u : Setting) (found : Vec Assertion Global) (r : Result Evaluation E)
+    → s ≡ setting_with o given settings → AreDeclared s s.source.order t → AreAsserted t t.source.asserts found.items u
     → IfOk r (λ e. e.values.items ≡ values_of u 0 u.source.declared) → IfOk r (λ e. e.asserts ≡ found) → IfOk r (λ e. AreTold u.faults e.messages.items)
-    → IfOk r (IsEvaluated o given)
-evaluated o given s t u found (Err x) e d asserted h k m = tt
-evaluated o given s t u found (Ok x) e d asserted h k m =
+    → IfOk r (IsEvaluatedWith o given settings)
+evaluated o given settings s t u found (Err x) e d asserted h k m = tt
+evaluated o given settings s t u found (Ok x) e d asserted h k m =
     let P : Setting → Type 0 = λ v. AreDeclared v v.source.order t in
     let source : t.source ≡ o = same_source s.source.order s t d ∙ ap (λ (v : Setting). v.source) e in
     let Q : Outline → Type 0 = λ p. AreAsserted t p.asserts found.items u in
@@ -179,10 +207,19 @@ evaluated o given s t u found (Ok x) e d asserted h k m =
       messages = m;
     }
 
-pub declared : {E : Type 0} (o : Outline) (given : Settings) (s t : Setting) (r : Result Declarations E)
-    → s ≡ setting_before o given → AreDeclared s s.source.order t
-    → IfOk r (λ d. AreItems t d.items.items) → IfOk r (λ d. AreTold t.faults d.messages.items) → IfOk r (AreDeclarations o given)
-declared o given s t (Err x) e d h m = tt
-declared o given s t (Ok x) e d h m =
+-- where a host gives nothing
+pub evaluated_before : {E : Type 0} (o : Outline) (given : List Given) (settings : Settings) (r : Result Evaluation E) → given ≡ []
+    → IfOk r (IsEvaluatedWith o given settings) → IfOk r (IsEvaluated o settings)
+evaluated_before o given settings r none h = let P : List Given → Type 0 = λ vs. IfOk r (IsEvaluatedWith o vs settings) in subst P none h
+
+pub declared : {E : Type 0} (o : Outline) (given : List Given) (settings : Settings) (s t : Setting) (r : Result Declarations E)
+    → s ≡ setting_with o given settings → AreDeclared s s.source.order t
+    → IfOk r (λ d. AreItems t d.items.items) → IfOk r (λ d. AreTold t.faults d.messages.items) → IfOk r (AreDeclarationsWith o given settings)
+declared o given settings s t (Err x) e d h m = tt
+declared o given settings s t (Ok x) e d h m =
     let P : Setting → Type 0 = λ v. AreDeclared v v.source.order t in
     record { after = t; declared = subst P e d; items = h; messages = m }
+
+pub declared_before : {E : Type 0} (o : Outline) (given : List Given) (settings : Settings) (r : Result Declarations E) → given ≡ []
+    → IfOk r (AreDeclarationsWith o given settings) → IfOk r (AreDeclarations o settings)
+declared_before o given settings r none h = let P : List Given → Type 0 = λ vs. IfOk r (AreDeclarationsWith o vs settings) in subst P none h

@@ -12,8 +12,8 @@ use Rattle.wgsl_eval.specs.declared.answer.Need.{Need}
 use Rattle.wgsl_eval.specs.declared.answer.Need.TheVariants as needs
 use Rattle.wgsl_eval.specs.declared.answer.Part.TheVariants as parts
 use Rattle.wgsl_eval.specs.declared.answer.Value.{Value}
-use Rattle.wgsl_eval.specs.declared.evaluator.Outcome.{Outcome}
-use Rattle.wgsl_eval.specs.declared.evaluator.Outcome.TheVariants as outcomes
+use Rattle.wgsl_eval.specs.declared.evaluation.Outcome.{Outcome}
+use Rattle.wgsl_eval.specs.declared.evaluation.Outcome.TheVariants as outcomes
 
 -- a number that stays at the largest of 64 bits
 abbrev pub at_most_largest : ℕ → ℕ

@@ -5,7 +5,7 @@ use Rattle.wgsl_source.specs.Readings.{Outline, extent_at, word_at}
 use Rattle.wgsl_source.specs.declared.module.Declared.{Declared}
 use Rattle.wgsl_source.specs.declared.module.Declared.TheVariants as declareds
 use Rattle.wgsl_eval.specs.Answers.{meaning_at, outcome_in}
-use Rattle.wgsl_eval.specs.Evaluation.{has_value, name_at}
+use Rattle.wgsl_eval.specs.Evaluation.{has_value_among, name_at}
 use Rattle.wgsl_eval.specs.Evaluators.{Setting}
 use Rattle.wgsl_eval.specs.Lists.{AllFrom, told_from}
 use Rattle.wgsl_eval.specs.Assertions.{AreAsserted}
@@ -17,21 +17,27 @@ use Rattle.wgsl_eval.specs.declared.declarations.Declarations.{Declarations}
 use Rattle.wgsl_eval.specs.declared.declarations.Item.{Item}
 use Rattle.wgsl_eval.specs.declared.declarations.ItemKind.{ItemKind}
 use Rattle.wgsl_eval.specs.declared.declarations.ItemKind.TheVariants as items
-use Rattle.wgsl_eval.specs.declared.evaluator.Evaluated.{Evaluated}
-use Rattle.wgsl_eval.specs.declared.evaluator.Evaluation.{Evaluation}
+use Rattle.wgsl_eval.specs.declared.evaluation.Evaluated.{Evaluated}
+use Rattle.wgsl_eval.specs.declared.evaluation.Evaluation.{Evaluation}
+use Rattle.wgsl_eval.specs.declared.given.Given.{Given}
 use Rattle.wgsl_functions.specs.declared.parameters.Dialect.TheVariants as dialects
 use Rattle.wgsl_eval.specs.declared.settings.Settings.{Settings}
 
--- nothing is known of the declarations, and nothing is told
-abbrev pub setting_before : Outline → Settings → Setting
-setting_before o given = record {
+-- nothing is known of the declarations, and nothing is told; a host gives these values
+abbrev pub setting_with : Outline → List Given → Settings → Setting
+setting_with o given settings = record {
   source = o;
-  stage = given.stage;
-  is_strict = given.is_strict;
-  dialect = given.dialect;
+  stage = settings.stage;
+  is_strict = settings.is_strict;
+  dialect = settings.dialect;
+  given = given;
   meanings = replicate (length o.declared) answers.Faulty;
   faults = [];
 }
+
+-- a host gives nothing
+abbrev pub setting_before : Outline → Settings → Setting
+setting_before o settings = setting_with o [] settings
 
 -- the settings of WGSL
 abbrev pub of_wgsl : ShaderStage → Bool → Settings
@@ -44,17 +50,21 @@ abbrev pub evaluated_at : Setting → ℕ → Evaluated
 evaluated_at s number = record { token = name_at s.source number; outcome = outcome_in (meaning_at s.meanings number) }
 
 abbrev pub values_of : Setting → ℕ → List Declared → List Evaluated
-values_of s = told_from (has_value s.stage) (evaluated_at s)
+values_of s = told_from (has_value_among s.source s.given s.stage) (evaluated_at s)
 
 -- the settings behind the declarations, each of which has its meaning in the order of the source, and behind the
 -- assertions; the values are those of the declarations, and all faults that were found are told
-pub record IsEvaluated (o : Outline) (given : Settings) (e : Evaluation) : Type 0 where
+pub record IsEvaluatedWith (o : Outline) (given : List Given) (settings : Settings) (e : Evaluation) : Type 0 where
   pub after : Setting
-  pub declared : AreDeclared (setting_before o given) o.order after
+  pub declared : AreDeclared (setting_with o given settings) o.order after
   pub last : Setting
   pub asserts : AreAsserted after o.asserts e.asserts.items last
   pub values : e.values.items ≡ values_of last 0 o.declared
   pub messages : AreTold last.faults e.messages.items
+
+-- a host gives nothing
+abbrev pub IsEvaluated : Outline → Settings → Evaluation → Type 0
+IsEvaluated o settings = IsEvaluatedWith o [] settings
 
 -- ---- declarations
 
@@ -84,8 +94,12 @@ AreItems s items = (length items ≡ length s.source.declared) × AllFrom (IsIte
 
 -- these are the declarations, each of which has its meaning in the order of the source, and all faults that were found
 -- are told
-pub record AreDeclarations (o : Outline) (given : Settings) (d : Declarations) : Type 0 where
+pub record AreDeclarationsWith (o : Outline) (given : List Given) (settings : Settings) (d : Declarations) : Type 0 where
   pub after : Setting
-  pub declared : AreDeclared (setting_before o given) o.order after
+  pub declared : AreDeclared (setting_with o given settings) o.order after
   pub items : AreItems after d.items.items
   pub messages : AreTold after.faults d.messages.items
+
+-- a host gives nothing
+abbrev pub AreDeclarations : Outline → Settings → Declarations → Type 0
+AreDeclarations o settings = AreDeclarationsWith o [] settings

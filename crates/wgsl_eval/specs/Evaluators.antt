@@ -4,17 +4,19 @@ use Rattle.wgsl_rules.specs.declared.syntax.ShaderStage.{ShaderStage}
 use Rattle.wgsl_source.specs.Readings.{Outline}
 use Rattle.wgsl_eval.specs.declared.answer.Answer.{Answer}
 use Rattle.wgsl_eval.specs.declared.evaluator.Evaluator.{Evaluator}
+use Rattle.wgsl_eval.specs.declared.given.Given.{Given}
 use Rattle.wgsl_eval.specs.declared.message.Message.{Message}
 use Rattle.wgsl_functions.specs.declared.parameters.Dialect.{Dialect}
 use Rattle.wgsl_functions.specs.declared.parameters.Dialect.TheVariants as dialects
 
--- the source, the stage, whether what the standard refuses is a fault, the dialect, what each declaration was
--- found to stand for, and the faults that are told so far
+-- the source, the stage, whether what the standard refuses is a fault, the dialect, the values that a host gives, what
+-- each declaration was found to stand for, and the faults that are told so far
 pub record Setting : Type 0 where
   pub source : Outline
   pub stage : ShaderStage
   pub is_strict : Bool
   pub dialect : Dialect
+  pub given : List Given
   pub meanings : List Answer
   pub faults : List Message
 
@@ -24,6 +26,7 @@ setting_of e = record {
   stage = e.stage;
   is_strict = e.is_strict;
   dialect = e.dialect;
+  given = e.given.now;
   meanings = e.meanings.items;
   faults = e.messages.faults.items;
 }

@@ -1,5 +1,6 @@
 -- What each step of an expression gives for the answers before it (WGSL: expressions).
-use Rattle.std.specs.Prelude.{◌≡◌, ◌-◌, ℕ, zero, suc, Bool, true, false, ◌&&◌, IsTrue, Option, Some, None, List, [], ◌∷◌, ◌++◌, ⊤, MatchBool, MatchOption, MatchResult, length, take, slice_get, unwrap_or, codes, Contains, if◌then◌else◌}
+use Rattle.std.specs.Prelude.{◌≡◌, ◌-◌, ℕ, nat_eq, zero, suc, Bool, true, false, ◌&&◌, IsTrue, Option, Some, None, List, [], ◌∷◌, ◌++◌, ⊤, MatchBool, MatchOption, MatchResult, length, take, slice_get, unwrap_or, codes, Contains, if◌then◌else◌}
+use Rattle.std.specs.List.{starts_with}
 use Rattle.std.specs.Str.{bytes_eq}
 use Rattle.wgsl_rules.specs.Converted.{converted}
 use Rattle.wgsl_rules.specs.Types.{Ty}
@@ -85,12 +86,17 @@ language_value name =
     if bytes_eq name (codes "true") then Some (truth true) else
     (if bytes_eq name (codes "false") then Some (truth false) else None)
 
+-- what a preprocessor has to put a text for, which the reader tells
+abbrev pub is_placeholder : List ℕ → Bool
+is_placeholder name = starts_with nat_eq name (codes "#{")
+
 -- what the language has for a name: a value, a type, or a type without constants
 abbrev pub IsLanguageName : List ℕ → Answer → Type 0
 IsLanguageName name (answers.Value v) = language_value name ≡ Some (value_of v.instance)
 IsLanguageName name (answers.Type t) = (p : Predeclared) × Names name p × (predeclared_type p ≡ Some (type_view t.ty))
 IsLanguageName name (answers.Skipped s) = IsTrue (is_opaque name) × IsSkippedFor needs.Opaque (answers.Skipped s)
 IsLanguageName name (answers.Wrong m guard) = IsFaultMessage m × (language_value name ≡ None)
+IsLanguageName name answers.Faulty = IsTrue (is_placeholder name)
 IsLanguageName name answer = ⊥
 
 abbrev pub IsNamed : Setting → List ℕ → Answer → Type 0

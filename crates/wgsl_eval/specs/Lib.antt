@@ -10,6 +10,7 @@ pub mod Lists
 pub mod Meanings
 pub mod Messages
 pub mod Opaque
+pub mod Overrides
 pub mod Parts
 pub mod Reasons
 pub mod Runs

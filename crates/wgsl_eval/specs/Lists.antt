@@ -14,6 +14,6 @@ AllFrom P number [] = ⊤
 AllFrom P number (x ∷ xs) = P number x × AllFrom P (number + 1) xs
 
 -- what is told by number of those in a list that are told of, from this number on
-abbrev pub told_from : {A D : Type 0} → (D → Bool) → (ℕ → A) → ℕ → List D → List A
+abbrev pub told_from : {A D : Type 0} → (ℕ → D → Bool) → (ℕ → A) → ℕ → List D → List A
 told_from is_told f number [] = []
-told_from is_told f number (d ∷ ds) = (if is_told d then f number ∷ [] else []) ++ told_from is_told f (number + 1) ds
+told_from is_told f number (d ∷ ds) = (if is_told number d then f number ∷ [] else []) ++ told_from is_told f (number + 1) ds

@@ -20,6 +20,16 @@ abbrev pub faults_with : List Message → Answer → List Message
 faults_with faults (answers.Wrong m guard) = added faults m
 faults_with faults a = faults
 
+-- the message of an answer that is a fault
+abbrev pub fault_in : Answer → List Message
+fault_in (answers.Wrong m guard) = m ∷ []
+fault_in a = []
+
+-- the faults with all of these, the last one first
+abbrev pub all_added : List Message → List Message → List Message
+all_added faults [] = faults
+all_added faults (m ∷ ms) = added (all_added faults ms) m
+
 -- these are told: all the faults, and warnings beside them
 abbrev pub AreTold : List Message → List Message → Type 0
 AreTold faults messages = (warnings : List Message) × All IsWarning warnings × IsPermutation (faults ++ warnings) messages

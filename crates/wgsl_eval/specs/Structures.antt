@@ -1,5 +1,5 @@
 -- What structures and variables are found to be (WGSL: structure types; variable declarations; attributes).
-use Rattle.std.specs.Prelude.{◌≡◌, ◌-◌, ◌≤◌, ◌<◌, ◌⊎◌, ℕ, Bool, true, Option, Some, None, MatchOption, List, ⊤, length, slice_get, IsSomeAnd}
+use Rattle.std.specs.Prelude.{◌≡◌, ◌-◌, ◌≤◌, ◌<◌, ◌⊎◌, ℕ, Bool, true, Option, Some, None, MatchOption, List, [], ◌∷◌, ◌++◌, ⊤, length, slice_get, IsSomeAnd}
 use Rattle.std.specs.Int.{is_power_of_two}
 use Rattle.std.specs.Option.{option_and_then}
 use Rattle.wgsl_apply.specs.Literals.{natural_of}
@@ -16,6 +16,8 @@ use Rattle.wgsl_eval.specs.Answers.{IsAnswer, IsFault, IsNoType, IsSkippedFor, v
 use Rattle.wgsl_eval.specs.Calls.{IsTypeOr, type_in}
 use Rattle.wgsl_eval.specs.Evaluators.{Setting}
 use Rattle.wgsl_eval.specs.Lists.{AllFrom}
+use Rattle.wgsl_eval.specs.Messages.{fault_in}
+use Rattle.wgsl_eval.specs.declared.message.Message.{Message}
 use Rattle.wgsl_eval.specs.Reasons.{has_floats}
 use Rattle.wgsl_eval.specs.Runs.{IsFound}
 use Rattle.wgsl_eval.specs.declared.answer.Answer.{Answer}
@@ -105,6 +107,37 @@ IsFoundMember s f (founds.Other a) = IsAnswer a × IsNone a × IsNoMember s f a
 abbrev pub IsMemberAt : Setting → ℕ → Member → Type 0
 IsMemberAt s number m = IsSomeAnd (slice_get s.source.fields number) (λ f. IsMember s f m)
 
+-- ---- faults of members
+
+-- what the member of a number is found to be
+abbrev pub IsFoundNumber : Setting → ℕ → FoundMember → Type 0
+IsFoundNumber s number f =
+    MatchOption (slice_get s.source.fields number) (f ≡ founds.Other answers.Faulty) (λ field. IsFoundMember s field f)
+
+-- the message of a member that is a fault
+abbrev pub fault_of : FoundMember → List Message
+fault_of (founds.Member m of) = []
+fault_of (founds.Other a) = fault_in a
+
+abbrev pub faults_of : List FoundMember → List Message
+faults_of [] = []
+faults_of (f ∷ fs) = fault_of f ++ faults_of fs
+
+-- the faults of the members of these numbers, the end one not, in their order
+pub record AreFaultsOf (s : Setting) (first end : ℕ) (faults : List Message) : Type 0 where
+  pub members : List FoundMember
+  pub count : length members ≡ end - first
+  pub found : AllFrom (IsFoundNumber s) first members
+  pub are : faults ≡ faults_of members
+
+abbrev pub behind_first : List Message → List Message
+behind_first [] = []
+behind_first (m ∷ ms) = ms
+
+-- those behind the first
+abbrev pub AreFaultsBehind : Setting → ℕ → ℕ → List Message → Type 0
+AreFaultsBehind s first end others = (faults : List Message) × AreFaultsOf s first end faults × (others ≡ behind_first faults)
+
 -- the structure of these members
 abbrev pub IsStructureOf : List ℕ → List Member → Answer → Type 0
 IsStructureOf name ms answer = IsTypeOr (struct name (fields_of ms)) answer
@@ -121,13 +154,22 @@ IsStructure s name first end answer = IsNone answer × (IsFault answer ⊎ IsWit
 
 -- ---- variables
 
+-- the number of a group or a binding; none is known where its expression names what has a fault
+abbrev pub IsHostNumber : Setting → Option Span → Option ℕ → Type 0
+IsHostNumber s span n = IsNumberGiven s span (λ n. true) n ⊎ ((n ≡ None) × IsNotGiven s span answers.Faulty)
+
+abbrev pub IsBindingNumber : Setting → Option Span → Attribute → Type 0
+IsBindingNumber s span (attributes.Number n) = IsHostNumber s span n
+IsBindingNumber s span (attributes.Other a) = IsAnswer a × IsNone a × IsNotGiven s span a
+
 -- a variable has its type, its address space and access mode as they are given, and the numbers of its attributes
 pub record IsVariableOf (s : Setting) (d : DeclaredVariable) (v : Variable) : Type 0 where
   pub ty : IsSomeAnd d.ty (λ span. IsTypeFound s span (type_view v.ty))
   pub space : v.space ≡ d.space
   pub access : v.access ≡ d.access
-  pub group : IsNumberGiven s d.group (λ n. true) v.group
-  pub binding : IsNumberGiven s d.binding (λ n. true) v.binding
+  pub immediate : v.is_immediate ≡ d.is_immediate
+  pub group : IsHostNumber s d.group v.group
+  pub binding : IsHostNumber s d.binding v.binding
 
 -- why there is no variable: it has no type, or its type or an attribute is none
 abbrev pub IsNoVariable : Setting → DeclaredVariable → Answer → Type 0

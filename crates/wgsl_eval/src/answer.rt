@@ -1,8 +1,9 @@
 //! What steps leave: values, types, and why there are none.
 
 ghost use Rattle.std.specs.Prelude.{◌≡◌, ◌+◌, ◌*◌, ◌-◌, ◌/◌, ◌<◌, ◌↔◌, ◌⊎◌, max, IfOk, IsTrue};
+ghost use Rattle.wgsl_scalar.specs.Literals.{literal_of};
 ghost use Rattle.wgsl_values.specs.View.{value_of};
-ghost use Rattle.wgsl_eval.specs.Answers.{at_most_largest};
+ghost use Rattle.wgsl_eval.specs.Answers.{IsSoundValue, at_most_largest};
 ghost use Rattle.wgsl_eval.specs.Waitings.{work_of};
 
 use crate::message::Message;
@@ -11,7 +12,7 @@ use crate::variable::Variable;
 use std::alloc::{AllocError, Global};
 use std::fmt;
 use wgsl_source::Extent;
-use wgsl_types::Instance;
+use wgsl_types::{Instance, LiteralInstance};
 
 /// How many parts of values a type in a type is as much work as.
 const NODE: usize = 4;
@@ -168,6 +169,16 @@ impl Size {
 }
 
 impl Value {
+    pub(crate) fn literal(literal: LiteralInstance) -> Value
+        ensures value { value_of result.instance ≡ literal_of literal }
+        ensures sound { IsSoundValue result }
+    {
+        Value {
+            instance: Instance::from(literal),
+            size: Size::ONE,
+        }
+    }
+
     /// A value that an operator or a function answered to values no larger than this size.
     pub(crate) fn answered(instance: Instance, at_most: Size) -> Value
         ensures { result.instance ≡ instance }

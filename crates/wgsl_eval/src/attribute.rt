@@ -1,13 +1,13 @@
 //! The numbers that attributes give (WGSL: attributes).
 
-ghost use Rattle.std.specs.Prelude.{◌≡◌, IfOk, None, is_none};
+ghost use Rattle.std.specs.Prelude.{◌≡◌, IfOk, None};
 ghost use Rattle.wgsl_rules.specs.Layout.{is_at_least};
 ghost use Rattle.wgsl_values.specs.View.{value_of};
-ghost use Rattle.wgsl_eval.specs.Answers.{AreAnswers, IsAnswer, value_in};
+ghost use Rattle.wgsl_eval.specs.Answers.{AreAnswers, IsAnswer, IsFault, value_in};
 ghost use Rattle.wgsl_eval.specs.Evaluators.{setting_of};
 ghost use Rattle.wgsl_eval.specs.Structures.{IsAttribute, IsNoNumber, IsNone, IsNumberOf, is_valid_for};
 
-use crate::answer::{Answer, Need, Part, Skip};
+use crate::answer::{Answer, Guard, Need, Part, Skip};
 use crate::call::natural_in;
 use crate::evaluator::Evaluator;
 use std::alloc::AllocError;
@@ -69,10 +69,23 @@ impl Evaluator<'_> {
             let text = "an attribute is from 0 to 4294967295";
             return Ok(Attribute::Other(self.wrong_text(token, text)?));
         };
-        match of.refusal(number) {
-            None => Ok(Attribute::Number(Some(number))),
-            Some(text) => Ok(Attribute::Other(self.wrong_text(token, text)?)),
+        if of.is_valid(number) {
+            return Ok(Attribute::Number(Some(number)));
         }
+        Ok(Attribute::Other(self.refused_number(token, number, of)?))
+    }
+
+    // A number that may not be used so.
+    fn refused_number(&self, token: usize, number: u32, of: Use<'_>) -> Result<Answer, AllocError>
+        ensures fault { IfOk result IsFault }
+        ensures answer { IfOk result IsAnswer }
+    {
+        let mut text = String::new(self.alloc);
+        match of.least() {
+            Some(least) => write!(text, "size {number} is less than {least}, that of the type")?,
+            None => write!(text, "{} {number} {}", of.noun(), of.complaint())?,
+        }
+        Ok(self.wrong(token, Guard::Never, text))
     }
 
     // What is left where no value is found: an attribute is a constant, and an integer.
@@ -138,16 +151,39 @@ impl Evaluator<'_> {
 }
 
 impl Use<'_> {
-    // Why the number may not be used so.
-    fn refusal(self, number: u32) -> Option<&'static str>
-        ensures { is_none result ≡ is_valid_for self.entry number }
+    // Whether the number may be used so.
+    fn is_valid(self, number: u32) -> bool
+        ensures { result ≡ is_valid_for self.entry number }
     {
         match self {
-            Use::Size(ty) if !is_at_least(number, ty.size_of()) => {
-                Some("the type takes another size")
-            }
-            Use::Align if !number.is_power_of_two() => Some("an alignment is a power of 2"),
-            Use::Size(_) | Use::Align | Use::Binding => None,
+            Use::Size(ty) => is_at_least(number, ty.size_of()),
+            Use::Align => number.is_power_of_two(),
+            Use::Binding => true,
+        }
+    }
+
+    // The least size.
+    fn least(self) -> Option<u32> {
+        match self {
+            Use::Size(ty) => ty.size_of(),
+            Use::Align | Use::Binding => None,
+        }
+    }
+
+    fn noun(self) -> &'static str {
+        match self {
+            Use::Size(_) => "size",
+            Use::Align => "alignment",
+            Use::Binding => "binding",
+        }
+    }
+
+    // What is wrong with a number that may not be used so.
+    fn complaint(self) -> &'static str {
+        match self {
+            Use::Size(_) => "stands before a type without a fixed size",
+            Use::Align => "is no power of two",
+            Use::Binding => "is none",
         }
     }
 }

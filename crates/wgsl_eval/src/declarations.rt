@@ -4,12 +4,13 @@ ghost use Rattle.std.specs.Prelude.{◌≡◌, ◌≤◌, IfOk, false, vec_len};
 ghost use Rattle.std.specs.List.Sorted.{IsSortedByKey};
 ghost use Rattle.std.specs.Ordering.{nat_cmp};
 ghost use Rattle.wgsl_eval.specs.Answers.{AreAnswers};
-ghost use Rattle.wgsl_eval.specs.Evaluated.{AreDeclarations, AreItems, IsItem, kind_in, of_wgsl};
+ghost use Rattle.wgsl_eval.specs.Evaluated.{AreDeclarations, AreDeclarationsWith, AreItems, IsItem, kind_in, of_wgsl};
 ghost use Rattle.wgsl_eval.specs.Evaluators.{setting_of};
 ghost use Rattle.wgsl_eval.specs.Messages.{AreTold};
 
 use crate::answer::{Answer, Skip};
 use crate::evaluator::{Evaluator, popped};
+use crate::given::Given;
 use crate::message::Message;
 use crate::settings::Settings;
 use crate::variable::Variable;
@@ -83,7 +84,22 @@ pub fn resolve_in(
     ensures sorted { IfOk result (λ d. IsSortedByKey (λ m. m.start) nat_cmp d.messages.items) }
     ensures declared { IfOk result (AreDeclarations reading.now settings) }
 {
-    let mut evaluator = Evaluator::new(alloc, reading, settings)?;
+    resolve_with(alloc, reading, settings, &[])
+}
+
+/// The same with values that a host gives overrides, as `evaluate_with` takes them: counts of elements that name such an
+/// override are evaluated.
+pub fn resolve_with(
+    alloc: Global,
+    reading: &Reading<'_>,
+    settings: Settings,
+    given: &[Given<'_>],
+) -> Result<Declarations, AllocError>
+    ensures count { IfOk result (λ d. vec_len d.messages ≤ 100) }
+    ensures sorted { IfOk result (λ d. IsSortedByKey (λ m. m.start) nat_cmp d.messages.items) }
+    ensures declared { IfOk result (AreDeclarationsWith reading.now given.now settings) }
+{
+    let mut evaluator = Evaluator::with_given(alloc, reading, settings, given)?;
     evaluator.declare_all()?;
     evaluator.into_declarations()
 }

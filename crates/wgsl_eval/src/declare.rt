@@ -1,20 +1,26 @@
 //! Gives declarations their meanings (WGSL: value declarations; type aliases).
 
-ghost use Rattle.std.specs.Prelude.{◌≡◌, ◌≢◌, ◌<◌, ◌↔◌, IfOk, IfSome, IsSomeAnd, IsTrue, OnErr, OnOk, slice_get, vec_len};
+ghost use Rattle.std.specs.Prelude.{◌≡◌, ◌≢◌, ◌<◌, ◌↔◌, IfOk, IfSome, IsSomeAnd, IsTrue, OnErr, OnOk, Some, slice_get, vec_len};
+ghost use Rattle.wgsl_rules.specs.Converted.{converted};
+ghost use Rattle.wgsl_rules.specs.Values.{IsStorable, type_of};
+ghost use Rattle.wgsl_scalar.specs.Literals.{literal_of};
 ghost use Rattle.wgsl_values.specs.View.{value_of};
-ghost use Rattle.wgsl_eval.specs.Answers.{AreAnswers, IsAnswer, IsNoType, IsSoundValue, meaning_at};
+ghost use Rattle.wgsl_eval.specs.Answers.{AreAnswers, IsAnswer, IsNoType, IsSoundValue, IsValueWith, meaning_at};
 ghost use Rattle.wgsl_eval.specs.Evaluation.{name_at};
-ghost use Rattle.wgsl_eval.specs.Meanings.{IsAlias, IsConcreteValue, IsConstant, IsDeclared, IsFoundAt, IsLimited, IsOverride, IsPlaced, IsSecond, IsTypedBy, told, with_faults, with_meaning};
+ghost use Rattle.wgsl_eval.specs.Meanings.{AreOthers, IsAlias, IsConcreteValue, IsConstant, IsDeclared, IsFoundAt, IsGivenValue, IsLimited, IsOverride, IsOverrideNamed, IsOwnValue, IsPlaced, IsSecond, IsTypedBy, told, with_all, with_faults, with_meaning};
 ghost use Rattle.wgsl_eval.specs.Messages.{faults_with};
 ghost use Rattle.wgsl_eval.specs.Evaluators.{setting_of};
+ghost use Rattle.wgsl_eval.specs.Structures.{AreFaultsBehind, behind_first};
 
 use crate::answer::{Answer, Guard, Need, Value};
 use crate::evaluator::Evaluator;
+use crate::given::given_for;
+use crate::message::Message;
 use crate::sized::SizedType;
 use std::alloc::AllocError;
-use wgsl_apply::concrete;
+use wgsl_apply::{automatic, concrete};
 use wgsl_source::{Declared, Span};
-use wgsl_types::ShaderStage;
+use wgsl_types::{Instance, LiteralInstance, ShaderStage, Ty};
 
 impl Evaluator<'_> {
     /// Gives one declaration its meaning, those that it names having theirs.
@@ -27,7 +33,42 @@ impl Evaluator<'_> {
             return Ok(());
         }
         let meaning = self.meaning_of(number)?;
+        let others = self.faults_beside(number, &meaning)?;
+        self.tell_all(others)?;
         self.set_meaning(number, meaning)
+    }
+
+    // The faults of the members of a structure that has none of a type, but for the one that its meaning is.
+    fn faults_beside(&mut self, number: usize, meaning: &Answer) -> Result<Vec<Message>, AllocError>
+        requires { AreAnswers self.old.meanings.items }
+        ensures keeps { setting_of self.new ≡ setting_of self.old }
+        ensures others { IfOk result (λ others. AreOthers (setting_of self.old) (slice_get self.old.reading.now.declared number) meaning.now others.items) }
+    {
+        let Some(Declared::Struct { first, end }) = self.reading.declared(number) else {
+            return Ok(Vec::new(self.alloc));
+        };
+        match meaning {
+            Answer::Wrong(_, _) => self.faults_behind(first, end),
+            Answer::Skipped(_) | Answer::Faulty => self.faults_of_members(first, end),
+            _ => Ok(Vec::new(self.alloc)),
+        }
+    }
+
+    fn faults_behind(&mut self, first: usize, end: usize) -> Result<Vec<Message>, AllocError>
+        requires { AreAnswers self.old.meanings.items }
+        ensures keeps { setting_of self.new ≡ setting_of self.old }
+        ensures others { IfOk result (λ others. AreFaultsBehind (setting_of self.old) first end others.items) }
+    {
+        let faults = self.faults_of_members(first, end)?;
+        Ok(behind_first(faults))
+    }
+
+    // Tells all of these faults.
+    fn tell_all(&mut self, faults: Vec<Message>) -> Result<(), AllocError>
+        ensures told { OnOk result (setting_of self.new ≡ with_all (setting_of self.old) faults.items) }
+        ensures meanings { self.new.meanings.items ≡ self.old.meanings.items }
+    {
+        self.messages.add_faults(faults)
     }
 
     // What the declaration stands for.
@@ -40,7 +81,7 @@ impl Evaluator<'_> {
         let name = self.reading.name(number);
         match self.reading.declared(number) {
             Some(Declared::Const { ty, value }) => self.constant(ty, value),
-            Some(Declared::Override { ty, value }) => self.changeable(name, ty, value),
+            Some(Declared::Override { ty, value }) => self.overridable(name, ty, value),
             Some(Declared::Alias(ty)) => self.alias(ty),
             Some(Declared::Struct { first, end }) => self.structure(name, first, end),
             Some(Declared::Variable(variable)) => self.variable(name, variable),
@@ -149,10 +190,83 @@ impl Evaluator<'_> {
         if self.stage == ShaderStage::Const {
             return Ok(self.skipped(name, Need::Override));
         }
-        let answer = self.constant(ty, span)?;
+        self.own_value(ty, span)
+    }
+
+    // The value of an override by itself.
+    fn own_value(&mut self, ty: Option<Span>, value: Span) -> Result<Answer, AllocError>
+        requires { AreAnswers self.old.meanings.items }
+        ensures keeps { setting_of self.new ≡ setting_of self.old }
+        ensures found { IfOk result (IsOwnValue (setting_of self.old) ty value) }
+        ensures answer { IfOk result IsAnswer }
+    {
+        let answer = self.constant(ty, value)?;
         match answer {
-            Answer::Value(value) => self.concretized(span.token, value),
+            Answer::Value(found) => self.concretized(value.token, found),
             other => Ok(other),
+        }
+    }
+
+    // The value that a host gives an override, or else its own.
+    fn overridable(
+        &mut self,
+        name: usize,
+        ty: Option<Span>,
+        value: Option<Span>,
+    ) -> Result<Answer, AllocError>
+        requires { AreAnswers self.old.meanings.items }
+        ensures keeps { setting_of self.new ≡ setting_of self.old }
+        ensures found { IfOk result (IsOverrideNamed (setting_of self.old) name ty value) }
+        ensures answer { IfOk result IsAnswer }
+    {
+        match given_for(self.given, self.reading.word(name)) {
+            Some(given) => self.given_value(name, given, ty, value),
+            None => self.changeable(name, ty, value),
+        }
+    }
+
+    // What a host gives, in the type that is declared, or else in that of the override's own value.
+    fn given_value(
+        &mut self,
+        name: usize,
+        given: LiteralInstance,
+        ty: Option<Span>,
+        value: Option<Span>,
+    ) -> Result<Answer, AllocError>
+        requires { AreAnswers self.old.meanings.items }
+        ensures keeps { setting_of self.new ≡ setting_of self.old }
+        ensures found { IfOk result (IsGivenValue (setting_of self.old) ty value (literal_of given)) }
+        ensures answer { IfOk result IsAnswer }
+    {
+        if let Some(ty) = ty {
+            return self.typed(name, Value::literal(given), ty);
+        }
+        let Some(span) = value else {
+            return Ok(self.skipped(name, Need::Override));
+        };
+        let own = self.own_value(None, span)?;
+        match own {
+            Answer::Value(own) => self.in_type_of(name, given, &own.instance),
+            other => Ok(other),
+        }
+    }
+
+    // What is given, in the type of another value.
+    fn in_type_of(
+        &self,
+        name: usize,
+        given: LiteralInstance,
+        own: &Instance,
+    ) -> Result<Answer, AllocError>
+        requires { IsStorable (value_of own.now) }
+        ensures converted { IfOk result (IsValueWith (λ x. converted (literal_of given) (type_of (value_of own.now)) ≡ Some x)) }
+        ensures answer { IfOk result IsAnswer }
+    {
+        let ty = own.ty(self.alloc)?;
+        let Value { instance, size } = Value::literal(given);
+        match automatic(self.alloc, &instance, &ty)? {
+            Some(instance) => Ok(Answer::Value(Value { instance, size })),
+            None => self.not_converted(name, &instance, &ty),
         }
     }
 
@@ -208,6 +322,15 @@ impl Evaluator<'_> {
         }
         Ok(Answer::Type(of))
     }
+}
+
+fn behind_first(mut faults: Vec<Message>) -> Vec<Message>
+    ensures { result.items ≡ behind_first faults.items }
+{
+    if !faults.is_empty() {
+        faults.remove(0);
+    }
+    faults
 }
 
 // Whether the name has a declaration, and another one than this.

@@ -3,7 +3,7 @@
 ghost use Rattle.std.specs.Prelude.{◌≡◌, ◌≤◌, [], All, IfOk, OnErr, OnOk, vec_len};
 ghost use Rattle.std.specs.List.Sorted.{IsSortedByKey};
 ghost use Rattle.std.specs.Ordering.{nat_cmp};
-ghost use Rattle.wgsl_eval.specs.Messages.{AreTold, IsWarning, added};
+ghost use Rattle.wgsl_eval.specs.Messages.{AreTold, IsWarning, added, all_added};
 
 use std::alloc::{AllocError, Global};
 use wgsl_source::Extent;
@@ -83,6 +83,29 @@ impl Messages {
             self.faults.push(fault)?;
         }
         Ok(())
+    }
+
+    /// All of these faults, the last one first, where there are not too many.
+    #[tactic(auto, using(crate::proofs::Faults::all_added_last))]
+    pub(crate) fn add_faults(&mut self, mut faults: Vec<Message>) -> Result<(), AllocError>
+        ensures { OnOk result (self.new.faults.items ≡ all_added self.old.faults.items faults.items) }
+    {
+        while let Some(fault) = faults.pop() {
+            self.add_fault(fault)?;
+        }
+        Ok(())
+    }
+
+    /// How many warnings there are.
+    pub(crate) fn warnings(&self) -> usize {
+        self.warnings.len()
+    }
+
+    /// Leaves so many of the warnings.
+    pub(crate) fn keep_warnings(&mut self, count: usize)
+        ensures { self.new.faults.items ≡ self.old.faults.items }
+    {
+        self.warnings.truncate(count);
     }
 
     /// One warning more, where there are not too many.

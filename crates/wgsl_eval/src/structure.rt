@@ -1,16 +1,18 @@
 //! The types of structures (WGSL: structure types).
 
-ghost use Rattle.std.specs.Prelude.{◌≡◌, IfOk, map};
+ghost use Rattle.std.specs.Prelude.{◌≡◌, ◌++◌, IfOk, OnOk, map};
 ghost use Rattle.wgsl_rules.specs.View.{fields_of, member_view, type_view};
 ghost use Rattle.wgsl_source.specs.Readings.{word_at};
 ghost use Rattle.wgsl_eval.specs.Answers.{AreAnswers, IsAnswer};
 ghost use Rattle.wgsl_eval.specs.Evaluators.{setting_of};
+ghost use Rattle.wgsl_eval.specs.Messages.{fault_in};
 ghost use Rattle.wgsl_eval.specs.Reasons.{have_floats};
-ghost use Rattle.wgsl_eval.specs.Structures.{IsFoundMember, IsStructure, IsStructureOf, IsTypeFound};
+ghost use Rattle.wgsl_eval.specs.Structures.{AreFaultsOf, IsFoundMember, IsFoundNumber, IsStructure, IsStructureOf, IsTypeFound, fault_of};
 
 use crate::answer::Answer;
 use crate::attribute::{Attribute, Use};
 use crate::evaluator::Evaluator;
+use crate::message::Message;
 use crate::sized::SizedType;
 use crate::types::{Together, structure};
 use std::alloc::AllocError;
@@ -92,6 +94,47 @@ impl Evaluator<'_> {
         }
     }
 
+    /// The faults of the members of these numbers, the end one not. The members are found once more, and their warnings,
+    /// which are told where they were found first, are not.
+    pub(crate) fn faults_of_members(
+        &mut self,
+        first: usize,
+        end: usize,
+    ) -> Result<Vec<Message>, AllocError>
+        requires { AreAnswers self.old.meanings.items }
+        ensures keeps { setting_of self.new ≡ setting_of self.old }
+        ensures faults { IfOk result (λ faults. AreFaultsOf (setting_of self.old) first end faults.items) }
+    {
+        let warnings = self.messages.warnings();
+        let faults = self.faults_found(first, end)?;
+        self.messages.keep_warnings(warnings);
+        Ok(faults)
+    }
+
+    fn faults_found(&mut self, first: usize, end: usize) -> Result<Vec<Message>, AllocError>
+        requires { AreAnswers self.old.meanings.items }
+        ensures keeps { setting_of self.new ≡ setting_of self.old }
+        ensures faults { IfOk result (λ faults. AreFaultsOf (setting_of self.old) first end faults.items) }
+    {
+        let mut faults = Vec::new(self.alloc);
+        for number in first..end {
+            let found = self.found_number(number)?;
+            add_fault(found, &mut faults)?;
+        }
+        Ok(faults)
+    }
+
+    fn found_number(&mut self, number: usize) -> Result<FoundMember, AllocError>
+        requires { AreAnswers self.old.meanings.items }
+        ensures keeps { setting_of self.new ≡ setting_of self.old }
+        ensures found { IfOk result (IsFoundNumber (setting_of self.old) number) }
+    {
+        match self.reading.field(number) {
+            Some(field) => self.field(field),
+            None => Ok(FoundMember::Other(Answer::Faulty)),
+        }
+    }
+
     // A member of the type that is found.
     fn field_of(&mut self, field: Field, of: SizedType) -> Result<FoundMember, AllocError>
         requires meanings { AreAnswers self.old.meanings.items }
@@ -120,6 +163,30 @@ impl Evaluator<'_> {
             align,
         };
         Ok(FoundMember::Member(member, together))
+    }
+}
+
+// Adds the message of a member that is a fault.
+fn add_fault(found: FoundMember, faults: &mut Vec<Message>) -> Result<(), AllocError>
+    ensures { OnOk result (faults.new.items ≡ faults.old.items ++ fault_of found) }
+{
+    match found {
+        FoundMember::Member(_, _) => Ok(()),
+        FoundMember::Other(answer) => add_wrong(answer, faults),
+    }
+}
+
+#[tactic(auto, using(crate::proofs::Faults::nothing_more))]
+fn add_wrong(answer: Answer, faults: &mut Vec<Message>) -> Result<(), AllocError>
+    ensures { OnOk result (faults.new.items ≡ faults.old.items ++ fault_in answer) }
+{
+    match answer {
+        Answer::Wrong(message, _) => {
+            faults.push(message)?;
+            Ok(())
+        }
+        Answer::Value(_) | Answer::Named(_) | Answer::Type(_) | Answer::Bitcast(_) => Ok(()),
+        Answer::Variable(_) | Answer::Skipped(_) | Answer::Faulty => Ok(()),
     }
 }
 

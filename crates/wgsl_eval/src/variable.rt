@@ -4,7 +4,7 @@ ghost use Rattle.std.specs.Prelude.{◌≡◌, IfOk, Some};
 ghost use Rattle.wgsl_rules.specs.View.{type_view};
 ghost use Rattle.wgsl_eval.specs.Answers.{AreAnswers, IsAnswer};
 ghost use Rattle.wgsl_eval.specs.Evaluators.{setting_of};
-ghost use Rattle.wgsl_eval.specs.Structures.{IsTypeFound, IsVariable};
+ghost use Rattle.wgsl_eval.specs.Structures.{IsBindingNumber, IsTypeFound, IsVariable};
 
 use crate::answer::{Answer, Need};
 use crate::attribute::{Attribute, Use};
@@ -23,6 +23,8 @@ pub struct Variable {
     pub space: Option<AddressSpace>,
     /// `None` where it is what the address space says.
     pub access: Option<AccessMode>,
+    /// Whether it is in the space of immediate data, which is no `AddressSpace`.
+    pub is_immediate: bool,
     pub group: Option<u32>,
     pub binding: Option<u32>,
 }
@@ -67,11 +69,11 @@ impl Evaluator<'_> {
         if declared.space == Some(AddressSpace::Storage) && !of.is_aligned {
             return self.wrong_text(span.token, "a member needs another alignment");
         }
-        let group = match self.attribute(declared.group, Use::Binding)? {
+        let group = match self.binding_number(declared.group)? {
             Attribute::Number(number) => number,
             Attribute::Other(answer) => return Ok(answer),
         };
-        let binding = match self.attribute(declared.binding, Use::Binding)? {
+        let binding = match self.binding_number(declared.binding)? {
             Attribute::Number(number) => number,
             Attribute::Other(answer) => return Ok(answer),
         };
@@ -79,8 +81,21 @@ impl Evaluator<'_> {
             ty: of.ty,
             space: declared.space,
             access: declared.access,
+            is_immediate: declared.is_immediate,
             group,
             binding,
         }))
+    }
+
+    // The number of a group or a binding, which is not known where its expression names what has a fault.
+    fn binding_number(&mut self, span: Option<Span>) -> Result<Attribute, AllocError>
+        requires { AreAnswers self.old.meanings.items }
+        ensures keeps { setting_of self.new ≡ setting_of self.old }
+        ensures number { IfOk result (IsBindingNumber (setting_of self.old) span) }
+    {
+        match self.attribute(span, Use::Binding)? {
+            Attribute::Other(Answer::Faulty) => Ok(Attribute::Number(None)),
+            other => Ok(other),
+        }
     }
 }

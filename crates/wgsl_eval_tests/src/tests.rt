@@ -23,6 +23,7 @@ macro_rules! answered {
 
 mod answers;
 mod equal;
+mod given;
 mod growth;
 mod skips;
 mod standard;

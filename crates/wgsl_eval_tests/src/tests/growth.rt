@@ -5,6 +5,7 @@ mod dialects;
 mod evaluations;
 mod functions;
 mod operators;
+mod overrides;
 mod parameters;
 mod values;
 

@@ -1,7 +1,6 @@
-use Rattle.wgsl_eval.proofs.Walks.{declared}
+use Rattle.std.proofs.Common.{refl}
+use Rattle.wgsl_eval.proofs.Walks.{declared_before}
 use Rattle.wgsl_eval.proofs.declarations.resolve_in.Goals as goal
 
 pub returns-clause-declared : goal.returns-clause-declared
-returns-clause-declared c =
-    declared c.args.reading.now c.args.settings _ _ c.into_declarations.result
-    c.in_ok-evaluator.ensures.unknown c.in_ok-declare_all.ensures.declared c.into_declarations.ensures.items c.into_declarations.ensures.told
+returns-clause-declared c = declared_before c.args.reading.now _ c.args.settings c.resolve_with.result refl c.resolve_with.ensures.declared

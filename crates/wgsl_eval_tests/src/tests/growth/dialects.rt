@@ -24,7 +24,7 @@ fn settings(dialect: Dialect) -> Settings {
     }
 }
 
-fn text_of_values(alloc: Global, evaluation: &Evaluation) -> Result<String, AllocError> {
+pub(super) fn text_of_values(alloc: Global, evaluation: &Evaluation) -> Result<String, AllocError> {
     let mut text = String::new(alloc);
     for value in &evaluation.values {
         separate(&mut text)?;
@@ -41,7 +41,7 @@ fn text_of_values(alloc: Global, evaluation: &Evaluation) -> Result<String, Allo
     Ok(text)
 }
 
-fn text_of_aliases(alloc: Global, found: &Declarations) -> Result<String, AllocError> {
+pub(super) fn text_of_aliases(alloc: Global, found: &Declarations) -> Result<String, AllocError> {
     let mut text = String::new(alloc);
     for item in &found.items {
         if let ItemKind::Alias(ty) = &item.kind {

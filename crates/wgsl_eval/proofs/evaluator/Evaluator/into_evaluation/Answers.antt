@@ -1,12 +1,10 @@
-use Rattle.std.proofs.Common.{◌<◌, ◌∙◌, ap, false, length, map, arith}
-use Rattle.std.specs.Prelude.{unwrap_or}
-use Rattle.std.specs.Option.{option_map}
+use Rattle.std.proofs.Common.{◌<◌, ◌∙◌, ap, length, map, arith}
 use Rattle.wgsl_source.specs.declared.module.Declared.TheVariants as declareds
 use Rattle.wgsl_eval.specs.Evaluated.{evaluated_at}
-use Rattle.wgsl_eval.specs.Evaluation.{has_value, name_at}
+use Rattle.wgsl_eval.specs.Evaluation.{has_value_among, name_at}
 use Rattle.wgsl_eval.specs.Evaluators.{setting_of}
 use Rattle.wgsl_eval.specs.Given.{below, top}
-use Rattle.wgsl_eval.specs.declared.evaluator.Evaluated.{Evaluated}
+use Rattle.wgsl_eval.specs.declared.evaluation.Evaluated.{Evaluated}
 use Rattle.wgsl_eval.proofs.Stacks.{below_dropped, top_dropped}
 use Rattle.wgsl_eval.proofs.Told.{told_more}
 use Rattle.wgsl_eval.proofs.evaluator.Evaluator.into_evaluation.Goals as goal
@@ -20,14 +18,15 @@ loop-number-preserved c =
     let values = c.loop-number.values.items in
     let after = c.add_value.new.values.items in
     let inside : i < length o.declared = omega arith in
-    let told = c.is_value-is_value.ensures ∙ ap (λ d. unwrap_or (option_map (has_value stage) d) false) c.declared.ensures in
+    let has = has_value_among o c.args.self.given.now stage in
+    let told = c.is_value-is_value.ensures in
     let meaning = c.popped-meaning.ensures.top ∙ ap top c.loop-number.invariant.left ∙ top_dropped s.meanings i in
     record {
       answers = c.popped-meaning.ensures.left;
       left = c.popped-meaning.ensures.below ∙ ap below c.loop-number.invariant.left ∙ below_dropped s.meanings i;
       sound = c.in_ok-add_value.ensures.sound;
-      names = told_more (has_value stage) (name_at o) o.declared i declareds.Function c.is_value-is_value.result (map (λ (v : Evaluated). v.token) values) (map (λ (v : Evaluated). v.token) after) inside
+      names = told_more has (name_at o) o.declared i declareds.Function c.is_value-is_value.result (map (λ (v : Evaluated). v.token) values) (map (λ (v : Evaluated). v.token) after) inside
           told (rw c.name.ensures at c.in_ok-add_value.ensures.names) c.loop-number.invariant.names;
-      values = told_more (has_value stage) (evaluated_at s) o.declared i declareds.Function c.is_value-is_value.result values after inside
+      values = told_more has (evaluated_at s) o.declared i declareds.Function c.is_value-is_value.result values after inside
           told (rw (c.name.ensures, meaning) at c.in_ok-add_value.ensures.values) c.loop-number.invariant.values;
     }
