@@ -3,9 +3,9 @@
 // Numbers of 64 bits.
 const c1 = 5li; // i64 = 5li
 const c2 = 9223372036854775807li; // i64 = 9223372036854775807li
-const c3 = 9223372036854775808li; // error: this is no number of its kind
+const c3 = 9223372036854775808li; // error: 9223372036854775808li is no i64
 const c4 = 18446744073709551615lu; // u64 = 18446744073709551615lu
-const c5 = 18446744073709551616lu; // error: this is no number of its kind
+const c5 = 18446744073709551616lu; // error: 18446744073709551616lu is no u64
 const c6 = 7li + 5li; // i64 = 12li
 const c7 = 7lu + 5lu; // u64 = 12lu
 const c8 = 7li + 5i; // error: no operator + for i64 and i32

@@ -70,19 +70,19 @@ const r68 = 1 - - 1; // AbstractInt = 2
 const r69 = &1; // error: no operator & for AbstractInt
 // Numbers.
 const r70 = 0; // AbstractInt = 0
-const r71 = 007; // error: this is no number of its kind
+const r71 = 007; // error: 007 is no number
 const r72 = 0x1F; // AbstractInt = 31
 const r73 = 0X1fu; // u32 = 31u
 const r74 = 0xFFFFFFFFu; // u32 = 4294967295u
-const r75 = 0x100000000u; // error: this is no number of its kind
+const r75 = 0x100000000u; // error: 0x100000000u is no u32
 const r76 = 0x7FFFFFFFFFFFFFFF; // AbstractInt = 9223372036854775807
-const r77 = 0x8000000000000000; // error: this is no number of its kind
+const r77 = 0x8000000000000000; // error: 0x8000000000000000 is no AbstractInt
 const r78 = 2147483647i; // i32 = 2147483647i
-const r79 = 2147483648i; // error: this is no number of its kind
-const r80 = -2147483648i; // error: this is no number of its kind
+const r79 = 2147483648i; // error: 2147483648i is no i32
+const r80 = -2147483648i; // error: 2147483648i is no i32
 const r81 = 4294967295u; // u32 = 4294967295u
-const r82 = 4294967296u; // error: this is no number of its kind
-const r83 = 9223372036854775808; // error: this is no number of its kind
+const r82 = 4294967296u; // error: 4294967296u is no u32
+const r83 = 9223372036854775808; // error: 9223372036854775808 is no AbstractInt
 const r86 = 1.5; // not evaluated: needs floats, `1.5`
 const r87 = 1f; // not evaluated: needs floats, `1f`
 const r88 = 1e3; // not evaluated: needs floats, `1e3`

@@ -71,12 +71,12 @@ const of_nearest = nearest; // not evaluated: needs a type without constants, `n
 fn limited(a: i32) -> i32 { if (a < 1) { return 2; } return a; }
 const behind_limited = 1; // AbstractInt = 1
 // Faults of attributes and variables.
-struct ByThree { @align(3) a: u32 } // error: an alignment is a power of 2
-struct ByZero { @align(0) a: u32 } // error: an alignment is a power of 2
+struct ByThree { @align(3) a: u32 } // error: alignment 3 is no power of two
+struct ByZero { @align(0) a: u32 } // error: alignment 0 is no power of two
 struct ByNegative { @align(-4) a: u32 } // error: an attribute is from 0 to 4294967295
 struct OfNegative { @size(-4) a: u32 } // error: an attribute is from 0 to 4294967295
-struct Short { @size(2) a: u32 } // error: the type takes another size
-struct Open { n: u32, @size(64) a: array<u32> } // error: the type takes another size
+struct Short { @size(2) a: u32 } // error: size 2 is less than 4, that of the type
+struct Open { n: u32, @size(64) a: array<u32> } // error: size 64 stands before a type without a fixed size
 struct ByType { @align(u32) a: u32 } // error: a type stands where a value belongs
 struct OfWidth { @size(width) a: u32 } // error: an attribute is a constant
 struct Slim { @align(2) a: u32 } // ok
@@ -114,9 +114,9 @@ const rest = 7 % 0; // error: division by zero: 7 % 0
 const divided = 1 / 0; // error: division by zero: 1 / 0
 const by_zero = fourteen / 0; // error: division by zero: 14u / 0
 const mixed = 1i + 1u; // error: no operator + for i32 and u32
-const digits = 0x; // error: this is no number of its kind
-const letters = 12ab; // error: this is no number of its kind
-const octal = 012; // error: this is no number of its kind
+const digits = 0x; // error: 0x is no number
+const letters = 12ab; // error: 12ab is no number
+const octal = 012; // error: 012 is no number
 const number = u32; // error: a type stands where a value belongs
 const of_number = number; // nothing
 const above: i32 = 2147483648; // error: 2147483648 is no i32

@@ -43,6 +43,15 @@ pub(crate) struct Arguments<'a> {
     /// Whether what the standard refuses, and what is left out, is a fault.
     pub(crate) is_strict: bool,
     pub(crate) dialect: Dialect,
+    /// What overrides are given, in the order of the words.
+    pub(crate) defines: Vec<Define<'a>>,
+}
+
+/// A value for an override: the name or the number of that, and an expression.
+#[derive(Clone, Copy)]
+pub(crate) struct Define<'a> {
+    pub(crate) name: &'a str,
+    pub(crate) value: &'a str,
 }
 
 /// What the words behind the program's name ask for.
@@ -61,6 +70,7 @@ enum Valued {
     Stage,
     Expression,
     Dialect,
+    Define,
 }
 
 /// What the words ask for so far.
@@ -115,6 +125,7 @@ impl<'a> Words<'a> {
                 stage: ShaderStage::Const,
                 is_strict: false,
                 dialect: Dialect::Wgsl,
+                defines: Vec::new(alloc),
             },
             has_format: false,
             open: None,
@@ -125,8 +136,8 @@ impl<'a> Words<'a> {
     // Takes a word, and answers why it belongs nowhere.
     fn take(&mut self, word: &'a str) -> Result<Option<Misuse<'a>>, AllocError> {
         match self.open.take() {
-            Some((valued, _)) => Ok(self.set_value(valued, word)),
-            None if is_flag(word) => Ok(self.take_flag(word)),
+            Some((valued, _)) => self.set_value(valued, word),
+            None if is_flag(word) => self.take_flag(word),
             None => {
                 self.take_name(word)?;
                 Ok(None)
@@ -134,63 +145,75 @@ impl<'a> Words<'a> {
         }
     }
 
-    fn take_flag(&mut self, word: &'a str) -> Option<Misuse<'a>> {
+    fn take_flag(&mut self, word: &'a str) -> Result<Option<Misuse<'a>>, AllocError> {
         if word == "--help" || word == "-h" {
             self.asks_help = true;
-            return None;
+            return Ok(None);
         }
         if word == "--strict" {
             self.arguments.is_strict = true;
-            return None;
+            return Ok(None);
         }
         if let Some(format) = format_of(word) {
-            return self.set_format(format, word);
+            return Ok(self.set_format(format, word));
         }
         if let Some(valued) = self.valued(word) {
             self.open = Some((valued, word));
-            return None;
+            return Ok(None);
         }
         self.take_joined(word)
     }
 
-    // A flag with its value behind `=`.
-    fn take_joined(&mut self, word: &'a str) -> Option<Misuse<'a>> {
+    // A flag with its value behind `=`, and `-D` with it right behind.
+    fn take_joined(&mut self, word: &'a str) -> Result<Option<Misuse<'a>>, AllocError> {
+        if let Some(define) = word.strip_prefix("-D") {
+            return self.set_value(Valued::Define, define);
+        }
         let Some((flag, value)) = word.split_once('=') else {
-            return Some(Misuse::Flag(word));
+            return Ok(Some(Misuse::Flag(word)));
         };
         match self.valued(flag) {
             Some(valued) => self.set_value(valued, value),
-            None => Some(Misuse::Flag(word)),
+            None => Ok(Some(Misuse::Flag(word))),
         }
     }
 
     fn valued(&self, flag: &str) -> Option<Valued> {
         match (self.arguments.command, flag) {
-            (Command::Eval, "--stage") => Some(Valued::Stage),
+            (_, "--stage") => Some(Valued::Stage),
             (Command::Eval, "-e") => Some(Valued::Expression),
             (_, "--dialect") => Some(Valued::Dialect),
+            (_, "-D") => Some(Valued::Define),
             (_, _) => None,
         }
     }
 
-    fn set_value(&mut self, valued: Valued, value: &'a str) -> Option<Misuse<'a>> {
+    fn set_value(
+        &mut self,
+        valued: Valued,
+        value: &'a str,
+    ) -> Result<Option<Misuse<'a>>, AllocError> {
         match valued {
             Valued::Stage => match stage_of(value) {
                 Some(stage) => self.arguments.stage = stage,
-                None => return Some(Misuse::Stage(value)),
+                None => return Ok(Some(Misuse::Stage(value))),
             },
             Valued::Dialect => match dialect_of(value) {
                 Some(dialect) => self.arguments.dialect = dialect,
-                None => return Some(Misuse::Dialect(value)),
+                None => return Ok(Some(Misuse::Dialect(value))),
+            },
+            Valued::Define => match define_of(value) {
+                Some(define) => self.arguments.defines.push(define)?,
+                None => return Ok(Some(Misuse::Define(value))),
             },
             Valued::Expression => {
                 if self.arguments.expression.is_some() {
-                    return Some(Misuse::SecondExpression);
+                    return Ok(Some(Misuse::SecondExpression));
                 }
                 self.arguments.expression = Some(value);
             }
         }
-        None
+        Ok(None)
     }
 
     // One format alone, and of values as a table or as JSON.
@@ -242,6 +265,16 @@ fn is_flag(word: &str) -> bool {
 // Whether a word is a file and no name: names have neither.
 fn is_file(word: &str) -> bool {
     word == "-" || word.contains(['.', '/'])
+}
+
+// `NAME=VALUE`, neither of which is empty.
+fn define_of(word: &str) -> Option<Define<'_>> {
+    let (name, value) = word.split_once('=')?;
+    let (name, value) = (name.trim(), value.trim());
+    if name.is_empty() || value.is_empty() {
+        return None;
+    }
+    Some(Define { name, value })
 }
 
 // The format that a flag asks for.

@@ -1,6 +1,7 @@
 //! What is printed of the constants of a source.
 
 use crate::arguments::{Arguments, Format};
+use crate::defines::{GivenValues, Values, values_for};
 use crate::finding::{findings_of, sort};
 use crate::findings_json::Told;
 use crate::left_out::add_need;
@@ -9,7 +10,9 @@ use crate::scope::{WithConstant, apart, with_constant};
 use crate::values::{Entry, add_entries};
 use crate::values_json::add_json;
 use std::alloc::{AllocError, Global};
-use wgsl_eval::{Assertion, Evaluation, Message, Outcome, Settings, Severity, Skip, evaluate_in};
+use wgsl_eval::{
+    Assertion, Evaluation, Message, Outcome, Settings, Severity, Skip, evaluate_in, evaluate_with,
+};
 use wgsl_source::{Fault, Reading};
 
 /// An expression is told of by this name.
@@ -75,13 +78,21 @@ pub(crate) fn values_of(
     file: &str,
     text: &str,
     arguments: &Arguments<'_>,
+    defined: &GivenValues<'_>,
 ) -> Result<Report, AllocError> {
     let reading = Reading::of_module(alloc, text)?;
+    let settings = settings_of(arguments);
+    let Values {
+        given,
+        messages: mut of_overrides,
+    } = values_for(alloc, text, &reading, defined, settings)?;
+    let given = given.as_slice();
     let Evaluation {
         values,
         asserts,
         mut messages,
-    } = evaluate_in(alloc, &reading, settings_of(arguments))?;
+    } = evaluate_with(alloc, &reading, settings, given)?;
+    messages.append(&mut of_overrides)?;
     for assertion in &asserts {
         add_assertion(alloc, &mut messages, text, *assertion, arguments.is_strict)?;
     }
@@ -121,14 +132,22 @@ pub(crate) fn value_in_scope(
     module: &str,
     expression: &str,
     arguments: &Arguments<'_>,
+    defined: &GivenValues<'_>,
 ) -> Result<(Report, Report), AllocError> {
     let WithConstant { text, name, start } = with_constant(alloc, module, expression)?;
     let reading = Reading::of_module(alloc, text.as_str())?;
+    let settings = settings_of(arguments);
+    let Values {
+        given,
+        messages: mut of_overrides,
+    } = values_for(alloc, module, &reading, defined, settings)?;
+    let given = given.as_slice();
     let Evaluation {
         values,
         mut messages,
         ..
-    } = evaluate_in(alloc, &reading, settings_of(arguments))?;
+    } = evaluate_with(alloc, &reading, settings, given)?;
+    messages.append(&mut of_overrides)?;
     let mut entries = Vec::new(alloc);
     for value in &values {
         if reading.word(value.token) == name.as_str() {
@@ -160,7 +179,8 @@ pub(crate) fn value_in_scope(
     Ok((told, value))
 }
 
-fn settings_of(arguments: &Arguments<'_>) -> Settings {
+/// How sources are evaluated.
+pub(crate) fn settings_of(arguments: &Arguments<'_>) -> Settings {
     Settings {
         stage: arguments.stage,
         is_strict: arguments.is_strict,

@@ -112,8 +112,12 @@ fn code_of(reason: Reason) -> &'static str {
     match reason {
         Reason::Expected(_) => "expected",
         Reason::OpenComment => "open-comment",
+        Reason::Preprocessor => "preprocessor",
+        Reason::Placeholder => "placeholder",
+        Reason::Import => "import",
         Reason::TooDeep => "too-deep",
         Reason::DuplicateName => "duplicate-name",
+        Reason::SecondStage => "second-stage",
         Reason::ContainsItself => "needs-itself",
         Reason::Mixed => "mixed-operators",
         Reason::Double => "double-operator",

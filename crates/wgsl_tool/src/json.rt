@@ -4,24 +4,35 @@ ghost use Rattle.std.specs.Prelude.{◌≡◌, ◌++◌, OnOk, string_bytes};
 ghost use Rattle.wgsl_tool.specs.Texts.{entry_text, runtime_entry};
 
 use crate::findings_json::{Told, add_findings};
-use crate::json_text::add_string;
+use crate::interface::Interface;
+use crate::interface_json::add_interface;
+use crate::json_text::{SCHEMA, add_string};
 use crate::left_out::LeftOut;
+use crate::shape::add_shape;
 use crate::structures::{Asked, Laid, RuntimePart, runtime_member, runtime_part};
 use crate::uniform::{add_rule, broken_rules};
 use std::alloc::{AllocError, Global};
-use wgsl_eval::Variable;
+use wgsl_eval::{Item, Variable};
 use wgsl_rules::{AccessMode, AddressSpace, MemberLayout, StructMemberType, StructType, Type};
 
-/// One object, with the structures and the variables in their order, what is left out, and what is told. A number that is not
-/// known is `null`.
+/// What a module asks of its host, and the items that have the values of its overrides.
+#[derive(Clone, Copy)]
+pub(crate) struct Whole<'a, 'b> {
+    pub(crate) interface: &'a Interface<'b>,
+    pub(crate) values: &'a [Item],
+}
+
+/// One object, with the structures and the variables in their order, the interface where all of a module is asked for, what is
+/// left out, and what is told. A number that is not known is `null`.
 pub(crate) fn add_json(
     alloc: Global,
     text: &mut String,
     asked: Asked<'_>,
+    whole: Option<Whole<'_, '_>>,
     left_out: &[LeftOut<'_>],
     told: Told<'_>,
 ) -> Result<(), AllocError> {
-    text.push_str("{\n  \"file\": ")?;
+    write!(text, "{{\n  \"schema\": {SCHEMA},\n  \"file\": ")?;
     add_string(text, told.file)?;
     text.push_str(",\n  \"structs\": [")?;
     let mut count = 0usize;
@@ -39,7 +50,11 @@ pub(crate) fn add_json(
             add_variable(alloc, text, name, variable)?;
         }
     }
-    text.push_str("\n  ],\n  \"skipped\": [")?;
+    text.push_str("\n  ],\n  ")?;
+    if let Some(Whole { interface, values }) = whole {
+        add_interface(alloc, text, interface, values)?;
+    }
+    text.push_str("\"skipped\": [")?;
     count = 0;
     for one in left_out {
         begin_object(text, &mut count)?;
@@ -73,7 +88,7 @@ fn add_left_out(
     write!(text, ", \"span\": {{\"start\": {start}, \"end\": {end}}}}}")
 }
 
-fn begin_object(text: &mut String, count: &mut usize) -> Result<(), AllocError> {
+pub(crate) fn begin_object(text: &mut String, count: &mut usize) -> Result<(), AllocError> {
     if *count > 0 {
         text.push(',')?;
     }
@@ -110,6 +125,8 @@ fn add_member(
     add_number(text, "align", layout.align)?;
     add_number(text, "padding", layout.padding)?;
     add_number(text, "stride", ty.stride())?;
+    text.push_str(", \"shape\": ")?;
+    add_shape(text, ty)?;
     text.push('}')
 }
 
@@ -122,6 +139,7 @@ fn add_variable(
     let ty = &variable.ty;
     write!(text, "{{\"name\": \"{name}\", \"type\": \"{ty}\"")?;
     let space = match variable.space {
+        _ if variable.is_immediate => "immediate",
         Some(AddressSpace::Uniform) => "uniform",
         _ => "storage",
     };
@@ -138,6 +156,8 @@ fn add_variable(
     add_number(text, "least_binding", ty.least_binding())?;
     add_number(text, "stride", ty.stride())?;
     add_runtime(text, runtime_part(alloc, ty)?)?;
+    text.push_str(", \"shape\": ")?;
+    add_shape(text, ty)?;
     if variable.space == Some(AddressSpace::Uniform) {
         add_broken_rules(alloc, text, name, ty)?;
     }
@@ -178,7 +198,11 @@ fn add_runtime(text: &mut String, runtime: Option<RuntimePart>) -> Result<(), Al
     }
 }
 
-fn add_number(text: &mut String, key: &str, number: Option<u32>) -> Result<(), AllocError>
+pub(crate) fn add_number(
+    text: &mut String,
+    key: &str,
+    number: Option<u32>,
+) -> Result<(), AllocError>
     ensures { OnOk result (string_bytes text.new ≡ string_bytes text.old ++ entry_text key.now number) }
 {
     match number {

@@ -2,6 +2,9 @@
 
 use std::alloc::AllocError;
 
+/// The number of the form that the program's JSON has: one more with each change that a program could trip over.
+pub(crate) const SCHEMA: u32 = 1;
+
 /// The text in quotation marks.
 pub(crate) fn add_string(out: &mut String, text: &str) -> Result<(), AllocError> {
     out.push('"')?;

@@ -2,35 +2,46 @@
 #![tactic(auto)]
 
 mod arguments;
+mod attributes;
 mod bytes;
 mod c;
+mod defines;
 mod end;
 mod eval;
 mod fields;
 mod finding;
 mod findings_json;
 mod host_names;
+mod interface;
+mod interface_json;
+mod interface_table;
 mod json;
 mod json_text;
 mod layouts;
 mod left_out;
 mod misuse;
 mod nearest;
+mod numbers;
 mod report;
 mod rows;
 mod rust;
 mod scope;
+mod shape;
 mod share;
 mod structures;
 mod table;
+mod together;
+mod type_words;
 mod uniform;
 mod values;
 mod values_json;
 
 use arguments::{Arguments, Asked, Command, Format, arguments_of};
+use defines::{GivenValues, values_given};
 use end::End;
 use eval::{expression_value, is_expression, value_in_scope, values_of};
 use layouts::layouts_of;
+use misuse::Misuse;
 use report::Report;
 use std::process::ExitCode;
 use std::rt::{Env, Files};
@@ -58,11 +69,12 @@ FILE are files where they have a `.` or a `/`, and else names.
 source declares, and checks the assertions of the module.
 
   --json      the same for programs to read
-  --stage STAGE  when the values are needed: `const` for the module, `override` for a pipeline, or `exec`
-              while it runs
 
 Of both:
 
+  -D NAME=VALUE  the value of an override, by its name or by its number
+  --stage STAGE  when the values are needed: `const` for the module, `override` for a pipeline, or `exec`
+              while it runs
   --strict    what is warned of and what is left out is a fault
   --dialect DIALECT  `wgsl`, or `crate` for what the Rust crate has beyond it: matrices of integers, integers of
               64 bits, and bits of abstract integers
@@ -92,10 +104,7 @@ fn run<R: AllocGlobal + Input + Print + Eprint + Files + Env>(rt: &R) -> io::Res
         words.push(word)?;
     }
     match arguments_of(rt.alloc(), words.as_slice())? {
-        Asked::Nothing(misuse) => {
-            eprint!(rt; "wgsl_tool: {misuse}\n\n{USAGE}")?;
-            Ok(End::Usage)
-        }
+        Asked::Nothing(misuse) => print_misuse(rt, misuse),
         Asked::Help => {
             print!(rt; "{USAGE}")?;
             Ok(End::Well)
@@ -104,14 +113,23 @@ fn run<R: AllocGlobal + Input + Print + Eprint + Files + Env>(rt: &R) -> io::Res
             print!(rt; "{VERSION}")?;
             Ok(End::Well)
         }
-        Asked::Sources(arguments) => print_sources(rt, &arguments),
+        Asked::Sources(arguments) => match values_given(rt.alloc(), &arguments)? {
+            Ok(defined) => print_sources(rt, &arguments, &defined),
+            Err(misuse) => print_misuse(rt, misuse),
+        },
     }
+}
+
+fn print_misuse<R: Eprint>(rt: &R, misuse: Misuse<'_>) -> io::Result<End> {
+    eprint!(rt; "wgsl_tool: {misuse}\n\n{USAGE}")?;
+    Ok(End::Usage)
 }
 
 // Prints what is asked for of each source in turn, and ends as the worst of them.
 fn print_sources<R: AllocGlobal + Input + Print + Eprint + Files>(
     rt: &R,
     arguments: &Arguments<'_>,
+    defined: &GivenValues<'_>,
 ) -> io::Result<End> {
     if let (true, Some(expression)) = (arguments.files.is_empty(), arguments.expression) {
         let value = expression_value(rt.alloc(), expression, arguments)?;
@@ -128,7 +146,7 @@ fn print_sources<R: AllocGlobal + Input + Print + Eprint + Files>(
             Ok(source) => {
                 print_heading(rt, arguments, file, printed)?;
                 printed = printed.saturating_add(1);
-                end = end.or_worse(print_source(rt, file, source.as_str(), arguments)?);
+                end = end.or_worse(print_source(rt, file, source.as_str(), arguments, defined)?);
             }
             Err(error) => {
                 eprintln!(rt; "wgsl_tool: {file}: {error}")?;
@@ -167,16 +185,21 @@ fn print_source<R: AllocGlobal + Print + Eprint>(
     file: &str,
     text: &str,
     arguments: &Arguments<'_>,
+    defined: &GivenValues<'_>,
 ) -> io::Result<End> {
     let alloc = rt.alloc();
     match (arguments.command, arguments.expression) {
-        (Command::Layout, _) => print_report(rt, &layouts_of(alloc, file, text, arguments)?),
-        (Command::Eval, None) => print_report(rt, &values_of(alloc, file, text, arguments)?),
+        (Command::Layout, _) => {
+            print_report(rt, &layouts_of(alloc, file, text, arguments, defined)?)
+        }
+        (Command::Eval, None) => {
+            print_report(rt, &values_of(alloc, file, text, arguments, defined)?)
+        }
         (Command::Eval, Some(expression)) => {
             if !is_expression(alloc, expression)? {
                 return print_report(rt, &expression_value(alloc, expression, arguments)?);
             }
-            let (told, value) = value_in_scope(alloc, file, text, expression, arguments)?;
+            let (told, value) = value_in_scope(alloc, file, text, expression, arguments, defined)?;
             let end = print_report(rt, &told)?;
             Ok(end.or_worse(print_report(rt, &value)?))
         }

@@ -16,6 +16,10 @@ pub(crate) enum Misuse<'a> {
     Stage(&'a str),
     /// No dialect has this name.
     Dialect(&'a str),
+    /// It is no `NAME=VALUE`.
+    Define(&'a str),
+    /// The value of this override is no integer and no truth value.
+    Value(&'a str, &'a str),
     /// Another format is asked for already.
     SecondFormat(&'a str),
     SecondExpression,
@@ -37,6 +41,15 @@ impl fmt::Display for Misuse<'_> {
             }
             Misuse::Dialect(word) => {
                 write!(f, "no dialect is named `{word}`: there are wgsl and crate")
+            }
+            Misuse::Define(word) => {
+                write!(f, "`{word}` is no value of an override: that is NAME=VALUE")
+            }
+            Misuse::Value(name, value) => {
+                write!(
+                    f,
+                    "the value of `{name}={value}` is no integer, true or false"
+                )
             }
             Misuse::SecondFormat(flag) => { write!(f, "`{flag}` asks for a second format") }
             Misuse::SecondExpression => f.write_str("a second expression is given"),

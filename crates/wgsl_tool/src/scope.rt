@@ -19,6 +19,16 @@ pub(crate) fn with_constant(
     module: &str,
     expression: &str,
 ) -> Result<WithConstant, AllocError> {
+    let name = free_name(alloc, module)?;
+    let mut text = String::from_str(alloc, module)?;
+    write!(text, "\nconst {name} = ")?;
+    let start = text.len();
+    write!(text, "{expression}\n;\n")?;
+    Ok(WithConstant { text, name, start })
+}
+
+/// A name that does not stand in the module.
+pub(crate) fn free_name(alloc: Global, module: &str) -> Result<String, AllocError> {
     let mut name = String::from_str(alloc, "expression")?;
     // Each turn makes it longer.
     for _ in 0..module.len() {
@@ -27,11 +37,7 @@ pub(crate) fn with_constant(
         }
         name.push('_')?;
     }
-    let mut text = String::from_str(alloc, module)?;
-    write!(text, "\nconst {name} = ")?;
-    let start = text.len();
-    write!(text, "{expression}\n;\n")?;
-    Ok(WithConstant { text, name, start })
+    Ok(name)
 }
 
 /// The messages of the module, and those of the expression, which begins there, by their places in it.

@@ -5,18 +5,25 @@ use std::alloc::{AllocError, Global};
 use wgsl_eval::{Item, ItemKind, Severity, Variable};
 use wgsl_interface::{ShareRule, share_faults, struct_faults, variable_rules};
 use wgsl_rules::{AddressSpace, Type};
+use wgsl_source::{Declared, DeclaredVariable, Reading};
 
 /// The most of these faults that are told of a source.
 const SHARED: usize = 100;
 
 /// The faults of structures and variables, in their order; of many the first.
-pub(crate) fn shared_faults(alloc: Global, items: &[Item]) -> Result<Vec<Finding>, AllocError> {
+pub(crate) fn shared_faults(
+    alloc: Global,
+    reading: &Reading<'_>,
+    items: &[Item],
+) -> Result<Vec<Finding>, AllocError> {
     let mut found = Vec::new(alloc);
-    for item in items {
-        match &item.kind {
-            ItemKind::Struct(ty) => add_struct(alloc, &mut found, item, ty)?,
-            ItemKind::Variable(variable) => add_variable(alloc, &mut found, item, variable)?,
-            _ => {}
+    for (number, item) in items.iter().enumerate() {
+        match (&item.kind, reading.declared(number)) {
+            (ItemKind::Struct(ty), _) => add_struct(alloc, &mut found, item, ty)?,
+            (ItemKind::Variable(variable), Some(Declared::Variable(declared))) => {
+                add_variable(alloc, &mut found, item, variable, declared)?;
+            }
+            (_, _) => {}
         }
     }
     Ok(found)
@@ -38,29 +45,47 @@ fn add_struct(
     Ok(())
 }
 
-// What a structure breaks wherever it stands is told of it alone.
+// What a structure breaks wherever it stands is told of it alone. Immediate data has the types that uniform variables have,
+// and no access mode, group or binding.
 fn add_variable(
     alloc: Global,
     found: &mut Vec<Finding>,
     item: &Item,
     variable: &Variable,
+    declared: DeclaredVariable,
 ) -> Result<(), AllocError> {
-    let (space, access) = (
-        variable.space.unwrap_or(AddressSpace::Handle),
-        variable.access,
-    );
-    let (has_group, has_binding) = (variable.group.is_some(), variable.binding.is_some());
-    let rules = variable_rules(space, access, has_group, has_binding);
-    for rule in [rules.access, rules.group, rules.binding] {
-        if let Some(rule) = rule {
-            add(alloc, found, item, "", rule)?;
-        }
+    if !variable.is_immediate {
+        add_rules(alloc, found, item, variable, declared)?;
     }
-    let faults = share_faults(alloc, &variable.ty, space, access)?;
+    let space = match variable.space {
+        Some(space) => space,
+        None if variable.is_immediate => AddressSpace::Uniform,
+        None => AddressSpace::Handle,
+    };
+    let faults = share_faults(alloc, &variable.ty, space, variable.access)?;
     for fault in &faults {
         let path = fault.path.as_str();
         if !fault.rule.is_of_each_type() || !is_in_structure(path) {
             add(alloc, found, item, path, fault.rule)?;
+        }
+    }
+    Ok(())
+}
+
+// What its access mode, its group and its binding break, which are given or not.
+fn add_rules(
+    alloc: Global,
+    found: &mut Vec<Finding>,
+    item: &Item,
+    variable: &Variable,
+    declared: DeclaredVariable,
+) -> Result<(), AllocError> {
+    let space = variable.space.unwrap_or(AddressSpace::Handle);
+    let (has_group, has_binding) = (declared.group.is_some(), declared.binding.is_some());
+    let rules = variable_rules(space, variable.access, has_group, has_binding);
+    for rule in [rules.access, rules.group, rules.binding] {
+        if let Some(rule) = rule {
+            add(alloc, found, item, "", rule)?;
         }
     }
     Ok(())

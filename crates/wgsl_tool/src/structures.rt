@@ -2,7 +2,7 @@
 
 ghost use Rattle.std.specs.Prelude.{◌≡◌, is_some};
 ghost use Rattle.wgsl_rules.specs.View.{type_view};
-ghost use Rattle.wgsl_tool.specs.Kinds.{is_shared_space, is_structure, is_laid_out};
+ghost use Rattle.wgsl_tool.specs.Kinds.{is_shared, is_shared_space, is_structure, is_laid_out};
 
 use crate::rows::{Row, rows_of};
 use std::alloc::{AllocError, Global};
@@ -29,7 +29,7 @@ impl<'a> Asked<'a> {
     }
 
     /// What a declaration is, if it is asked for and has a layout. Of variables those in storage and
-    /// uniform space have one.
+    /// uniform space and of immediate data have one.
     pub(crate) fn laid(&self, item: &'a Item) -> Option<Laid<'a>> {
         if !self.names.is_empty() && !self.is_named(item.name.as_str()) {
             return None;
@@ -119,11 +119,17 @@ fn laid_of(item: &Item) -> Option<Laid<'_>>
     }
 }
 
-/// Whether the variable is one of storage or uniform space.
+/// Whether the variable is one of storage or uniform space, or of immediate data.
 pub(crate) fn is_shared(variable: &Variable) -> bool
-    ensures { result ≡ is_shared_space variable.now.space }
+    ensures { result ≡ is_shared variable.now }
 {
-    match variable.space {
+    is_shared_space(variable.space) || variable.is_immediate
+}
+
+fn is_shared_space(space: Option<AddressSpace>) -> bool
+    ensures { result ≡ is_shared_space space }
+{
+    match space {
         Some(AddressSpace::Storage | AddressSpace::Uniform) => true,
         Some(AddressSpace::Function | AddressSpace::Private) => false,
         Some(AddressSpace::Workgroup | AddressSpace::Handle) => false,

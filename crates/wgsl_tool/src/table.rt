@@ -72,6 +72,7 @@ fn add_variable(text: &mut String, name: &str, variable: &Variable) -> Result<()
         write!(text, "@binding({binding}) ")?;
     }
     match (variable.space, variable.access) {
+        (_, _) if variable.is_immediate => text.push_str("var<immediate> ")?,
         (Some(AddressSpace::Uniform), _) => text.push_str("var<uniform> ")?,
         (_, Some(AccessMode::ReadWrite)) => text.push_str("var<storage, read_write> ")?,
         (_, Some(AccessMode::Write)) => text.push_str("var<storage, write> ")?,

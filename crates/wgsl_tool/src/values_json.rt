@@ -1,7 +1,7 @@
 //! Values as JSON.
 
 use crate::findings_json::{Told, add_findings};
-use crate::json_text::add_string;
+use crate::json_text::{SCHEMA, add_string};
 use crate::left_out::add_need;
 use crate::values::Entry;
 use std::alloc::{AllocError, Global};
@@ -16,7 +16,7 @@ pub(crate) fn add_json(
     entries: &[Entry<'_>],
     told: Told<'_>,
 ) -> Result<(), AllocError> {
-    out.push_str("{\n  \"file\": ")?;
+    write!(out, "{{\n  \"schema\": {SCHEMA},\n  \"file\": ")?;
     add_string(out, told.file)?;
     out.push_str(",\n  \"values\": [")?;
     for (i, entry) in entries.iter().enumerate() {

@@ -1,0 +1,151 @@
+//! The interface of a module, as a person reads it: what has no table, a line each.
+
+use crate::interface::{Binding, EntryPoint, Interface, Memory, Overridable};
+use std::alloc::{AllocError, Global};
+use wgsl_eval::{Item, ItemKind};
+use wgsl_rules::Ty;
+
+/// The lines, with an empty one before them where something stands there. The values of overrides are among these items.
+pub(crate) fn add_interface(
+    alloc: Global,
+    text: &mut String,
+    interface: &Interface<'_>,
+    values: &[Item],
+) -> Result<(), AllocError> {
+    let mut lines = String::new(alloc);
+    for binding in &interface.bindings {
+        if !binding.is_buffer() {
+            add_binding(&mut lines, binding)?;
+        }
+    }
+    for memory in &interface.memory {
+        if !memory.is_laid_out() {
+            add_memory(&mut lines, memory)?;
+        }
+    }
+    for overridable in &interface.overrides {
+        add_override(
+            alloc,
+            &mut lines,
+            overridable,
+            values.get(overridable.number),
+        )?;
+    }
+    for entry in &interface.entries {
+        add_entry(&mut lines, entry, interface)?;
+    }
+    if !text.is_empty() && !lines.is_empty() {
+        text.push('\n')?;
+    }
+    text.push_str(lines.as_str())
+}
+
+// `@group(0) @binding(1) var name: type`
+fn add_binding(text: &mut String, binding: &Binding<'_>) -> Result<(), AllocError> {
+    if let Some(group) = binding.group {
+        write!(text, "@group({group}) ")?;
+    }
+    if let Some(number) = binding.binding {
+        write!(text, "@binding({number}) ")?;
+    }
+    let (name, words) = (&binding.item.name, &binding.words);
+    writeln!(text, "var {name}: {words}")
+}
+
+// `var<workgroup> name: type, size 256, align 4`
+fn add_memory(text: &mut String, memory: &Memory<'_>) -> Result<(), AllocError> {
+    let (space, name, words) = (memory.space, &memory.item.name, &memory.words);
+    write!(text, "var<{space}> {name}")?;
+    match memory.ty {
+        Some(ty) => write!(text, ": {ty}")?,
+        None if words.is_empty() => {}
+        None => write!(text, ": {words}")?,
+    }
+    match memory.ty {
+        Some(ty) => {
+            match ty.size_of() {
+                Some(size) => write!(text, ", size {size}")?,
+                None => text.push_str(", no size")?,
+            }
+            match ty.align_of() {
+                Some(align) => writeln!(text, ", align {align}"),
+                None => text.push_str(", no alignment\n"),
+            }
+        }
+        None => text.push_str(", no size here\n"),
+    }
+}
+
+// `@id(7) override name: u32 = 64u`
+fn add_override(
+    alloc: Global,
+    text: &mut String,
+    overridable: &Overridable<'_>,
+    value: Option<&Item>,
+) -> Result<(), AllocError> {
+    if let Some(id) = overridable.id {
+        write!(text, "@id({id}) ")?;
+    }
+    let name = &overridable.item.name;
+    write!(text, "override {name}")?;
+    if let Some(
+        Item {
+            kind: ItemKind::Value(instance),
+            ..
+        },
+    ) = value
+        && instance.is_well_formed()
+    {
+        let ty = instance.ty(alloc)?;
+        return writeln!(text, ": {ty} = {instance}");
+    }
+    let words = &overridable.words;
+    if !words.is_empty() {
+        write!(text, ": {words}")?;
+    }
+    text.push_str(if overridable.has_value {
+        ", a value that is not evaluated here\n"
+    } else {
+        ", no value\n"
+    })
+}
+
+// `@compute @workgroup_size(64, 1, 1) fn name: 256 bytes of workgroup memory; uses a, b`
+fn add_entry(
+    text: &mut String,
+    entry: &EntryPoint<'_>,
+    interface: &Interface<'_>,
+) -> Result<(), AllocError> {
+    let (name, stage) = (&entry.item.name, entry.stage_word());
+    write!(text, "@{stage} ")?;
+    if entry.is_compute() {
+        text.push_str("@workgroup_size(")?;
+        for (i, size) in entry.workgroup_size.iter().enumerate() {
+            text.push_str(if i == 0 { "" } else { ", " })?;
+            match size {
+                Some(size) => write!(text, "{size}")?,
+                None => text.push('?')?,
+            }
+        }
+        text.push_str(") ")?;
+    }
+    write!(text, "fn {name}:")?;
+    let mut count = 0usize;
+    for number in &entry.reached {
+        if let Some(binding) = interface.binding_at(*number) {
+            let name = &binding.item.name;
+            text.push_str(if count == 0 { " uses " } else { ", " })?;
+            text.push_str(name.as_str())?;
+            count = count.saturating_add(1);
+        }
+    }
+    if count == 0 {
+        text.push_str(" uses no binding")?;
+    }
+    match entry.workgroup_memory {
+        Some(0) => {}
+        Some(bytes) => write!(text, "; {bytes} bytes of workgroup memory")?,
+        None => text.push_str("; workgroup memory that is not known here")?,
+    }
+    text.push('\n')
+}
