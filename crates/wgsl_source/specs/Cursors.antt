@@ -1,5 +1,5 @@
 -- A place among the tokens of a source.
-use Rattle.std.specs.Prelude.{ℕ, ◌+◌, ◌-◌, ◌^◌, min, List, length, slice_get, unwrap_or}
+use Rattle.std.specs.Prelude.{◌≡◌, ℕ, ◌+◌, ◌-◌, ◌^◌, min, List, length, slice_get, unwrap_or}
 use Rattle.wgsl_source.specs.Cuts.{cut_of}
 use Rattle.wgsl_source.specs.declared.cursor.Cursor.{Cursor}
 use Rattle.wgsl_source.specs.declared.fault.Fault.{Fault}
@@ -27,3 +27,9 @@ advanced c = record c { at = min (c.at + 1) (2 ^ 64 - 1) }
 -- a fault at the token of this number
 abbrev pub fault_of : Cursor → ℕ → Reason → Fault
 fault_of c at reason = record { start = (token_of c at).start; end = (token_of c at).end; reason = reason }
+
+-- `==` is next, which is one token (WGSL: syntactic tokens)
+abbrev pub IsEquality : Cursor → Type 0
+IsEquality c =
+    ((next_token c).kind ≡ kinds.Symbol 61) × ((next_token (advanced c)).kind ≡ kinds.Symbol 61)
+    × ((next_token c).end ≡ (next_token (advanced c)).start)

@@ -2,7 +2,7 @@
 
 ghost use Rattle.std.specs.Prelude.{◌≡◌, ◌<◌, ◌≤◌, ◌↔◌, length, IsTrue, IfOk, IfErr, OnOk, if◌then◌else◌};
 ghost use Rattle.wgsl_source.specs.Brackets.{brackets_behind, wanting_end};
-ghost use Rattle.wgsl_source.specs.Cursors.{token_of, text_of, next_token, advanced, fault_of};
+ghost use Rattle.wgsl_source.specs.Cursors.{token_of, text_of, next_token, advanced, fault_of, IsEquality};
 ghost use Rattle.wgsl_source.specs.Declarations.{IsBehind, IsNamed};
 ghost use Rattle.wgsl_source.specs.Cuts.{is_boundary, cut_of};
 ghost use Rattle.std.specs.Str.{IsCharBoundary};
@@ -155,6 +155,26 @@ impl<'a> Cursor<'a> {
         } else {
             Err(self.expected(Expected::Symbol(char::from(symbol))))
         }
+    }
+
+    /// Goes on by `=`, or stops where another token stands, as `==` is.
+    pub(crate) fn expect_assignment(&mut self) -> Result<(), Stop>
+        ensures ok { OnOk result (((next_token self.old).kind ≡ TokenKind.Symbol 61) × ((¬ IsEquality self.old) × (self.new ≡ advanced self.old))) }
+        ensures err { IfErr result (λ stop. (stop ≡ Stop.At self.old.at (Reason.Expected (Expected.Symbol 61))) × (self.new ≡ self.old)) }
+        ensures later { IsBehind self.old self.new }
+    {
+        if self.is_at_equality() {
+            return Err(self.expected(Expected::Symbol('=')));
+        }
+        self.expect_symbol(b'=')
+    }
+
+    // Whether two `=` are next without a blank between them.
+    fn is_at_equality(&self) -> bool
+        ensures { IsTrue result ↔ IsEquality self.now }
+    {
+        let token = self.token();
+        token.is_symbol(b'=') && self.second().is_joined(token, b'=')
     }
 
     /// Goes on by a name, and answers its number.

@@ -269,7 +269,7 @@ impl<'a> Expressions<'a> {
     {
         self.cursor.advance();
         let name = self.cursor.expect_name()?;
-        self.cursor.expect_symbol(b'=')?;
+        self.cursor.expect_assignment()?;
         let ty = self.expression()?;
         self.cursor.expect_symbol(b';')?;
         let kind = Kind::Alias(ty);
@@ -282,7 +282,7 @@ impl<'a> Expressions<'a> {
         self.cursor.advance();
         let name = self.cursor.expect_name()?;
         let ty = self.given_type()?;
-        self.cursor.expect_symbol(b'=')?;
+        self.cursor.expect_assignment()?;
         let value = self.expression()?;
         self.cursor.expect_symbol(b';')?;
         let kind = Kind::Constant(ty, value);
@@ -352,9 +352,10 @@ impl<'a> Expressions<'a> {
     fn given_value(&mut self) -> Result<Option<Span>, Stop>
         ensures later { IsBehind self.old.cursor self.new.cursor }
     {
-        if !self.cursor.take_symbol(b'=') {
+        if !self.cursor.token().is_symbol(b'=') {
             return Ok(None);
         }
+        self.cursor.expect_assignment()?;
         Ok(Some(self.expression()?))
     }
 

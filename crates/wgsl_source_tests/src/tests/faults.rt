@@ -2,7 +2,7 @@
 
 use crate::tests::texts::assert_declares;
 
-const ROWS: [(&str, &str); 13] = [
+const ROWS: [(&str, &str); 17] = [
     ("struct S { a u32 }", "1:14 expected `:`"),
     ("struct S { a: u32", "1:18 expected `}`"),
     (
@@ -34,6 +34,10 @@ const ROWS: [(&str, &str); 13] = [
         "const A = B; const B = A;",
         "const A; const B; 1:24 this needs itself",
     ),
+    ("const N == 1; const M = 2;", "const M; 1:9 expected `=`"),
+    ("override N: u32 == 1;", "1:17 expected `=`"),
+    ("alias A == u32;", "1:9 expected `=`"),
+    ("const N = = 1;", "1:11 expected a type or a value"),
 ];
 
 #[test]
