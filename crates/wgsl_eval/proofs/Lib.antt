@@ -5,6 +5,13 @@ pub mod Columns
 pub mod ConvertedLists
 pub mod Each
 pub mod Faults
+pub mod FaultyAnswers
+pub mod FaultyAssertions
+pub mod FaultyChains
+pub mod FaultyDeclarations
+pub mod FaultyLaws
+pub mod FaultyMessages
+pub mod FaultyRuns
 pub mod Items
 pub mod Kept
 pub mod MadeTypes

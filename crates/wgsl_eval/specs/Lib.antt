@@ -5,7 +5,9 @@ pub mod Constructors
 pub mod Evaluated
 pub mod Evaluation
 pub mod Evaluators
+pub mod Faulty
 pub mod Given
+pub mod Laws
 pub mod Lists
 pub mod Meanings
 pub mod Messages

@@ -13,6 +13,7 @@ mod declare;
 mod evaluation;
 mod evaluator;
 mod given;
+pub mod laws;
 mod literals;
 mod message;
 mod names;

@@ -25,6 +25,7 @@ mod answers;
 mod equal;
 mod given;
 mod growth;
+mod laws;
 mod skips;
 mod standard;
 mod texts;
