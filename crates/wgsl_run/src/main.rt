@@ -1,27 +1,16 @@
 //! Runs scripts of calls on a shader's memory.
 #![tactic(auto)]
 
-mod answer;
-mod attributes;
-mod fault;
-mod grammar;
-mod hexadecimal;
-mod input;
 mod output;
-mod script;
-mod stop;
-mod structs;
 #[cfg(test)]
 mod tests;
-mod type_words;
 
-pub use fault::RunFault;
 use output::Buffered;
-pub use script::run_script;
 use std::alloc::Global;
 use std::io;
 use std::io::{Read, Write};
 use std::process::ExitCode;
+use wgsl_script::{RunFault, run_script};
 
 /// How many bytes of output may wait.
 const BUFFER: usize = 8192;

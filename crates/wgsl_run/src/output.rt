@@ -1,22 +1,9 @@
-//! The bytes that a script writes.
+//! Output that waits in a buffer.
 
 use std::alloc::{AllocError, Global};
 use std::io;
 use std::io::Write;
-
-/// Writes all the bytes, in one write where the writer takes them. A write that fails, is
-/// interrupted or takes no byte is an error, and is not made again.
-pub(crate) fn write_bytes<W: Write>(writer: &mut W, bytes: &[u8]) -> io::Result<()> {
-    let mut rest = bytes;
-    while !rest.is_empty() {
-        let count = writer.write(rest)?;
-        if count == 0 {
-            return Err(io::ErrorKind::WriteZero.into());
-        }
-        rest = &rest[count..];
-    }
-    Ok(())
-}
+use wgsl_script::write_bytes;
 
 /// A writer whose bytes wait in a buffer until it is full or flushed. Unlike that of the standard
 /// library it makes no write again that was interrupted: this is an error as any other. What waits

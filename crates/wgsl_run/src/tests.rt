@@ -9,10 +9,10 @@ mod reading;
 mod rows;
 mod seeds;
 
-use crate::{RunFault, run_script};
 use std::alloc::Global;
 use std::fmt::Write;
 use std::process::Abort;
+use wgsl_script::{RunFault, run_script};
 
 /// The output of a script that is run to its end.
 fn output_of(alloc: Global, script: &[u8]) -> Result<Vec<u8>, RunFault> {

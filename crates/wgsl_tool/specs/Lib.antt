@@ -1,8 +1,2 @@
-pub mod Endings
-pub mod Faults
-pub mod Fields
-pub mod Kinds
-pub mod Rows
-pub mod Scalars
+pub mod Flags
 pub mod Stages
-pub mod Texts

@@ -3,25 +3,15 @@
 ghost use Rattle.std.specs.Prelude.{◌≡◌, ◌≢◌, IfSome, IsNone, Some};
 ghost use Rattle.wgsl_rules.specs.declared.syntax.ShaderStage.{ShaderStage};
 ghost use Rattle.wgsl_functions.specs.declared.parameters.Dialect.{Dialect};
-ghost use Rattle.wgsl_tool.specs.Endings.{flag_of};
+ghost use Rattle.wgsl_tool.specs.Flags.{flag_of};
 ghost use Rattle.wgsl_tool.specs.Stages.{dialect_word, stage_word};
-ghost use Rattle.wgsl_tool.specs.declared.arguments.Format.{Format};
+ghost use Rattle.wgsl_report.specs.declared.format.Format.{Format};
 
 use crate::misuse::Misuse;
 use std::alloc::{AllocError, Global};
-use wgsl_eval::Dialect;
+use wgsl_eval::{Dialect, Settings};
+use wgsl_report::{Define, Format, Request, define_of};
 use wgsl_rules::ShaderStage;
-
-/// How an answer is printed.
-#[derive(Clone, Copy, Debug, PartialEq, Eq)]
-pub(crate) enum Format {
-    Table,
-    Bytes,
-    Json,
-    Rust,
-    Bytemuck,
-    C,
-}
 
 /// What is asked of sources.
 #[derive(Clone, Copy, Debug, PartialEq, Eq)]
@@ -30,28 +20,17 @@ pub(crate) enum Command {
     Eval,
 }
 
-/// What is asked for: of which sources, of which of their names, where none are all, and how.
+/// What is asked for, and of which sources.
 #[derive(Drop)]
 pub(crate) struct Arguments<'a> {
     pub(crate) command: Command,
     pub(crate) files: Vec<&'a str>,
-    pub(crate) names: Vec<&'a str>,
     /// An expression, which is evaluated in the scope of each source, or by itself where there is none.
     pub(crate) expression: Option<&'a str>,
-    pub(crate) format: Format,
-    pub(crate) stage: ShaderStage,
-    /// Whether what the standard refuses, and what is left out, is a fault.
-    pub(crate) is_strict: bool,
-    pub(crate) dialect: Dialect,
+    /// Of which names, where none are all, and how.
+    pub(crate) request: Request<'a>,
     /// What overrides are given, in the order of the words.
     pub(crate) defines: Vec<Define<'a>>,
-}
-
-/// A value for an override: the name or the number of that, and an expression.
-#[derive(Clone, Copy)]
-pub(crate) struct Define<'a> {
-    pub(crate) name: &'a str,
-    pub(crate) value: &'a str,
 }
 
 /// What the words behind the program's name ask for.
@@ -119,12 +98,16 @@ impl<'a> Words<'a> {
             arguments: Arguments {
                 command,
                 files: Vec::new(alloc),
-                names: Vec::new(alloc),
                 expression: None,
-                format: Format::Table,
-                stage: ShaderStage::Const,
-                is_strict: false,
-                dialect: Dialect::Wgsl,
+                request: Request {
+                    format: Format::Table,
+                    settings: Settings {
+                        stage: ShaderStage::Const,
+                        is_strict: false,
+                        dialect: Dialect::Wgsl,
+                    },
+                    names: Vec::new(alloc),
+                },
                 defines: Vec::new(alloc),
             },
             has_format: false,
@@ -151,7 +134,7 @@ impl<'a> Words<'a> {
             return Ok(None);
         }
         if word == "--strict" {
-            self.arguments.is_strict = true;
+            self.arguments.request.settings.is_strict = true;
             return Ok(None);
         }
         if let Some(format) = format_of(word) {
@@ -195,11 +178,11 @@ impl<'a> Words<'a> {
     ) -> Result<Option<Misuse<'a>>, AllocError> {
         match valued {
             Valued::Stage => match stage_of(value) {
-                Some(stage) => self.arguments.stage = stage,
+                Some(stage) => self.arguments.request.settings.stage = stage,
                 None => return Ok(Some(Misuse::Stage(value))),
             },
             Valued::Dialect => match dialect_of(value) {
-                Some(dialect) => self.arguments.dialect = dialect,
+                Some(dialect) => self.arguments.request.settings.dialect = dialect,
                 None => return Ok(Some(Misuse::Dialect(value))),
             },
             Valued::Define => match define_of(value) {
@@ -221,11 +204,11 @@ impl<'a> Words<'a> {
         if self.arguments.command == Command::Eval && format != Format::Json {
             return Some(Misuse::Flag(word));
         }
-        if self.has_format && self.arguments.format != format {
+        if self.has_format && self.arguments.request.format != format {
             return Some(Misuse::SecondFormat(word));
         }
         self.has_format = true;
-        self.arguments.format = format;
+        self.arguments.request.format = format;
         None
     }
 
@@ -235,7 +218,7 @@ impl<'a> Words<'a> {
             && !self.arguments.files.is_empty()
             && !is_file(word);
         if is_name {
-            self.arguments.names.push(word)?;
+            self.arguments.request.names.push(word)?;
         } else {
             self.arguments.files.push(word)?;
         }
@@ -265,16 +248,6 @@ fn is_flag(word: &str) -> bool {
 // Whether a word is a file and no name: names have neither.
 fn is_file(word: &str) -> bool {
     word == "-" || word.contains(['.', '/'])
-}
-
-// `NAME=VALUE`, neither of which is empty.
-fn define_of(word: &str) -> Option<Define<'_>> {
-    let (name, value) = word.split_once('=')?;
-    let (name, value) = (name.trim(), value.trim());
-    if name.is_empty() || value.is_empty() {
-        return None;
-    }
-    Some(Define { name, value })
 }
 
 // The format that a flag asks for.

@@ -2,52 +2,17 @@
 #![tactic(auto)]
 
 mod arguments;
-mod attributes;
-mod bytes;
-mod c;
-mod defines;
-mod end;
-mod eval;
-mod fields;
-mod finding;
-mod findings_json;
-mod host_names;
-mod interface;
-mod interface_json;
-mod interface_table;
-mod json;
-mod json_text;
-mod layouts;
-mod left_out;
 mod misuse;
-mod nearest;
-mod numbers;
-mod report;
-mod rows;
-mod rust;
-mod scope;
-mod shape;
-mod share;
-mod structures;
-mod table;
-mod together;
-mod type_words;
-mod uniform;
-mod values;
-mod values_json;
 
-use arguments::{Arguments, Asked, Command, Format, arguments_of};
-use defines::{GivenValues, values_given};
-use end::End;
-use eval::{expression_value, is_expression, value_in_scope, values_of};
-use layouts::layouts_of;
+use arguments::{Arguments, Asked, Command, arguments_of};
 use misuse::Misuse;
-use report::Report;
 use std::process::ExitCode;
 use std::rt::{Env, Files};
 use std::{env, fs, io};
-
-const VERSION: &str = "wgsl_tool 0.1.0\n";
+use wgsl_report::{
+    Define, End, Format, GivenValues, Report, VERSION, expression_value, is_expression, layouts_of,
+    value_in_scope, values_given, values_of,
+};
 
 const USAGE: &str = "\
 usage: wgsl_tool layout [FLAG ..] FILE .. [NAME ..]
@@ -110,13 +75,16 @@ fn run<R: AllocGlobal + Input + Print + Eprint + Files + Env>(rt: &R) -> io::Res
             Ok(End::Well)
         }
         Asked::Version => {
-            print!(rt; "{VERSION}")?;
+            println!(rt; "wgsl_tool {VERSION}")?;
             Ok(End::Well)
         }
-        Asked::Sources(arguments) => match values_given(rt.alloc(), &arguments)? {
-            Ok(defined) => print_sources(rt, &arguments, &defined),
-            Err(misuse) => print_misuse(rt, misuse),
-        },
+        Asked::Sources(arguments) => {
+            let (defines, settings) = (arguments.defines.as_slice(), arguments.request.settings);
+            match values_given(rt.alloc(), defines, settings)? {
+                Ok(defined) => print_sources(rt, &arguments, &defined),
+                Err(Define { name, value }) => print_misuse(rt, Misuse::Value(name, value)),
+            }
+        }
     }
 }
 
@@ -132,10 +100,10 @@ fn print_sources<R: AllocGlobal + Input + Print + Eprint + Files>(
     defined: &GivenValues<'_>,
 ) -> io::Result<End> {
     if let (true, Some(expression)) = (arguments.files.is_empty(), arguments.expression) {
-        let value = expression_value(rt.alloc(), expression, arguments)?;
+        let value = expression_value(rt.alloc(), expression, &arguments.request)?;
         return print_report(rt, &value);
     }
-    let is_list = arguments.files.len() > 1 && arguments.format == Format::Json;
+    let is_list = arguments.files.len() > 1 && arguments.request.format == Format::Json;
     if is_list {
         print!(rt; "[\n")?;
     }
@@ -171,7 +139,7 @@ fn print_heading<R: Print>(
         return Ok(());
     }
     let between = if printed == 0 { "" } else { "\n" };
-    match arguments.format {
+    match arguments.request.format {
         Format::Json if printed == 0 => Ok(()),
         Format::Json => print!(rt; ",\n"),
         Format::Table | Format::Bytes => print!(rt; "{between}{file}:\n"),
@@ -188,18 +156,19 @@ fn print_source<R: AllocGlobal + Print + Eprint>(
     defined: &GivenValues<'_>,
 ) -> io::Result<End> {
     let alloc = rt.alloc();
+    let request = &arguments.request;
     match (arguments.command, arguments.expression) {
         (Command::Layout, _) => {
-            print_report(rt, &layouts_of(alloc, file, text, arguments, defined)?)
+            print_report(rt, &layouts_of(alloc, file, text, request, defined)?)
         }
         (Command::Eval, None) => {
-            print_report(rt, &values_of(alloc, file, text, arguments, defined)?)
+            print_report(rt, &values_of(alloc, file, text, request, defined)?)
         }
         (Command::Eval, Some(expression)) => {
             if !is_expression(alloc, expression)? {
-                return print_report(rt, &expression_value(alloc, expression, arguments)?);
+                return print_report(rt, &expression_value(alloc, expression, request)?);
             }
-            let (told, value) = value_in_scope(alloc, file, text, expression, arguments, defined)?;
+            let (told, value) = value_in_scope(alloc, file, text, expression, request, defined)?;
             let end = print_report(rt, &told)?;
             Ok(end.or_worse(print_report(rt, &value)?))
         }

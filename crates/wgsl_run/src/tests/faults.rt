@@ -1,10 +1,11 @@
 use crate::output::Buffered;
+use crate::run_buffered;
 use crate::tests::output_of;
-use crate::{RunFault, run_buffered, run_script};
 use std::alloc::Global;
 use std::io;
 use std::io::{Read, Write};
 use std::process::Abort;
+use wgsl_script::{RunFault, run_script};
 
 /// Gives one byte a call. It fails in one call, behind so many others, and gives bytes again in those after it.
 #[derive(Drop)]

@@ -2,13 +2,13 @@
 //! be so after each.
 
 use crate::tests::output_of;
-use crate::{RunFault, run_script};
 use std::alloc::{AllocError, Global};
 use std::io::Write;
 use std::process::Abort;
 use std::rt::Env;
 use std::test::Fail;
 use std::{io, str};
+use wgsl_script::{RunFault, run_script};
 
 const REFUSED: &[u8] = b"refused Memory";
 

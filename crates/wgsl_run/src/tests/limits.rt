@@ -1,9 +1,8 @@
-use crate::input::LIMIT;
 use crate::tests::{assert_answers, assert_each, assert_prints, output_of};
-use crate::{RunFault, run_script};
 use std::alloc::{AllocError, Global};
 use std::fmt::Write;
 use std::process::Abort;
+use wgsl_script::{LIMIT, RunFault, run_script};
 
 /// A text of so many bytes.
 fn repeated(alloc: Global, byte: u8, count: usize) -> Result<Vec<u8>, AllocError> {

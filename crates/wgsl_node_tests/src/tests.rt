@@ -1,0 +1,8 @@
+//! What tables tell.
+
+mod depth;
+mod growth;
+mod mangled;
+mod numbers;
+mod paths;
+mod samples;

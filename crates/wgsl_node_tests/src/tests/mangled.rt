@@ -1,0 +1,89 @@
+//! A table with one field of one record set to another number.
+
+use crate::tests::samples::{NAMES, scene_table};
+use wgsl_nodes::{Node, count_in, first_difference, is_table, part, place, size_with, whole};
+
+/// The field of this place in a record.
+fn field(node: Node, what: u32) -> u32 {
+    match what {
+        0 => node.sort,
+        1 => node.kind,
+        2 => node.offset,
+        3 => node.size,
+        4 => node.align,
+        5 => node.count,
+        6 => node.stride,
+        7 => node.child,
+        8 => node.tail_start,
+        _ => node.tail_stride,
+    }
+}
+
+fn with_field(node: Node, what: u32, number: u32) -> Node {
+    let mut node = node;
+    match what {
+        0 => node.sort = number,
+        1 => node.kind = number,
+        2 => node.offset = number,
+        3 => node.size = number,
+        4 => node.align = number,
+        5 => node.count = number,
+        6 => node.stride = number,
+        7 => node.child = number,
+        8 => node.tail_start = number,
+        _ => node.tail_stride = number,
+    }
+    node
+}
+
+/// Whether the record with the field set so is still one of a table: a number of 4 bytes is an i32 as well.
+fn is_kept(node: Node, what: u32, number: u32) -> bool {
+    let is_number = node.sort == Node::NUMBER && node.kind != 0;
+    field(node, what) == number || (what == 1 && number == 1 && is_number)
+}
+
+#[test]
+fn each_field_is_looked_at(rt: HostRuntime) {
+    let mut nodes = scene_table(&rt, rt.alloc());
+    let table = scene_table(&rt, rt.alloc());
+    assert!(rt; is_table(table.as_slice()));
+    for i in 0..nodes.len() {
+        for what in 0..10 {
+            for number in [0, 1, u32::MAX] {
+                let node = *nodes.get(i).expect(&rt, "a record");
+                *nodes.get_mut(i).expect(&rt, "a record") = with_field(node, what, number);
+                let mangled = nodes.as_slice();
+                assert_eq!(rt; is_table(mangled), is_kept(node, what, number));
+                let difference = first_difference(table.as_slice(), mangled);
+                assert_eq!(rt; difference.is_none(), field(node, what) == number);
+                if let Some(difference) = difference {
+                    assert_eq!(rt; difference.of_first as usize, i);
+                    assert_eq!(rt; difference.of_second as usize, i);
+                    assert_eq!(rt; difference.what, what);
+                }
+                let _ = place(mangled, NAMES, 224, b"d[2].color.b");
+                let _ = place(mangled, NAMES, 224, b"c[3][2].y");
+                let _ = size_with(mangled, 0, 3);
+                let _ = count_in(mangled, 0, 224);
+                if let Some(start) = whole(mangled) {
+                    let _ = part(mangled, start, 3, 224);
+                }
+                *nodes.get_mut(i).expect(&rt, "a record") = node;
+            }
+        }
+    }
+    drop(nodes);
+    drop(table);
+}
+
+#[test]
+fn a_shorter_table_differs(rt: HostRuntime) {
+    let table = scene_table(&rt, rt.alloc());
+    let shorter = table.as_slice().get(..13).expect(&rt, "there are 14");
+    assert!(rt; !is_table(shorter));
+    assert!(rt; !is_table(&[]));
+    let difference = first_difference(table.as_slice(), shorter).expect(&rt, "one is longer");
+    assert_eq!(rt; difference.of_first, 13);
+    assert_eq!(rt; difference.what, 10);
+    drop(table);
+}

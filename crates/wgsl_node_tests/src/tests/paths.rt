@@ -1,0 +1,125 @@
+//! Paths in the table of a structure, and where they lead.
+
+use crate::tests::samples::{NAMES, boxed, scene_table};
+use wgsl_nodes::{count_in, nodes_of, part, place, size_with, whole};
+use wgsl_rules::Type;
+
+/// A path, and the offset, the record, the kind and the count of its place, in three lights.
+const PLACES: &[(&[u8], u64, u32, u32, u32)] = &[
+    (b"", 0, 0, 0, 0),
+    (b"a", 0, 1, 2, 1),
+    (b"b", 16, 2, 3, 3),
+    (b"b.x", 16, 5, 3, 1),
+    (b"b.y", 20, 5, 3, 1),
+    (b"b[2]", 24, 5, 3, 1),
+    (b"c", 32, 3, 0, 0),
+    (b"c[3]", 104, 6, 0, 0),
+    (b"c[3][2]", 120, 7, 3, 2),
+    (b"c[3][2].y", 124, 8, 3, 1),
+    (b"c[0][1][0]", 40, 8, 3, 1),
+    (b"d", 128, 4, 0, 0),
+    (b"d[0].power", 140, 11, 3, 1),
+    (b"d[1].count", 176, 12, 258, 1),
+    (b"d[2].color.b", 200, 13, 3, 1),
+];
+
+const REFUSED: &[&[u8]] = &[
+    b".a",
+    b"a.",
+    b"e",
+    b"a b",
+    b"[",
+    b"[0]",
+    b"[-1]",
+    b"a[0]",
+    b"a.x",
+    b"b.q",
+    b"b.xy",
+    b"b[3]",
+    b"b[",
+    b"b[]",
+    b"b[1",
+    b"b[-1]",
+    b"b[+1]",
+    b"b[01]",
+    b"b[0x1]",
+    b"b[1]]",
+    b"c.x",
+    b"c[4]",
+    b"c[0][3]",
+    b"c[0][0].z",
+    b"c[18446744073709551616]",
+    b"c[18446744073709551615]",
+    b"c[99999999999999999999999]",
+    b"d[3]",
+    b"d[0]power",
+    b"d[0]..power",
+    b"d[0].color.q",
+    b"d[0].colo",
+    b"d[0].colors",
+    b"d.color",
+];
+
+const LEN: u64 = 128 + 3 * 32;
+
+#[test]
+fn paths_lead_to_places(rt: HostRuntime) {
+    let nodes = scene_table(&rt, rt.alloc());
+    assert_eq!(rt; nodes.len(), 14);
+    for (path, offset, node, kind, count) in PLACES {
+        let found = place(nodes.as_slice(), NAMES, LEN, path).expect(&rt, "a place");
+        assert_eq!(rt; found.offset, *offset);
+        assert_eq!(rt; found.node, *node);
+        assert_eq!(rt; found.kind, *kind);
+        assert_eq!(rt; found.count, *count);
+        assert_eq!(rt; found.spare, 0);
+    }
+    drop(nodes);
+}
+
+#[test]
+fn other_paths_are_refused(rt: HostRuntime) {
+    let nodes = scene_table(&rt, rt.alloc());
+    for path in REFUSED {
+        assert!(rt; place(nodes.as_slice(), NAMES, LEN, path).is_none());
+    }
+    drop(nodes);
+}
+
+#[test]
+fn positions_lead_on(rt: HostRuntime) {
+    let nodes = scene_table(&rt, rt.alloc());
+    let start = whole(nodes.as_slice()).expect(&rt, "a root");
+    let lights = part(nodes.as_slice(), start, 3, LEN).expect(&rt, "a member");
+    let light = part(nodes.as_slice(), lights, 2, LEN).expect(&rt, "an element");
+    assert_eq!(rt; light.offset, 192);
+    assert_eq!(rt; light.node, 9);
+    assert!(rt; part(nodes.as_slice(), start, 4, LEN).is_none());
+    assert!(rt; part(nodes.as_slice(), lights, 3, LEN).is_none());
+    assert!(rt; part(nodes.as_slice(), lights, 2, LEN - 1).is_none());
+    drop(nodes);
+}
+
+#[test]
+fn lengths_and_counts(rt: HostRuntime) {
+    let nodes = scene_table(&rt, rt.alloc());
+    assert_eq!(rt; size_with(nodes.as_slice(), 0, 3), Some(LEN));
+    assert_eq!(rt; size_with(nodes.as_slice(), 9, 3), Some(32));
+    assert_eq!(rt; size_with(nodes.as_slice(), 0, u64::MAX), None);
+    assert_eq!(rt; size_with(nodes.as_slice(), 14, 0), None);
+    assert_eq!(rt; count_in(nodes.as_slice(), 0, LEN + 31), Some(3));
+    assert_eq!(rt; count_in(nodes.as_slice(), 0, 159), None);
+    assert_eq!(rt; count_in(nodes.as_slice(), 9, 32), Some(0));
+    assert_eq!(rt; count_in(nodes.as_slice(), 9, 31), None);
+    drop(nodes);
+}
+
+#[test]
+fn a_type_without_a_table(rt: HostRuntime) {
+    let alloc = rt.alloc();
+    let ty = Type::Vec(3, boxed(alloc, Type::F64).expect(&rt, "memory"));
+    let made = nodes_of(alloc, &ty).expect(&rt, "memory");
+    assert!(rt; made.is_none());
+    drop(made);
+    drop(ty);
+}

@@ -1,0 +1,14 @@
+pub mod Added
+pub mod Alike
+pub mod Arrays
+pub mod Fixed
+pub mod Growing
+pub mod Known
+pub mod Led
+pub mod LengthsOf
+pub mod Members
+pub mod Parts
+pub mod Renaming
+pub mod Rows
+pub mod Texts
+pub mod Walk

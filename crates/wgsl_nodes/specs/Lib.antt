@@ -1,0 +1,10 @@
+pub mod Compare
+pub mod HostTypes
+pub mod Lengths
+pub mod Making
+pub mod Names
+pub mod Nodes
+pub mod Numbers
+pub mod Paths
+pub mod Places
+pub mod Tables

@@ -1,0 +1,345 @@
+//! What is printed of the constants of a source.
+
+use crate::defines::{GivenValues, Values, values_for};
+use crate::finding::{Finding, fault_count, findings_of, sort};
+use crate::findings_json::Told;
+use crate::format::Format;
+use crate::left_out::add_need;
+use crate::numbers::messages_of_numbers;
+use crate::report::Report;
+use crate::request::Request;
+use crate::scope::{WithConstant, apart, with_constant};
+use crate::values::{Entry, add_entries};
+use crate::values_json::add_json;
+use std::alloc::{AllocError, Global};
+use wgsl_eval::{
+    Assertion, Evaluated, Evaluation, Given, Message, Outcome, Settings, Severity, Skip,
+    evaluate_in, evaluate_with,
+};
+use wgsl_source::{Fault, Reading};
+
+/// An expression is told of by this name.
+const EXPRESSION: &str = "expression";
+
+/// The format of what is printed, of a text that is told of by this name.
+#[derive(Clone, Copy)]
+struct Printed<'a> {
+    file: &'a str,
+    text: &'a str,
+    format: Format,
+}
+
+/// Whether the text is one expression.
+pub fn is_expression(alloc: Global, text: &str) -> Result<bool, AllocError> {
+    Ok(Reading::of_expression(alloc, text)?.faults().is_empty())
+}
+
+/// The value of an expression by itself, and what is told of it.
+pub fn expression_value(
+    alloc: Global,
+    text: &str,
+    request: &Request<'_>,
+) -> Result<Report, AllocError> {
+    let reading = Reading::of_expression(alloc, text)?;
+    let Evaluation {
+        values,
+        mut messages,
+        ..
+    } = evaluate_in(alloc, &reading, request.settings)?;
+    let mut entries = Vec::new(alloc);
+    for value in &values {
+        add_skipped(
+            alloc,
+            &mut messages,
+            text,
+            &value.outcome,
+            request.settings.is_strict,
+        )?;
+        entries.push(Entry {
+            name: None,
+            outcome: &value.outcome,
+        })?;
+    }
+    let printed = Printed {
+        file: EXPRESSION,
+        text,
+        format: request.format,
+    };
+    report_of(
+        alloc,
+        printed,
+        text,
+        entries.as_slice(),
+        reading.faults(),
+        messages.as_slice(),
+    )
+}
+
+/// The values of the constants of a module, a line each, and what is told of it.
+pub fn values_of(
+    alloc: Global,
+    file: &str,
+    text: &str,
+    request: &Request<'_>,
+    defined: &GivenValues<'_>,
+) -> Result<Report, AllocError> {
+    let reading = Reading::of_module(alloc, text)?;
+    let settings = request.settings;
+    let Values {
+        given,
+        messages: mut of_overrides,
+    } = values_for(alloc, text, &reading, defined, settings)?;
+    let given = given.as_slice();
+    let (values, mut messages) = module_values(alloc, text, &reading, settings, given)?;
+    messages.append(&mut messages_of_numbers(alloc, text, &reading, settings, given)?)?;
+    messages.append(&mut of_overrides)?;
+    let mut entries = Vec::with_capacity(alloc, values.len())?;
+    for value in &values {
+        entries.push(Entry {
+            name: Some(reading.word(value.token)),
+            outcome: &value.outcome,
+        })?;
+    }
+    let printed = Printed {
+        file,
+        text,
+        format: request.format,
+    };
+    report_of(
+        alloc,
+        printed,
+        text,
+        entries.as_slice(),
+        reading.faults(),
+        messages.as_slice(),
+    )
+}
+
+/// The values of a module, and what is told of them and of its assertions.
+pub(crate) fn module_values(
+    alloc: Global,
+    text: &str,
+    reading: &Reading<'_>,
+    settings: Settings,
+    given: &[Given<'_>],
+) -> Result<(Vec<Evaluated>, Vec<Message>), AllocError> {
+    let Evaluation {
+        values,
+        asserts,
+        mut messages,
+    } = evaluate_with(alloc, reading, settings, given)?;
+    for assertion in &asserts {
+        add_assertion(alloc, &mut messages, text, *assertion, settings.is_strict)?;
+    }
+    for value in &values {
+        let outcome = &value.outcome;
+        add_skipped(alloc, &mut messages, text, outcome, settings.is_strict)?;
+    }
+    Ok((values, messages))
+}
+
+/// An expression in the scope of a module: what it is found to be, and what is told of either.
+#[derive(Drop)]
+struct Scoped {
+    outcome: Option<Outcome>,
+    of_module: Vec<Finding>,
+    of_expression: Vec<Message>,
+}
+
+/// What is told of a module, and the value of an expression in its scope with what is told of that.
+pub fn value_in_scope(
+    alloc: Global,
+    file: &str,
+    module: &str,
+    expression: &str,
+    request: &Request<'_>,
+    defined: &GivenValues<'_>,
+) -> Result<(Report, Report), AllocError> {
+    let with = with_constant(alloc, module, expression)?;
+    let scoped = in_scope(alloc, module, &with, request.settings, defined)?;
+    let told = Report::new(
+        alloc,
+        file,
+        module,
+        String::new(alloc),
+        scoped.of_module.as_slice(),
+    )?;
+    let mut entries = Vec::new(alloc);
+    if let Some(outcome) = &scoped.outcome {
+        entries.push(Entry {
+            name: None,
+            outcome,
+        })?;
+    }
+    let printed = Printed {
+        file: EXPRESSION,
+        text: expression,
+        format: request.format,
+    };
+    let value = report_of(
+        alloc,
+        printed,
+        with.text.as_str(),
+        entries.as_slice(),
+        &[],
+        scoped.of_expression.as_slice(),
+    )?;
+    Ok((told, value))
+}
+
+/// What an expression is found to be in the scope of a module.
+#[derive(Drop)]
+pub struct Found {
+    /// Nothing where the text is no expression.
+    pub outcome: Option<Outcome>,
+    /// How many faults the module and the expression have; those of the expression alone where that is none.
+    pub faults: usize,
+}
+
+/// What an expression is found to be in the scope of a module.
+pub fn outcome_in_scope(
+    alloc: Global,
+    module: &str,
+    expression: &str,
+    settings: Settings,
+    defined: &GivenValues<'_>,
+) -> Result<Found, AllocError> {
+    let form = Reading::of_expression(alloc, expression)?.faults().len();
+    if form > 0 {
+        return Ok(Found {
+            outcome: None,
+            faults: form,
+        });
+    }
+    let with = with_constant(alloc, module, expression)?;
+    let Scoped {
+        outcome,
+        of_module,
+        of_expression,
+    } = in_scope(alloc, module, &with, settings, defined)?;
+    let of_expression = findings_of(alloc, expression, &[], of_expression.as_slice())?;
+    let of_module = fault_count(of_module.as_slice());
+    let faults = of_module.saturating_add(fault_count(of_expression.as_slice()));
+    Ok(Found { outcome, faults })
+}
+
+// The expression of which there is a constant behind the module.
+fn in_scope(
+    alloc: Global,
+    module: &str,
+    with: &WithConstant,
+    settings: Settings,
+    defined: &GivenValues<'_>,
+) -> Result<Scoped, AllocError> {
+    let text = with.text.as_str();
+    let reading = Reading::of_module(alloc, text)?;
+    let Values {
+        given,
+        messages: mut of_overrides,
+    } = values_for(alloc, module, &reading, defined, settings)?;
+    let given = given.as_slice();
+    let Evaluation {
+        values,
+        mut messages,
+        ..
+    } = evaluate_with(alloc, &reading, settings, given)?;
+    messages.append(&mut messages_of_numbers(alloc, text, &reading, settings, given)?)?;
+    messages.append(&mut of_overrides)?;
+    let mut outcome = None;
+    for value in values {
+        if reading.word(value.token) == with.name.as_str() {
+            outcome = Some(value.outcome);
+        }
+    }
+    if let Some(outcome) = &outcome {
+        add_skipped(alloc, &mut messages, text, outcome, settings.is_strict)?;
+    }
+    let (of_module, of_expression) = apart(alloc, messages, with.start)?;
+    let mut of_module = findings_of(alloc, module, reading.faults(), of_module.as_slice())?;
+    sort(&mut of_module)?;
+    Ok(Scoped {
+        outcome,
+        of_module,
+        of_expression,
+    })
+}
+
+// The values in their format, whose texts are parts of this one, and what is told.
+fn report_of(
+    alloc: Global,
+    printed: Printed<'_>,
+    text: &str,
+    entries: &[Entry<'_>],
+    faults: &[Fault],
+    messages: &[Message],
+) -> Result<Report, AllocError> {
+    let mut findings = findings_of(alloc, printed.text, faults, messages)?;
+    sort(&mut findings)?;
+    let told = Told {
+        file: printed.file,
+        text: printed.text,
+        findings: findings.as_slice(),
+    };
+    let mut output = String::new(alloc);
+    match printed.format {
+        Format::Json => add_json(alloc, &mut output, text, entries, told)?,
+        _ => add_entries(alloc, &mut output, text, entries)?,
+    }
+    Report::new(alloc, told.file, told.text, output, told.findings)
+}
+
+// Tells an assertion that is not evaluated.
+fn add_assertion(
+    alloc: Global,
+    messages: &mut Vec<Message>,
+    text: &str,
+    assertion: Assertion,
+    is_strict: bool,
+) -> Result<(), AllocError> {
+    let Assertion::Skipped(skip) = assertion else {
+        return Ok(());
+    };
+    let severity = if is_strict {
+        Severity::Fault
+    } else {
+        Severity::Note
+    };
+    let said = "this assertion is not evaluated: ";
+    messages.push(message_of(alloc, text, said, skip, severity)?)?;
+    Ok(())
+}
+
+// Tells a constant that is not evaluated as a fault, where strictness is asked for.
+fn add_skipped(
+    alloc: Global,
+    messages: &mut Vec<Message>,
+    text: &str,
+    outcome: &Outcome,
+    is_strict: bool,
+) -> Result<(), AllocError> {
+    let Outcome::Skipped(skip) = outcome else {
+        return Ok(());
+    };
+    if is_strict {
+        let said = "this is not evaluated: ";
+        messages.push(message_of(alloc, text, said, *skip, Severity::Fault)?)?;
+    }
+    Ok(())
+}
+
+fn message_of(
+    alloc: Global,
+    text: &str,
+    said: &str,
+    skip: Skip,
+    severity: Severity,
+) -> Result<Message, AllocError> {
+    let mut whole = String::from_str(alloc, said)?;
+    add_need(&mut whole, text, skip)?;
+    Ok(Message {
+        start: skip.start,
+        end: skip.end,
+        severity,
+        text: whole,
+    })
+}

@@ -1,0 +1,67 @@
+//! All that is told of a source.
+
+use crate::defines::{GivenValues, Values, values_for};
+use crate::eval::module_values;
+use crate::finding::{Finding, findings_of, sort};
+use crate::interface::Interface;
+use crate::left_out::{add_left_out, left_out};
+use crate::numbers::host_numbers;
+use crate::request::Request;
+use crate::share::shared_faults;
+use crate::together::used_together;
+use std::alloc::{AllocError, Global};
+use wgsl_eval::{Item, Message, resolve_with};
+use wgsl_source::Reading;
+
+/// All that `layouts_of` and `values_of` tell of a source, each once, in the order of the places; but what is told of names
+/// that are asked for and not there.
+pub fn all_findings(
+    alloc: Global,
+    text: &str,
+    request: &Request<'_>,
+    defined: &GivenValues<'_>,
+) -> Result<Vec<Finding>, AllocError> {
+    let reading = Reading::of_module(alloc, text)?;
+    let settings = request.settings;
+    let Values {
+        given,
+        messages: mut of_overrides,
+    } = values_for(alloc, text, &reading, defined, settings)?;
+    let given = given.as_slice();
+    // What is told of declarations is told of values and assertions too.
+    let items = resolve_with(alloc, &reading, settings, given)?.items;
+    let items = items.as_slice();
+    let mut numbers = host_numbers(alloc, text, &reading, settings, given, items)?;
+    let (_, mut messages) = module_values(alloc, text, &reading, settings, given)?;
+    messages.append(&mut numbers.messages)?;
+    messages.append(&mut of_overrides)?;
+    let left_out = left_out(alloc, items, &reading, request)?;
+    let is_strict = settings.is_strict;
+    add_left_out(alloc, &mut messages, text, left_out.as_slice(), is_strict)?;
+    let interface = Interface::new(alloc, &reading, items, numbers.of.as_slice())?;
+    let messages = messages.as_slice();
+    layout_findings(
+        alloc, text, &reading, items, &interface, is_strict, messages,
+    )
+}
+
+/// What is told of the declarations of a source beside these messages, in the order of the places.
+pub(crate) fn layout_findings(
+    alloc: Global,
+    text: &str,
+    reading: &Reading<'_>,
+    items: &[Item],
+    interface: &Interface<'_>,
+    is_strict: bool,
+    messages: &[Message],
+) -> Result<Vec<Finding>, AllocError> {
+    let mut findings = findings_of(alloc, text, reading.faults(), messages)?;
+    for finding in shared_faults(alloc, reading, items)? {
+        findings.push(finding)?;
+    }
+    for finding in used_together(alloc, interface, items, is_strict)? {
+        findings.push(finding)?;
+    }
+    sort(&mut findings)?;
+    Ok(findings)
+}

@@ -1,0 +1,311 @@
+//! The numbers that a host goes by, by the expressions of attributes and of counts (WGSL: resource interface; override
+//! declarations; workgroup_size).
+
+use crate::attributes::{Argument, Role, arguments_in};
+use crate::scope::free_name;
+use std::alloc::{AllocError, Global};
+use wgsl_eval::{
+    Evaluation, Given, Item, ItemKind, Message, Need, Outcome, Settings, Severity, evaluate_with,
+    resolve_with,
+};
+use wgsl_source::{Literal, Reading};
+use wgsl_types::{Instance, LiteralInstance};
+
+/// The most that a host has as the number of an override (WebGPU: pipeline-overridable constants).
+const LARGEST_ID: u32 = 65_535;
+
+/// Those of a declaration, where they are given and known.
+#[derive(Clone, Copy)]
+pub(crate) struct HostNumbers {
+    pub(crate) group: Option<u32>,
+    pub(crate) binding: Option<u32>,
+    pub(crate) id: Option<u32>,
+    pub(crate) workgroup_size: [Option<u32>; 3],
+    pub(crate) count: Option<u32>,
+}
+
+/// Those of all declarations, and what is told of their expressions.
+#[derive(Drop)]
+pub(crate) struct Numbers {
+    pub(crate) of: Vec<HostNumbers>,
+    pub(crate) messages: Vec<Message>,
+}
+
+impl HostNumbers {
+    const NONE: HostNumbers = HostNumbers {
+        group: None,
+        binding: None,
+        id: None,
+        workgroup_size: [None; 3],
+        count: None,
+    };
+
+    fn set(&mut self, role: Role, number: u32) {
+        match role {
+            Role::Group => self.group = Some(number),
+            Role::Binding => self.binding = Some(number),
+            Role::Id => self.id = Some(number),
+            Role::Count => self.count = Some(number),
+            Role::Size(place) => {
+                if let Some(size) = self.workgroup_size.get_mut(place) {
+                    *size = Some(number);
+                }
+            }
+        }
+    }
+}
+
+/// The numbers of the declarations of a source. These items are what they were found to be, as far as that is known.
+pub(crate) fn host_numbers(
+    alloc: Global,
+    text: &str,
+    reading: &Reading<'_>,
+    settings: Settings,
+    given: &[Given<'_>],
+    items: &[Item],
+) -> Result<Numbers, AllocError> {
+    let mut numbers = Numbers {
+        of: vec![in alloc; HostNumbers::NONE; reading.len()]?,
+        messages: Vec::new(alloc),
+    };
+    let mut open = Vec::new(alloc);
+    for argument in &arguments_in(alloc, reading)? {
+        if is_told(items, *argument) {
+            numbers.take_sound(reading, *argument);
+            continue;
+        }
+        match known(reading, items, *argument) {
+            Some(literal) => numbers.take(alloc, *argument, literal)?,
+            None => open.push(*argument)?,
+        }
+    }
+    if !open.is_empty() {
+        numbers.evaluate(alloc, text, settings, given, open.as_slice())?;
+    }
+    Ok(numbers)
+}
+
+/// What is told of those of a source of which nothing else is known yet.
+pub(crate) fn messages_of_numbers(
+    alloc: Global,
+    text: &str,
+    reading: &Reading<'_>,
+    settings: Settings,
+    given: &[Given<'_>],
+) -> Result<Vec<Message>, AllocError> {
+    if arguments_in(alloc, reading)?.is_empty() {
+        return Ok(Vec::new(alloc));
+    }
+    let items = resolve_with(alloc, reading, settings, given)?.items;
+    Ok(host_numbers(alloc, text, reading, settings, given, items.as_slice())?.messages)
+}
+
+// Whether what is wrong with the argument is told of its variable, as far as that is looked at.
+fn is_told(items: &[Item], argument: Argument) -> bool {
+    let is_of_variable = matches!(argument.role, Role::Group | Role::Binding);
+    match items.get(argument.declaration) {
+        Some(item) => is_of_variable && matches!(item.kind, ItemKind::Faulty),
+        None => false,
+    }
+}
+
+// The number that an argument is by itself, or as a variable was found to have it.
+fn known(reading: &Reading<'_>, items: &[Item], argument: Argument) -> Option<LiteralInstance> {
+    if let Some(
+        Item {
+            kind: ItemKind::Variable(variable),
+            ..
+        },
+    ) = items.get(argument.declaration)
+    {
+        let number = match argument.role {
+            Role::Group => variable.group,
+            Role::Binding => variable.binding,
+            Role::Id | Role::Size(_) | Role::Count => None,
+        };
+        return Some(LiteralInstance::U32(number?));
+    }
+    literal_of(reading, argument)
+}
+
+// The number that is written there alone.
+fn literal_of(reading: &Reading<'_>, argument: Argument) -> Option<LiteralInstance> {
+    if argument.tokens != 1 {
+        return None;
+    }
+    match reading.literal(argument.token) {
+        Literal::Integer(literal) => Some(literal),
+        _ => None,
+    }
+}
+
+impl Numbers {
+    // Takes the number that an argument is, or tells that it is none.
+    fn take(
+        &mut self,
+        alloc: Global,
+        argument: Argument,
+        literal: LiteralInstance,
+    ) -> Result<(), AllocError> {
+        match number_for(argument.role, literal) {
+            Ok(number) => {
+                if let Some(of) = self.of.get_mut(argument.declaration) {
+                    of.set(argument.role, number);
+                }
+                Ok(())
+            }
+            Err(text) => self.tell(alloc, argument, text),
+        }
+    }
+
+    // Takes the number that is written there, if it is one.
+    fn take_sound(&mut self, reading: &Reading<'_>, argument: Argument) {
+        let Some(literal) = literal_of(reading, argument) else {
+            return;
+        };
+        if let (Ok(number), Some(of)) = (
+            number_for(argument.role, literal),
+            self.of.get_mut(argument.declaration),
+        ) {
+            of.set(argument.role, number);
+        }
+    }
+
+    fn tell(
+        &mut self,
+        alloc: Global,
+        argument: Argument,
+        text: &'static str,
+    ) -> Result<(), AllocError> {
+        self.messages.push(Message {
+            start: argument.start,
+            end: argument.end,
+            severity: Severity::Fault,
+            text: String::from_str(alloc, text)?,
+        })?;
+        Ok(())
+    }
+
+    // Evaluates arguments as constants behind all that the module declares.
+    fn evaluate(
+        &mut self,
+        alloc: Global,
+        source: &str,
+        settings: Settings,
+        given: &[Given<'_>],
+        open: &[Argument],
+    ) -> Result<(), AllocError> {
+        let name = free_name(alloc, source)?;
+        let mut text = String::from_str(alloc, source)?;
+        let mut places = Vec::with_capacity(alloc, open.len())?;
+        for (i, argument) in open.iter().enumerate() {
+            write!(text, "\nconst {name}{i} = ")?;
+            places.push(text.len())?;
+            text.push_str(source.get(argument.start..argument.end).unwrap_or("0"))?;
+            text.push_str("\n;")?;
+        }
+        let reading = Reading::of_module(alloc, text.as_str())?;
+        let Evaluation {
+            values,
+            messages,
+            ..
+        } = evaluate_with(alloc, &reading, settings, given)?;
+        for value in &values {
+            let number = index_in(reading.word(value.token), name.as_str());
+            if let Some(argument) = number.and_then(|i| open.get(i).copied()) {
+                self.take_outcome(alloc, argument, &value.outcome)?;
+            }
+        }
+        self.add_messages(messages, open, places.as_slice())
+    }
+
+    fn take_outcome(
+        &mut self,
+        alloc: Global,
+        argument: Argument,
+        outcome: &Outcome,
+    ) -> Result<(), AllocError> {
+        let may_be_open = matches!(argument.role, Role::Size(_) | Role::Count);
+        match outcome {
+            Outcome::Value(Instance::Literal(literal)) => self.take(alloc, argument, *literal),
+            Outcome::Value(_) => self.tell(alloc, argument, no_integer(argument.role)),
+            Outcome::Skipped(skip) => match skip.need {
+                Need::Override if may_be_open => Ok(()),
+                Need::Float => self.tell(alloc, argument, no_integer(argument.role)),
+                _ => self.tell(alloc, argument, no_constant(argument.role)),
+            },
+            Outcome::Faulty => Ok(()),
+        }
+    }
+
+    // The faults of the arguments, at their places in the source.
+    fn add_messages(
+        &mut self,
+        messages: Vec<Message>,
+        open: &[Argument],
+        places: &[usize],
+    ) -> Result<(), AllocError> {
+        for message in messages {
+            let behind = places.partition_point(|place| *place <= message.start);
+            let Some(i) = behind.checked_sub(1) else {
+                continue;
+            };
+            let (Some(argument), Some(place)) = (open.get(i), places.get(i)) else {
+                continue;
+            };
+            let start = moved(message.start, *place, argument.start);
+            let end = moved(message.end, *place, argument.start);
+            if start < argument.end {
+                self.messages.push(Message {
+                    start,
+                    end,
+                    severity: message.severity,
+                    text: message.text,
+                })?;
+            }
+        }
+        Ok(())
+    }
+}
+
+// What is told of an argument that is no integer.
+fn no_integer(role: Role) -> &'static str {
+    match role {
+        Role::Count => "the count of an array is an integer",
+        _ => "an attribute is an integer",
+    }
+}
+
+// What is told of an argument that is not known to the module.
+fn no_constant(role: Role) -> &'static str {
+    match role {
+        Role::Count => "the count of an array is a constant",
+        _ => "an attribute is a constant",
+    }
+}
+
+fn moved(at: usize, from: usize, to: usize) -> usize {
+    at.saturating_sub(from).saturating_add(to)
+}
+
+// The number behind this front of a name.
+fn index_in(word: &str, front: &str) -> Option<usize> {
+    word.strip_prefix(front)?.parse().ok()
+}
+
+// The number that a literal is for an attribute, or why it is none.
+fn number_for(role: Role, literal: LiteralInstance) -> Result<u32, &'static str> {
+    let number = match literal {
+        LiteralInstance::AbstractInt(number) => u32::try_from(number).ok(),
+        LiteralInstance::I32(number) => u32::try_from(number).ok(),
+        LiteralInstance::U32(number) => Some(number),
+        _ => return Err(no_integer(role)),
+    };
+    match (role, number) {
+        (Role::Size(_), Some(0) | None) => Err("the size of a workgroup is 1 or more"),
+        (Role::Count, Some(0) | None) => Err("the count of an array is 1 or more"),
+        (Role::Id, Some(number)) if number > LARGEST_ID => Err("an id is from 0 to 65535"),
+        (_, None) => Err("an attribute is from 0 to 4294967295"),
+        (_, Some(number)) => Ok(number),
+    }
+}

@@ -1,5 +1,0 @@
-use Rattle.wgsl_run.proofs.Numbers.{no_handle}
-use Rattle.wgsl_run.proofs.grammar.handle_of.Goals as goal
-
-pub returns-in_err-strip_prefix : goal.returns-in_err-strip_prefix
-returns-in_err-strip_prefix c = rw c.from_residual.ensures (no_handle c.args.word.now c.in_err-strip_prefix.ensures.cases)

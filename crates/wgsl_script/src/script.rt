@@ -1,0 +1,185 @@
+//! Scripts: a line a call.
+
+ghost use Rattle.std.specs.Prelude.{◌≡◌, IfOk, IsOkAnd, Err};
+ghost use Rattle.wgsl_script.specs.Hexadecimal.{hexadecimal};
+ghost use Rattle.wgsl_script.specs.Lines.{answer_text};
+ghost use Rattle.wgsl_store.specs.Buffers.{Lays, buffer};
+ghost use Rattle.wgsl_store.specs.Memory.{IsKept, held};
+ghost use Rattle.wgsl_store.specs.ReferenceCalls.{read};
+ghost use Rattle.wgsl_rules.specs.Values.{Val};
+ghost use Rattle.wgsl_rules.specs.View.{type_view};
+ghost use Rattle.wgsl_values.specs.View.{reference_of, value_of};
+
+use crate::answer::{Answer, write_answer};
+use crate::fault::RunFault;
+use crate::grammar::{access_of, handle_of, is_name, number_of, space_of, without_end, words_of};
+use crate::hexadecimal::bytes_of;
+use crate::input::read_input;
+use crate::output::write_bytes;
+use crate::stop::Stop;
+use crate::structs::Structs;
+use std::alloc::{AllocError, Global};
+use std::io::{Read, Write};
+use std::str;
+use wgsl_rules::Type;
+use wgsl_session::{Call, Fault, Reply, Session};
+use wgsl_store::{Buffers, References, Store};
+use wgsl_values::{Instance, RefInstance};
+
+/// Runs the script that the reader gives, and writes a line for each line that has a word. All of
+/// the script is read before its first line is run; each line is written before the next one is
+/// run.
+pub fn run_script<R: Read, W: Write>(
+    alloc: Global,
+    reader: &mut R,
+    writer: &mut W,
+) -> Result<(), RunFault> {
+    let input = read_input(alloc, reader)?;
+    let mut script = Script::new(alloc);
+    let mut text = String::new(alloc);
+    for line in input.split_inclusive(|byte| *byte == b'\n') {
+        text.clear();
+        script.answer_line(without_end(line), &mut text)?;
+        write_bytes(writer, text.as_bytes()).map_err(|_| RunFault::Write)?;
+    }
+    Ok(())
+}
+
+/// The state that lines run on.
+#[derive(Drop)]
+struct Script {
+    alloc: Global,
+    session: Session,
+    structs: Structs,
+}
+
+impl Script {
+    fn new(alloc: Global) -> Self {
+        Script {
+            alloc,
+            session: Session::new(alloc),
+            structs: Structs::new(alloc),
+        }
+    }
+
+    // Adds the text of a line's answer; nothing for a line without words.
+    fn answer_line(&mut self, line: &[u8], text: &mut String) -> Result<(), AllocError> {
+        let answer = match str::from_utf8(line) {
+            Ok(line) => {
+                let words = words_of(self.alloc, line)?;
+                if words.is_empty() {
+                    return Ok(());
+                }
+                self.answer(words.as_slice())
+            }
+            Err(_) => Err(Stop::BadLine),
+        };
+        write_answer(text, &answer)
+    }
+
+    fn answer(&mut self, words: &[&str]) -> Result<Answer<'_>, Stop> {
+        match words {
+            ["struct", name, members @ ..] => self.define(name, members),
+            ["new", ty, space, access, bytes] => self.make(ty, space, access, bytes),
+            ["member", handle, name] => self.member(handle, name),
+            ["index", handle, i] => self.index(handle, i),
+            ["read", handle] => self.read(handle),
+            ["write", handle, bytes] => self.write(handle, bytes),
+            ["copy", from, to] => self.copy(from, to),
+            ["dump", handle] => self.dump(handle),
+            _ => Err(Stop::BadLine),
+        }
+    }
+
+    fn define(&mut self, name: &str, members: &[&str]) -> Result<Answer<'static>, Stop> {
+        self.structs.define(name, members)?;
+        Ok(Reply::Done.into())
+    }
+
+    #[tactic(auto, using(crate::proofs::Scripts::laid_is_plain))]
+    fn make(
+        &mut self,
+        ty: &str,
+        space: &str,
+        access: &str,
+        bytes: &str,
+    ) -> Result<Answer<'static>, Stop> {
+        let space = space_of(space).ok_or(Stop::BadLine)?;
+        let access = access_of(access).ok_or(Stop::BadLine)?;
+        let bytes = bytes_of(self.alloc, bytes)?.ok_or(Stop::BadLine)?;
+        let ty = self.structs.type_of(ty)?;
+        let value = laid_out(self.alloc, bytes.as_slice(), &ty)?;
+        Ok(self.session.call(Call::New(value, space, access))?.into())
+    }
+
+    fn member(&mut self, handle: &str, name: &str) -> Result<Answer<'static>, Stop> {
+        let handle = handle_of(handle).ok_or(Stop::BadLine)?;
+        if !is_name(name) {
+            return Err(Stop::BadLine);
+        }
+        let name = String::from_str(self.alloc, name)?;
+        Ok(self.session.call(Call::Member(handle, name))?.into())
+    }
+
+    fn index(&mut self, handle: &str, i: &str) -> Result<Answer<'static>, Stop> {
+        let handle = handle_of(handle).ok_or(Stop::BadLine)?;
+        let i = number_of(i).ok_or(Stop::BadLine)?;
+        Ok(self.session.call(Call::Index(handle, i))?.into())
+    }
+
+    fn read(&mut self, handle: &str) -> Result<Answer<'static>, Stop> {
+        let handle = handle_of(handle).ok_or(Stop::BadLine)?;
+        Ok(self.session.call(Call::Read(handle))?.into())
+    }
+
+    #[tactic(auto, using(crate::proofs::Scripts::laid_is_plain))]
+    fn write(&mut self, handle: &str, bytes: &str) -> Result<Answer<'static>, Stop> {
+        let handle = handle_of(handle).ok_or(Stop::BadLine)?;
+        let bytes = bytes_of(self.alloc, bytes)?.ok_or(Stop::BadLine)?;
+        let reference = self.session.reference(handle).ok_or(Fault::NoHandle)?;
+        let value = laid_out(self.alloc, bytes.as_slice(), reference.target_ty())?;
+        Ok(self.session.call(Call::Write(handle, value))?.into())
+    }
+
+    fn copy(&mut self, from: &str, to: &str) -> Result<Answer<'static>, Stop> {
+        let from = handle_of(from).ok_or(Stop::BadLine)?;
+        let to = handle_of(to).ok_or(Stop::BadLine)?;
+        Ok(self.session.call(Call::Copy(from, to))?.into())
+    }
+
+    // The bytes of the value that the handle names.
+    fn dump(&self, handle: &str) -> Result<Answer<'_>, Stop> {
+        let handle = handle_of(handle).ok_or(Stop::BadLine)?;
+        let reference = self.session.reference(handle).ok_or(Fault::NoHandle)?;
+        bytes_read(self.alloc, self.session.store(), reference)
+    }
+}
+
+/// The bytes of the value that the reference names, lent where they stand in its cell; `NoValue` where the value has
+/// none. The condition: the reference is kept.
+fn bytes_read<'a>(
+    alloc: Global,
+    store: &'a Store,
+    reference: &RefInstance,
+) -> Result<Answer<'a>, Stop>
+    requires { IsKept store.now (reference_of reference.now) }
+    ensures { IfOk result (λ answer. IsOkAnd (read (held store.now) (reference_of reference.now)) (λ v. answer_text answer ≡ hexadecimal (buffer v))) }
+{
+    if let Some(bytes) = store.read_bytes(reference)? {
+        return Ok(Answer::Lent(bytes));
+    }
+    let value = reference.read(alloc, store)?;
+    let bytes = value.to_buffer(alloc)?;
+    Ok(Answer::Bytes(bytes.ok_or(Stop::NoValue)?))
+}
+
+/// The value of the type that the bytes lay out; `NoValue` where they lay out none.
+fn laid_out(alloc: Global, bytes: &[u8], ty: &Type) -> Result<Instance, Stop>
+    ensures value { IfOk result (λ value. Lays bytes.now (type_view ty.now) (value_of value)) }
+    ensures none { result ≡ Err Stop.NoValue → (v : Val) → ¬ Lays bytes.now (type_view ty.now) v }
+{
+    match Instance::from_buffer(alloc, bytes, ty)? {
+        Some(value) => Ok(value),
+        None => Err(Stop::NoValue),
+    }
+}
