@@ -117,7 +117,7 @@ class Library:
     def is_public(self, name, path=None):
         if path is not None and re.search(rf"\bpub mod {path.stem};", self.root):
             return True
-        return re.search(rf"\bpub use [^;]*\b{name}\b", self.root) is not None or self.crate == "wgsl_run"
+        return re.search(rf"\bpub use [^;]*\b{name}\b", self.root) is not None
 
     def read_types(self, text):
         for item in items(text, "enum"):
