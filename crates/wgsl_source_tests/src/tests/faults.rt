@@ -35,7 +35,7 @@ const ROWS: [(&str, &str); 17] = [
         "const A; const B; 1:24 this needs itself",
     ),
     ("const N == 1; const M = 2;", "const M; 1:9 expected `=`"),
-    ("override N: u32 == 1;", "1:17 expected `=`"),
+    ("override N == 1;", "1:12 expected `=`"),
     ("alias A == u32;", "1:9 expected `=`"),
     ("const N = = 1;", "1:11 expected a type or a value"),
 ];
