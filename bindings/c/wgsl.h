@@ -315,10 +315,11 @@ wgsl_answer wgsl_layout(
     wgsl_node *records, size_t capacity);
 
 /* What follows takes a table, looks at no source but for names, and takes no memory. Any records may be handed over: a
- * call tests what it reads, and answers within the bounds of what it is given. On a table that `wgsl_layout` makes, or for
- * which `wgsl_is_table` holds, the answers are those of WGSL's rules. */
+ * call tests what it reads, and answers within the bounds of what it is given. On a table that `wgsl_layout` makes the
+ * answers are those of WGSL's rules, and on any other those of its records alone. */
 
-/* Whether the records are the layout of a type. Names are not looked at. */
+/* Whether the records agree with each other, as those of a type do: sizes, alignments, strides, and members that follow each
+ * other. Names are not looked at. */
 bool wgsl_is_table(const wgsl_node *records, size_t count);
 
 /* A part of a value: where it begins in the bytes of the whole, and its record. WGSL_NOWHERE is the record where there is no
