@@ -12,15 +12,7 @@ fn main() -> Result<(), Box<dyn std::error::Error>> {
     let mut source = String::new();
     stdin().read_to_string(&mut source)?;
     let module = Module::new(source);
-    let all = [
-        Format::Table,
-        Format::Bytes,
-        Format::Json,
-        Format::Rust,
-        Format::RustBytemuck,
-        Format::C,
-    ];
-    let format = *all
+    let format = *Format::ALL
         .get(format.parse::<usize>()?)
         .ok_or("no format has this number")?;
     let report = match (command.as_str(), format) {

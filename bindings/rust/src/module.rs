@@ -45,6 +45,18 @@ pub enum Format {
     C = 5,
 }
 
+impl Format {
+    /// All of them, in the order of their numbers.
+    pub const ALL: [Format; 6] = [
+        Format::Table,
+        Format::Bytes,
+        Format::Json,
+        Format::Rust,
+        Format::RustBytemuck,
+        Format::C,
+    ];
+}
+
 /// How a module is read.
 #[derive(Clone, Debug, Default, PartialEq, Eq)]
 pub struct Settings {

@@ -151,14 +151,7 @@ fn settings_are_obeyed() -> Result<(), Error> {
 #[test]
 fn reports_are_texts() -> Result<(), Error> {
     let module = Module::new(LIGHTS);
-    for format in [
-        Format::Table,
-        Format::Bytes,
-        Format::Json,
-        Format::Rust,
-        Format::RustBytemuck,
-        Format::C,
-    ] {
+    for format in Format::ALL {
         let report = module.layouts(format, &[])?;
         assert!(
             report.faults == 0 && report.text.contains("Light"),
