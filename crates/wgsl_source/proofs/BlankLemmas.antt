@@ -107,6 +107,13 @@ comment_passes n [] behind a b some is_a no_a is_b no_b rest = absurd (omega ari
 comment_passes n (x ∷ xs) behind a b some is_a no_a is_b no_b rest =
     comment_goes_on n x xs behind (no_mark _ _ (sym is_a ∙ no_a) (sym is_b ∙ no_b)) rest
 
+no_mark_begins : (byte : ℕ) (text : List ℕ) → (byte ≡ 47 → ⊥) → (byte ≡ 42 → ⊥) → has_no_mark (byte ∷ text) ≡ true
+no_mark_begins byte text no_slash no_star = grind (arith, common_steps)
+
+pub comment_passes_other : (n : ℕ) (left behind : List ℕ) → 0 < length left → ¬ ((get_or left 0 0 ≡ 47) ⊎ (get_or left 0 0 ≡ 42)) → Comments n (drop 1 left) behind → Comments n left behind
+comment_passes_other n [] behind some other rest = absurd (omega arith)
+comment_passes_other n (x ∷ xs) behind some other rest = comment_goes_on n x xs behind (no_mark_begins x xs (λ e. other (inl e)) (λ e. other (inr e))) rest
+
 pub no_break_at : (text : List ℕ) (b : Bool) → 0 < length text → b ≡ may_begin_line_break (get_or text 0 0) → b ≡ false → false ≡ begins_line_break text
 no_break_at [] b some is none = absurd (omega arith)
 no_break_at (x ∷ xs) b some is none = sym (no_break_begins x xs (sym is ∙ none))

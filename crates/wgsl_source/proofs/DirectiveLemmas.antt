@@ -3,7 +3,7 @@ use Rattle.std.proofs.Common.{◌≡◌, ℕ, ◌+◌, ◌-◌, ◌<◌, ◌≤�
 use Rattle.std.proofs.lemmas.Bool.{cases_lt}
 use Rattle.std.proofs.lemmas.Grind.{common_steps}
 use Rattle.std.proofs.lemmas.Option.{slice_get_past}
-use Rattle.wgsl_source.specs.Cursors.{token_of, text_of}
+use Rattle.wgsl_source.specs.Cursors.{text_of}
 use Rattle.wgsl_source.specs.Cuts.{cut_of}
 use Rattle.wgsl_source.specs.Identifiers.{is_one_of}
 use Rattle.wgsl_source.specs.Pieces.{IsParted, directives, no_parts}

@@ -81,7 +81,8 @@ IsPassedFor reason text behind = ⊥
 abbrev pub BeginsAs : List ℕ → ℕ → ℕ → PieceKind → Type 0
 BeginsAs text at end (pieces.Token kind) = HasNoBlank text at end
 BeginsAs text at end pieces.Blank = IsBlank (drop at text) (drop end text)
-BeginsAs text at end (pieces.Passed reason) = IsPassedFor reason (drop at text) (drop end text)
+BeginsAs text at end pieces.OpenComment = IsPassedFor reasons.OpenComment (drop at text) (drop end text)
+BeginsAs text at end pieces.HashLine = IsPassedFor reasons.Preprocessor (drop at text) (drop end text)
 BeginsAs text at end pieces.Placeholder = HasNoBlank text at end
 
 abbrev pub Begins : List ℕ → ℕ → Piece → Type 0

@@ -67,28 +67,29 @@ impl<'a> Expressions<'a> {
         ensures { IfOk result (λ item. IsItem self.old.cursor self.new.cursor item) }
     {
         let start = self.steps.len();
-        match self.attributes() {
-            Ok(_) if self.cursor.word() == "const_assert" => {
-                Ok(Item::Assertion(self.assertion()?))
-            }
-            Ok(attributes) => {
-                let Named { name, kind } = self.declared(members, attributes)?;
-                let steps = Span {
-                    token: name,
-                    start,
-                    end: self.steps.len(),
-                };
-                Ok(Item::Declaration(Declaration { name, kind, steps }))
-            }
-            Err(stop) => {
-                self.cursor.skip_to_declaration();
-                Err(stop)
-            }
+        let mut attributes = Attributes::NONE;
+        if let Err(stop) = self.attributes(&mut attributes) {
+            self.cursor.skip_to_declaration();
+            return Err(stop);
         }
+        if self.cursor.word() == "const_assert" {
+            return Ok(Item::Assertion(self.assertion()?));
+        }
+        let Named { name, kind } = self.declared(members, &attributes)?;
+        let steps = Span {
+            token: name,
+            start,
+            end: self.steps.len(),
+        };
+        Ok(Item::Declaration(Declaration { name, kind, steps }))
     }
 
     // Reads the declaration behind attributes.
-    fn declared(&mut self, members: &mut Vec<Member>, attributes: Attributes) -> Result<Named, Stop>
+    fn declared(
+        &mut self,
+        members: &mut Vec<Member>,
+        attributes: &Attributes,
+    ) -> Result<Named, Stop>
         ensures { IfOk result (λ named. IsNamed self.old.cursor self.new.cursor named.name) }
     {
         match self.cursor.word() {
@@ -104,17 +105,17 @@ impl<'a> Expressions<'a> {
 }
 
 impl<'a> Expressions<'a> {
-    fn attributes(&mut self) -> Result<Attributes, Stop>
+    // Adds those that stand here to the attributes.
+    fn attributes(&mut self, attributes: &mut Attributes) -> Result<(), Stop>
         ensures later { IsBehind self.old.cursor self.new.cursor }
     {
-        let mut attributes = Attributes::NONE;
         for _ in self.cursor.position()..self.cursor.len() {
             if !self.cursor.take_symbol(b'@') {
                 break;
             }
-            self.attribute(&mut attributes)?;
+            self.attribute(attributes)?;
         }
-        Ok(attributes)
+        Ok(())
     }
 
     // One that says nothing to a host is passed over.
@@ -244,7 +245,8 @@ impl<'a> Expressions<'a> {
     {
         let start = self.cursor;
         let refused = self.refused_len();
-        let attributes = self.attributes()?;
+        let mut attributes = Attributes::NONE;
+        self.attributes(&mut attributes)?;
         if self.cursor.begins_declaration() {
             self.go_back(start, refused);
             return Err(start.expected(Expected::Symbol('}')));
@@ -308,7 +310,7 @@ impl<'a> Expressions<'a> {
         Ok(condition)
     }
 
-    fn variable(&mut self, attributes: Attributes) -> Result<Named, Stop>
+    fn variable(&mut self, attributes: &Attributes) -> Result<Named, Stop>
         ensures { IfOk result (λ named. IsNamed self.old.cursor self.new.cursor named.name) }
     {
         self.cursor.advance();
@@ -330,7 +332,7 @@ impl<'a> Expressions<'a> {
     }
 
     // A function, whose parameters and body are passed over.
-    fn function(&mut self, attributes: Attributes) -> Result<Named, Stop>
+    fn function(&mut self, attributes: &Attributes) -> Result<Named, Stop>
         ensures { IfOk result (λ named. IsNamed self.old.cursor self.new.cursor named.name) }
     {
         self.cursor.advance();

@@ -1,8 +1,8 @@
 //! Cuts a source into tokens (WGSL: tokens; comments; blankspace and line breaks).
 
-ghost use Rattle.std.specs.Prelude.{◌≡◌, ◌⊎◌, ◌+◌, ◌-◌, ◌≤◌, ◌<◌, [], IsTrue, true, false, slice_index, nat_eq, codes, drop, length, map, IfOk, IfSome, OnOk};
+ghost use Rattle.std.specs.Prelude.{◌≡◌, ◌↔◌, ◌⊎◌, ◌+◌, ◌-◌, ◌≤◌, ◌<◌, [], ◌∷◌, ◌++◌, IsTrue, true, false, slice_index, nat_eq, codes, drop, length, map, IfOk, IfSome, OnOk};
 ghost use Rattle.std.specs.List.{list_any, starts_with};
-ghost use Rattle.wgsl_source.specs.Blanks.{Begins, Comment, GoesOn, HasNoBlank, IsCharacter, IsCut, Line, begins_line_break, begins_with_one, blanks};
+ghost use Rattle.wgsl_source.specs.Blanks.{Begins, Comment, GoesOn, HasNoBlank, IsCharacter, IsCut, Line, begins_line_break, begins_with_one, blanks, fault_from};
 ghost use Rattle.wgsl_source.specs.Bytes.{class_of, may_begin_blank, wide_blanks};
 ghost use Rattle.wgsl_source.specs.Readings.{extent_in};
 
@@ -52,8 +52,10 @@ struct Piece {
 enum PieceKind {
     Token(TokenKind),
     Blank,
-    /// What is passed over with this fault.
-    Passed(Reason),
+    /// A comment that has no end.
+    OpenComment,
+    /// A line that is for a preprocessor.
+    HashLine,
     /// A name that a preprocessor puts a text for.
     Placeholder,
 }
@@ -74,30 +76,63 @@ pub(crate) fn tokens_of(alloc: Global, text: &str) -> Result<Lexed, AllocError>
             start += 1;
             continue;
         }
-        let piece = piece_at(class, bytes, start);
-        lexed.add(start, piece)?;
-        start = piece.end;
+        start = lexed.take(class, bytes, start)?;
     }
     Ok(lexed)
 }
 
 impl Lexed {
-    // Takes what begins at this byte.
+    // Takes what begins with this byte, which is of this class, and answers where it ends.
+    fn take(&mut self, class: Class, bytes: &[u8], start: usize) -> Result<usize, AllocError>
+        requires within { start < length bytes.now }
+        requires class { class ≡ class_of (slice_index bytes.now start) }
+        requires no_blank { ¬ ((class ≡ Class.Blank) ⊎ (class ≡ Class.Break)) }
+        ensures behind { IfOk result (λ end. (start < end) × (end ≤ length bytes.now)) }
+        ensures cut { IsCut bytes.now (map extent_in self.old.tokens.items) self.old.faults.items start →
+            IfOk result (λ end. IsCut bytes.now (map extent_in self.new.tokens.items) self.new.faults.items end) }
+    {
+        // Names are the most of a source.
+        if let Class::Letter = class {
+            let end = name_end(bytes, start);
+            self.add_token(TokenKind::Name, start, end)?;
+            return Ok(end);
+        }
+        let piece = piece_at(class, bytes, start);
+        self.add(start, piece)?;
+        Ok(piece.end)
+    }
+
+    // Takes the piece that begins at this byte.
     fn add(&mut self, start: usize, piece: Piece) -> Result<(), AllocError>
         ensures { OnOk result (GoesOn self.old.tokens.items self.old.faults.items start piece self.new.tokens.items self.new.faults.items) }
     {
         let Piece { kind, end } = piece;
         match kind {
             PieceKind::Blank => Ok(()),
-            PieceKind::Token(kind) => Ok(self.tokens.push(Token { kind, start, end })?),
-            PieceKind::Passed(reason) => Ok(self.faults.push(Fault { start, end, reason })?),
+            PieceKind::Token(kind) => self.add_token(kind, start, end),
+            PieceKind::OpenComment => self.add_fault(Reason::OpenComment, start, end),
+            PieceKind::HashLine => self.add_fault(Reason::Preprocessor, start, end),
             PieceKind::Placeholder => {
-                let kind = TokenKind::Name;
-                self.tokens.push(Token { kind, start, end })?;
-                let reason = Reason::Placeholder;
-                Ok(self.faults.push(Fault { start, end, reason })?)
+                self.add_token(TokenKind::Name, start, end)?;
+                self.add_fault(Reason::Placeholder, start, end)
             }
         }
+    }
+
+    fn add_token(&mut self, kind: TokenKind, start: usize, end: usize) -> Result<(), AllocError>
+        ensures tokens { OnOk result (map extent_in self.new.tokens.items ≡ map extent_in self.old.tokens.items ++ record { start = start; end = end } ∷ []) }
+        ensures faults { self.new.faults.items ≡ self.old.faults.items }
+    {
+        self.tokens.push(Token { kind, start, end })?;
+        Ok(())
+    }
+
+    fn add_fault(&mut self, reason: Reason, start: usize, end: usize) -> Result<(), AllocError>
+        ensures tokens { self.new.tokens.items ≡ self.old.tokens.items }
+        ensures faults { OnOk result (self.new.faults.items ≡ self.old.faults.items ++ fault_from start end reason ∷ []) }
+    {
+        self.faults.push(Fault { start, end, reason })?;
+        Ok(())
     }
 }
 
@@ -123,10 +158,6 @@ fn piece_at(class: Class, bytes: &[u8], start: usize) -> Piece
     ensures is { Begins bytes.now start result }
 {
     match class {
-        Class::Letter => Piece {
-            kind: PieceKind::Token(TokenKind::Name),
-            end: name_end(bytes, start),
-        },
         Class::Symbol => symbol_at(bytes, start),
         _ => rare_at(class, bytes, start),
     }
@@ -235,7 +266,7 @@ fn hash_line_at(bytes: &[u8], start: usize) -> Piece
 {
     let left = behind_line(behind(bytes, start + 1));
     Piece {
-        kind: PieceKind::Passed(Reason::Preprocessor),
+        kind: PieceKind::HashLine,
         end: bytes.len() - left.len(),
     }
 }
@@ -299,7 +330,7 @@ fn comment_at(bytes: &[u8], start: usize) -> Piece
             end: bytes.len() - left.len(),
         },
         None => Piece {
-            kind: PieceKind::Passed(Reason::OpenComment),
+            kind: PieceKind::OpenComment,
             end: bytes.len(),
         },
     }
@@ -433,6 +464,10 @@ fn behind_comment(rest: &[u8]) -> Option<&[u8]>
     let mut inner = 0usize;
     let mut left = rest;
     while left.len() > 0 {
+        if !may_begin_mark(left[0]) {
+            left = behind(left, 1);
+            continue;
+        }
         if left.starts_with(b"/*") {
             inner = inner.saturating_add(1);
             left = behind(left, 2);
@@ -449,6 +484,13 @@ fn behind_comment(rest: &[u8]) -> Option<&[u8]>
         left = behind(left, 2);
     }
     None
+}
+
+// Whether the beginning or the end of a comment may begin with this character.
+fn may_begin_mark(byte: u8) -> bool
+    ensures { IsTrue result ↔ ((byte ≡ 47) ⊎ (byte ≡ 42)) }
+{
+    matches!(byte, b'/' | b'*')
 }
 
 // What is behind a number that begins with this character, with its point, its exponent and its suffix.

@@ -29,63 +29,70 @@ pub(crate) fn mark_templates(alloc: Global, tokens: &mut Vec<Token>) -> Result<(
         candidates: Vec::new(alloc),
         depth: 0,
     };
-    let mut next = 0;
+    let mut is_taken = false;
     for at in 0..tokens.len() {
-        if at < next {
-            continue;
-        }
-        let taken = discovery.take(tokens, at)?;
-        next = at.saturating_add(taken);
+        is_taken = !is_taken && discovery.take(tokens, at)?;
     }
     Ok(())
 }
 
-/// The character that a token is, with the one that stands right behind it.
-fn symbols_at(tokens: &Vec<Token>, at: usize) -> Option<(u8, u8)> {
-    let first = tokens.get(at)?;
-    let TokenKind::Symbol(symbol) = first.kind else {
-        return None;
+/// The character that stands right behind a token; 0 where none does.
+fn symbol_behind(tokens: &Vec<Token>, at: usize) -> u8 {
+    let (Some(token), Some(second)) = (tokens.get(at), tokens.get(at.saturating_add(1))) else {
+        return 0;
     };
-    Some((symbol, symbol_behind(tokens, at, *first)))
-}
-
-// 0 where there is none.
-fn symbol_behind(tokens: &Vec<Token>, at: usize, first: Token) -> u8 {
-    match tokens.get(at.saturating_add(1)) {
-        Some(token) if token.start == first.end => match token.kind {
-            TokenKind::Symbol(symbol) => symbol,
-            _ => 0,
-        },
+    match second.kind {
+        TokenKind::Symbol(symbol) if second.start == token.end => symbol,
         _ => 0,
     }
 }
 
 impl Discovery {
-    /// Looks at one token, and answers how many are done with.
-    fn take(&mut self, tokens: &mut Vec<Token>, at: usize) -> Result<usize, AllocError>
+    /// Looks at one token, and says whether the one behind it is done with, too.
+    fn take(&mut self, tokens: &mut Vec<Token>, at: usize) -> Result<bool, AllocError>
         ensures extents { map extent_in tokens.new.items ≡ map extent_in tokens.old.items }
     {
-        let Some((symbol, behind)) = symbols_at(tokens, at) else {
-            return Ok(1);
+        let Some(TokenKind::Symbol(symbol)) = tokens.get(at).map(|token| token.kind) else {
+            return Ok(false);
         };
-        match (symbol, behind) {
-            (b'<', b'<' | b'=') => return Ok(2),
-            (b'<', _) => self.begin(tokens, at)?,
-            (b'>', _) => return Ok(self.end(tokens, at, behind)),
-            (b'(' | b'[', _) => self.depth = self.depth.saturating_add(1),
-            (b')' | b']', _) => {
+        match symbol {
+            b'(' | b'[' => self.depth = self.depth.saturating_add(1),
+            b')' | b']' => {
                 self.forget_inner();
                 self.depth = self.depth.saturating_sub(1);
             }
-            (b'!' | b'=', b'=') => return Ok(2),
-            (b'=' | b';' | b'{' | b':', _) => self.forget_all(),
-            (b'&', b'&') | (b'|', b'|') => {
-                self.forget_inner();
-                return Ok(2);
+            b';' | b'{' | b':' => self.forget_all(),
+            b'<' | b'>' | b'=' | b'!' | b'&' | b'|' => {
+                return self.take_operator(tokens, at, symbol);
             }
             _ => {}
         }
-        Ok(1)
+        Ok(false)
+    }
+
+    // Looks at a character that may be the first of two.
+    fn take_operator(
+        &mut self,
+        tokens: &mut Vec<Token>,
+        at: usize,
+        symbol: u8,
+    ) -> Result<bool, AllocError>
+        ensures extents { map extent_in tokens.new.items ≡ map extent_in tokens.old.items }
+    {
+        let behind = symbol_behind(tokens, at);
+        match (symbol, behind) {
+            (b'<', b'<' | b'=') => return Ok(true),
+            (b'<', _) => self.begin(tokens, at)?,
+            (b'>', _) => return Ok(self.end(tokens, at, behind)),
+            (b'=' | b'!', b'=') => return Ok(true),
+            (b'=', _) => self.forget_all(),
+            (b'&', b'&') | (b'|', b'|') => {
+                self.forget_inner();
+                return Ok(true);
+            }
+            _ => {}
+        }
+        Ok(false)
     }
 
     fn begin(&mut self, tokens: &Vec<Token>, at: usize) -> Result<(), AllocError> {
@@ -102,8 +109,9 @@ impl Discovery {
         Ok(())
     }
 
-    // A `>` ends the list of the last candidate, if that stands in the same brackets.
-    fn end(&mut self, tokens: &mut Vec<Token>, at: usize, behind: u8) -> usize
+    // A `>` ends the list of the last candidate, if that stands in the same brackets. Says whether a `=` behind it
+    // is done with, too.
+    fn end(&mut self, tokens: &mut Vec<Token>, at: usize, behind: u8) -> bool
         ensures extents { map extent_in tokens.new.items ≡ map extent_in tokens.old.items }
     {
         match self.candidates.last() {
@@ -112,10 +120,9 @@ impl Discovery {
                 let _ = self.candidates.pop();
                 set_kind(tokens, start, TokenKind::TemplateStart);
                 set_kind(tokens, at, TokenKind::TemplateEnd);
-                1
+                false
             }
-            _ if behind == b'=' => 2,
-            _ => 1,
+            _ => behind == b'=',
         }
     }
 

@@ -22,11 +22,3 @@ loop-start-preserved-then-is_blank c = record {
       blank c.loop-start.invariant.cut (omega arith) (omega arith)
       (blank_byte c.as_bytes-bytes.result.now c.loop-start.start c.class_of-class.result (omega arith) c.class_of-class.ensures (c.is_blank.ensures.0 c.if-is_blank.true));
 }
-
-pub loop-start-preserved : goal.loop-start-preserved
-loop-start-preserved c = record {
-  within = c.piece_at-piece.ensures.within;
-  cut =
-      c.in_ok-add.ensures c.as_bytes-bytes.result.now c.piece_at-piece.ensures.is c.piece_at-piece.ensures.later c.piece_at-piece.ensures.within
-      c.loop-start.invariant.cut;
-}

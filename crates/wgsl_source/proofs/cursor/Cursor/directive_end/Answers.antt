@@ -1,4 +1,4 @@
-use Rattle.std.proofs.Common.{◌≡◌, ℕ, false, refl}
+use Rattle.std.proofs.Common.{◌≡◌, ℕ, false}
 use Rattle.wgsl_source.specs.Cursors.{text_of}
 use Rattle.wgsl_source.specs.Identifiers.{is_one_of}
 use Rattle.wgsl_source.specs.Pieces.{no_parts}
