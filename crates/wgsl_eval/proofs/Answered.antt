@@ -1,11 +1,11 @@
 -- Answers that are values, and those that are faults.
 use Rattle.std.specs.declared.alloc.AllocError.{AllocError}
-use Rattle.std.proofs.Common.{◌≡◌, ◌∙◌, Bool, true, false, Option, Some, None, Result, Ok, Err, IfOk, IfSome, MatchBool, MatchOption, refl, sym, ap, subst}
+use Rattle.std.proofs.Common.{◌≡◌, ◌∙◌, Bool, true, false, Option, Some, None, Result, Ok, Err, IfOk, IfSome, MatchOption, refl, sym, ap, subst}
 use Rattle.std.specs.Option.{option_map}
 use Rattle.wgsl_rules.specs.Values.{Val}
 use Rattle.wgsl_values.specs.View.{value_of}
 use Rattle.wgsl_values.specs.declared.inst.Instance.{Instance}
-use Rattle.wgsl_eval.specs.Answers.{IsAnswer, IsFault, IsFaultOf, IsMade, IsSkippedFor, IsSkippedOr, IsValueWith, value_in}
+use Rattle.wgsl_eval.specs.Answers.{IsAnswer, IsFault, IsMade, IsSkippedFor, IsSkippedOr, IsValueWith, value_in}
 use Rattle.wgsl_eval.specs.Constructors.{MayBe}
 use Rattle.wgsl_eval.specs.Given.{IsJudged}
 use Rattle.wgsl_eval.specs.declared.answer.Answer.{Answer}

@@ -1,6 +1,6 @@
 -- What WGSL does not have: it stays as it is, or is a fault.
 use Rattle.std.specs.declared.alloc.AllocError.{AllocError}
-use Rattle.std.proofs.Common.{◌≡◌, ℕ, Bool, true, false, List, Option, Some, None, Result, Ok, Err, IfOk, MatchBool, MatchOption, refl, sym, ap, subst, ◌∙◌}
+use Rattle.std.proofs.Common.{◌≡◌, ℕ, Bool, true, false, List, Option, Some, None, Result, Ok, Err, IfOk, MatchBool, refl, sym, ap, subst, ◌∙◌}
 use Rattle.wgsl_rules.specs.Types.{Ty}
 use Rattle.wgsl_rules.specs.Values.{Val}
 use Rattle.wgsl_rules.specs.View.{type_view}
@@ -14,7 +14,6 @@ use Rattle.wgsl_eval.specs.Meanings.{IsLimited}
 use Rattle.wgsl_eval.specs.TypeNames.{predeclared_type}
 use Rattle.wgsl_eval.specs.declared.answer.Answer.{Answer}
 use Rattle.wgsl_eval.specs.declared.answer.Answer.TheVariants as answers
-use Rattle.wgsl_eval.specs.declared.answer.Value.{Value}
 use Rattle.wgsl_eval.specs.declared.sized.SizedType.{SizedType}
 
 -- the answer itself, or a fault

@@ -1,6 +1,6 @@
 -- What template lists and calls give.
 use Rattle.std.specs.declared.alloc.AllocError.{AllocError}
-use Rattle.std.proofs.Common.{◌≡◌, ◌∙◌, ◌⊎◌, inl, inr, ℕ, Bool, true, false, List, [], ◌∷◌, ◌++◌, map, Option, Some, None, Result, Ok, Err, IfOk, MatchOption, refl, sym, ap, subst}
+use Rattle.std.proofs.Common.{◌≡◌, ◌∙◌, ◌⊎◌, inl, inr, ℕ, Bool, true, false, List, [], ◌∷◌, ◌++◌, Option, Some, None, Result, Ok, Err, IfOk, MatchOption, refl, sym, ap, subst}
 use Rattle.std.specs.Prelude.{IsTrue, codes}
 use Rattle.wgsl_functions.specs.Names.{IsNameOf}
 use Rattle.wgsl_functions.specs.declared.builtin.Builtin.{Builtin}
@@ -16,10 +16,9 @@ use Rattle.wgsl_source.specs.declared.names.Generator.TheVariants as generators
 use Rattle.wgsl_source.specs.declared.names.Predeclared.{Predeclared}
 use Rattle.wgsl_source.specs.declared.names.Predeclared.TheVariants as named
 use Rattle.wgsl_values.specs.View.{value_of}
-use Rattle.wgsl_values.specs.declared.inst.Instance.{Instance}
 use Rattle.wgsl_eval.proofs.Answered.{fault-maybe}
-use Rattle.wgsl_eval.specs.Answers.{AreSound, IsAnswer, IsFault, IsSkippedFor, IsUnready, value_in}
-use Rattle.wgsl_eval.specs.Calls.{AreValues, IsBitcastOf, IsCall, IsCallOf, IsCounted, IsForValues, IsFunctionCall, IsGenerated, IsGeneratedOf, IsLanguageCall, IsLanguageType, IsNoValue, IsOfType, IsOfValuesOf, IsSomeCall, IsTemplateOf, IsTypeCall, values_of}
+use Rattle.wgsl_eval.specs.Answers.{IsFault, IsSkippedFor, IsUnready}
+use Rattle.wgsl_eval.specs.Calls.{AreValues, IsBitcastOf, IsCallOf, IsCounted, IsForValues, IsFunctionCall, IsGenerated, IsGeneratedOf, IsLanguageCall, IsLanguageType, IsNoValue, IsOfType, IsOfValuesOf, IsSomeCall, IsTemplateOf, IsTypeCall, values_of}
 use Rattle.wgsl_eval.specs.Constructors.{MayBe}
 use Rattle.wgsl_eval.specs.Evaluators.{Setting}
 use Rattle.wgsl_eval.specs.Opaque.{is_opaque}
@@ -28,7 +27,6 @@ use Rattle.wgsl_eval.specs.TypeNames.{predeclared_type}
 use Rattle.wgsl_eval.specs.declared.answer.Answer.{Answer}
 use Rattle.wgsl_eval.specs.declared.answer.Answer.TheVariants as answers
 use Rattle.wgsl_eval.specs.declared.answer.Need.TheVariants as needs
-use Rattle.wgsl_eval.specs.declared.answer.Size.{Size}
 use Rattle.wgsl_eval.specs.declared.answer.Value.{Value}
 use Rattle.wgsl_eval.specs.declared.call.Arguments.{Arguments}
 use Rattle.wgsl_eval.specs.declared.call.Arguments.TheVariants as arguments

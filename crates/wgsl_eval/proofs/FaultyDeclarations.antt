@@ -15,7 +15,7 @@ use Rattle.wgsl_values.specs.View.{value_of}
 use Rattle.wgsl_eval.specs.Answers.{IsFault, IsSkippedFor, IsUnready, IsValueWith}
 use Rattle.wgsl_eval.specs.Evaluators.{Setting}
 use Rattle.wgsl_eval.specs.Faulty.{IsBlamed, IsFaultyAt, spans_of, spans_of_field}
-use Rattle.wgsl_eval.specs.Meanings.{IsConcrete, IsConcreteValue, IsConstant, IsDeclared, IsGivenValue, IsInTypeOf, IsOfType, IsOverride, IsOverrideNamed, IsOwnValue, IsTyped, IsTypedBy, is_first}
+use Rattle.wgsl_eval.specs.Meanings.{IsBesideType, IsConcrete, IsConcreteValue, IsConstant, IsDeclared, IsGivenValue, IsInTypeOf, IsOfType, IsOverride, IsOverrideNamed, IsOwnValue, IsTyped, IsTypedBy, IsWhereType, IsWithheld, is_first}
 use Rattle.wgsl_eval.specs.Overrides.{given_for}
 use Rattle.wgsl_eval.specs.Reasons.{has_floats}
 use Rattle.wgsl_eval.specs.Runs.{IsFound}
@@ -89,6 +89,27 @@ of_type-tells R v (answers.Wrong m g) a h l = same-value R (answers.Wrong m g) a
 of_type-tells R v (answers.Named n) a h l = same-value R (answers.Named n) a h l
 of_type-tells R v answers.Faulty a h l = same-value R answers.Faulty a h l
 
+-- what stands where its type is one
+where_type-tells : (R : Type 0) (x t a : Answer) → IsWhereType x t a → Tells R t → TellsValue R x → TellsValue R a
+where_type-tells R x (answers.Type t) a h l own = same-value R x a h own
+where_type-tells R x (answers.Value w) a h l own = fault-tells R a h
+where_type-tells R x (answers.Bitcast t) a h l own = fault-tells R a h
+where_type-tells R x (answers.Variable w) a h l own = fault-tells R a h
+where_type-tells R x (answers.Skipped s) a h l own = same-value R (answers.Skipped s) a h tt
+where_type-tells R x (answers.Wrong m g) a h l own = same-value R (answers.Wrong m g) a h l
+where_type-tells R x (answers.Named n) a h l own = same-value R (answers.Named n) a h l
+where_type-tells R x answers.Faulty a h l own = same-value R answers.Faulty a h l
+
+withheld-tells : (R : Type 0) (x a : Answer) → IsWithheld x a → TellsValue R x → TellsValue R a
+withheld-tells R (answers.Wrong m g) a h l = same-value R (answers.Wrong m g) a h l
+withheld-tells R answers.Faulty a h l = same-value R answers.Faulty a h l
+withheld-tells R (answers.Value v) a h l = skipped-tells R needs.Override a h
+withheld-tells R (answers.Named n) a h l = skipped-tells R needs.Override a h
+withheld-tells R (answers.Type t) a h l = skipped-tells R needs.Override a h
+withheld-tells R (answers.Bitcast t) a h l = skipped-tells R needs.Override a h
+withheld-tells R (answers.Variable v) a h l = skipped-tells R needs.Override a h
+withheld-tells R (answers.Skipped s) a h l = skipped-tells R needs.Override a h
+
 concrete_value-tells : (R : Type 0) (v : Val) (a : Answer) → IsConcreteValue v a → TellsValue R a
 concrete_value-tells R v (answers.Value w) h = tt
 concrete_value-tells R v (answers.Wrong m g) h = h
@@ -148,6 +169,9 @@ module _ (s : Setting) where
   typed_by-tells : (ty : Span) (v : Val) (a : Answer) → IsTypedBy s ty v a → TellsValue (OneBlamed (ty ∷ [])) a
   typed_by-tells ty v a h = of_type-tells (OneBlamed (ty ∷ [])) v h.0 a h.2 (one ty h.0 h.1)
 
+  beside_type-tells : (ty : Span) (x a : Answer) → IsBesideType s ty x a → TellsValue (OneBlamed (ty ∷ [])) x → TellsValue (OneBlamed (ty ∷ [])) a
+  beside_type-tells ty x a h l = where_type-tells (OneBlamed (ty ∷ [])) x h.0 a h.2 (one ty h.0 h.1) l
+
   -- what is no value
   untyped-tells : (ty : Option Span) (value : Span) (x a : Answer) → IsFound s value x → IsUnready x a → TellsValue (OneBlamed (option_to_list ty ++ value ∷ [])) a
   untyped-tells ty value x a found h =
@@ -161,7 +185,8 @@ module _ (s : Setting) where
   typed-tells (Some ty) value (answers.Type t) a found h = untyped-tells (Some ty) value (answers.Type t) a found h
   typed-tells (Some ty) value (answers.Bitcast t) a found h = untyped-tells (Some ty) value (answers.Bitcast t) a found h
   typed-tells (Some ty) value (answers.Variable v) a found h = untyped-tells (Some ty) value (answers.Variable v) a found h
-  typed-tells (Some ty) value (answers.Skipped k) a found h = untyped-tells (Some ty) value (answers.Skipped k) a found h
+  typed-tells (Some ty) value (answers.Skipped k) a found h =
+      value-map (OneBlamed (ty ∷ [])) (OneBlamed (ty ∷ value ∷ [])) a (left (ty ∷ []) (value ∷ [])) (beside_type-tells ty (answers.Skipped k) a h tt)
   typed-tells (Some ty) value (answers.Wrong m g) a found h = untyped-tells (Some ty) value (answers.Wrong m g) a found h
   typed-tells (Some ty) value answers.Faulty a found h = untyped-tells (Some ty) value answers.Faulty a found h
   typed-tells None value x a found h = untyped-tells None value x a found h
@@ -172,18 +197,24 @@ module _ (s : Setting) where
   own_value-tells : (ty : Option Span) (value : Span) (a : Answer) → IsOwnValue s ty value a → TellsValue (OneBlamed (option_to_list ty ++ value ∷ [])) a
   own_value-tells ty value a h = concrete-tells (OneBlamed (option_to_list ty ++ value ∷ [])) h.0 a h.2 (constant-tells ty value h.0 h.1)
 
-  override-tells : (ty value : Option Span) (a : Answer) → IsOverride s ty value a → TellsValue (OneBlamed (option_to_list ty ++ option_to_list value)) a
-  override-tells ty None a h = skipped-tells (OneBlamed (option_to_list ty ++ [])) needs.Override a h
-  override-tells ty (Some value) a h =
+  own-tells : (ty : Option Span) (value : Span) (a : Answer) → IsOverride s ty (Some value) a → TellsValue (OneBlamed (option_to_list ty ++ value ∷ [])) a
+  own-tells ty value a h =
       let all = OneBlamed (option_to_list ty ++ value ∷ []) in
-      of_bool (is_first s.stage) (IsSkippedFor needs.Override a) (IsOwnValue s ty value a) (TellsValue all a) h
-      (skipped-tells all needs.Override a) (own_value-tells ty value a)
+      let own = own_value-tells ty value h.0 h.1 in
+      of_bool (is_first s.stage) (IsWithheld h.0 a) (a ≡ h.0) (TellsValue all a) h.2
+      (λ withheld. withheld-tells all h.0 a withheld own) (λ same. same-value all h.0 a same own)
+
+  override-tells : (ty value : Option Span) (a : Answer) → IsOverride s ty value a → TellsValue (OneBlamed (option_to_list ty ++ option_to_list value)) a
+  override-tells None None a h = fault-tells (OneBlamed []) a h
+  override-tells (Some ty) None a h = beside_type-tells ty h.0 a h.2 (skipped-tells (OneBlamed (ty ∷ [])) needs.Override h.0 h.1)
+  override-tells None (Some value) a h = own-tells None value a h
+  override-tells (Some ty) (Some value) a h = own-tells (Some ty) value a h
 
   given_value-tells : (ty value : Option Span) (v : Val) (a : Answer) → IsGivenValue s ty value v a → TellsValue (OneBlamed (option_to_list ty ++ option_to_list value)) a
   given_value-tells (Some ty) value v a h =
       value-map (OneBlamed (ty ∷ [])) (OneBlamed (ty ∷ option_to_list value)) a (left (ty ∷ []) (option_to_list value)) (typed_by-tells ty v a h)
   given_value-tells None (Some value) v a h = in_type_of-tells (OneBlamed (value ∷ [])) v h.0 a h.2 (own_value-tells None value h.0 h.1)
-  given_value-tells None None v a h = skipped-tells (OneBlamed []) needs.Override a h
+  given_value-tells None None v a h = fault-tells (OneBlamed []) a h
 
   override_named-tells : (name : ℕ) (ty value : Option Span) (a : Answer) → IsOverrideNamed s name ty value a
       → TellsValue (OneBlamed (option_to_list ty ++ option_to_list value)) a

@@ -17,12 +17,12 @@ use Rattle.wgsl_eval.proofs.Answered.{fault-answer}
 use Rattle.wgsl_eval.specs.declared.answer.Skip.{Skip}
 use Rattle.wgsl_eval.specs.declared.attribute.Attribute.{Attribute}
 use Rattle.wgsl_eval.specs.declared.attribute.Attribute.TheVariants as attributes
-use Rattle.wgsl_eval.specs.Answers.{IsAnswer, IsFault, IsNoType, value_in}
+use Rattle.wgsl_eval.specs.Answers.{IsFault, IsNoType, value_in}
 use Rattle.wgsl_eval.specs.Evaluators.{Setting}
 use Rattle.wgsl_eval.specs.Lists.{AllFrom}
 use Rattle.wgsl_eval.specs.Reasons.{has_floats, have_floats}
 use Rattle.wgsl_eval.specs.Runs.{IsFound}
-use Rattle.wgsl_eval.specs.Structures.{IsAttribute, IsFoundMember, IsMember, IsMemberAt, IsNoMember, IsNoNumber, IsNone, IsNotGiven, IsNotTyped, IsNumberGiven, IsNumberOf, IsStructure, IsStructureOf, IsWithout}
+use Rattle.wgsl_eval.specs.Structures.{IsAttribute, IsMember, IsMemberAt, IsNoMember, IsNoNumber, IsNone, IsNotGiven, IsNumberGiven, IsNumberOf, IsStructure, IsStructureOf, IsWithout}
 use Rattle.wgsl_eval.specs.declared.answer.Answer.{Answer}
 use Rattle.wgsl_eval.specs.declared.answer.Answer.TheVariants as answers
 use Rattle.wgsl_eval.specs.declared.sized.SizedType.{SizedType}

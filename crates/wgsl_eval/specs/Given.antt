@@ -1,5 +1,5 @@
 -- What each step of an expression gives for the answers before it (WGSL: expressions).
-use Rattle.std.specs.Prelude.{◌≡◌, ◌-◌, ℕ, nat_eq, zero, suc, Bool, true, false, ◌&&◌, IsTrue, Option, Some, None, List, [], ◌∷◌, ◌++◌, ⊤, MatchBool, MatchOption, MatchResult, length, take, slice_get, unwrap_or, codes, Contains, if◌then◌else◌}
+use Rattle.std.specs.Prelude.{◌≡◌, ◌-◌, ℕ, nat_eq, zero, suc, Bool, true, false, ◌&&◌, IsTrue, Option, Some, None, List, [], ◌∷◌, ◌++◌, MatchBool, MatchOption, MatchResult, length, take, slice_get, unwrap_or, codes, Contains, if◌then◌else◌}
 use Rattle.std.specs.List.{starts_with}
 use Rattle.std.specs.Str.{bytes_eq}
 use Rattle.wgsl_rules.specs.Converted.{converted}

@@ -1,5 +1,5 @@
 -- What declarations are found to stand for (WGSL: declarations).
-use Rattle.std.specs.Prelude.{◌≡◌, ◌≢◌, ◌<◌, ℕ, Bool, true, false, Option, Some, None, IsSomeAnd, MatchBool, MatchOption, List, [], ◌∷◌, length, slice_get, slice_set, ⊤}
+use Rattle.std.specs.Prelude.{◌≡◌, ◌≢◌, ◌<◌, ℕ, Bool, true, false, Option, Some, None, IsSomeAnd, MatchBool, MatchOption, List, [], ◌∷◌, length, slice_get, slice_set}
 use Rattle.wgsl_rules.specs.Conversion.{concretized}
 use Rattle.wgsl_rules.specs.Converted.{converted}
 use Rattle.wgsl_rules.specs.Values.{Val, type_of}
@@ -40,8 +40,19 @@ IsOfType v a answer = IsNoType a answer
 abbrev pub IsTypedBy : Setting → Span → Val → Answer → Type 0
 IsTypedBy s ty v answer = (t : Answer) × IsFound s ty t × IsOfType v t answer
 
+-- the first answer where the second is a type, and else what that leaves where a type belongs
+abbrev pub IsWhereType : Answer → Answer → Answer → Type 0
+IsWhereType a (answers.Type t) answer = answer ≡ a
+IsWhereType a t answer = IsNoType t answer
+
+-- the answer stays where its type is one
+abbrev pub IsBesideType : Setting → Span → Answer → Answer → Type 0
+IsBesideType s ty a answer = (t : Answer) × IsFound s ty t × IsWhereType a t answer
+
+-- what is skipped stays so where its type is one
 abbrev pub IsTyped : Setting → Option Span → Answer → Answer → Type 0
 IsTyped s (Some ty) (answers.Value v) answer = IsTypedBy s ty (value_of v.instance) answer
+IsTyped s (Some ty) (answers.Skipped k) answer = IsBesideType s ty (answers.Skipped k) answer
 IsTyped s ty a answer = IsUnready a answer
 
 -- the value of a constant, in its type where one is given
@@ -61,11 +72,22 @@ IsConcrete a answer = answer ≡ a
 abbrev pub IsOwnValue : Setting → Option Span → Span → Answer → Type 0
 IsOwnValue s ty value answer = (a : Answer) × IsConstant s ty value a × IsConcrete a answer
 
--- an override has a value where one is given for it and the stage is not the first
+-- a fault of its own value, or else none that is known
+abbrev pub IsWithheld : Answer → Answer → Type 0
+IsWithheld (answers.Wrong m guard) answer = answer ≡ answers.Wrong m guard
+IsWithheld answers.Faulty answer = answer ≡ answers.Faulty
+IsWithheld a answer = IsSkippedFor needs.Override answer
+
+-- what is skipped for an override
+abbrev pub IsUnset : Setting → Span → Answer → Type 0
+IsUnset s ty answer = (a : Answer) × IsSkippedFor needs.Override a × IsBesideType s ty a answer
+
+-- an override has its own value, but for the first stage, in which a host may give another; one without a value has a type
 abbrev pub IsOverride : Setting → Option Span → Option Span → Answer → Type 0
-IsOverride s ty None answer = IsSkippedFor needs.Override answer
+IsOverride s None None answer = IsFault answer
+IsOverride s (Some ty) None answer = IsUnset s ty answer
 IsOverride s ty (Some value) answer =
-    MatchBool (is_first s.stage) (IsSkippedFor needs.Override answer) (IsOwnValue s ty value answer)
+    (a : Answer) × IsOwnValue s ty value a × MatchBool (is_first s.stage) (IsWithheld a answer) (answer ≡ a)
 
 -- ---- overrides that a host gives a value
 
@@ -78,7 +100,7 @@ IsInTypeOf v a answer = answer ≡ a
 abbrev pub IsGivenValue : Setting → Option Span → Option Span → Val → Answer → Type 0
 IsGivenValue s (Some ty) value v answer = IsTypedBy s ty v answer
 IsGivenValue s None (Some value) v answer = (a : Answer) × IsOwnValue s None value a × IsInTypeOf v a answer
-IsGivenValue s None None v answer = IsSkippedFor needs.Override answer
+IsGivenValue s None None v answer = IsFault answer
 
 -- an override of this name has the value that is given for it, in each stage, and else its own
 abbrev pub IsOverrideNamed : Setting → ℕ → Option Span → Option Span → Answer → Type 0

@@ -1,5 +1,5 @@
 -- Values that a host gives overrides (WGSL: override declarations; WebGPU: pipeline-overridable constants).
-use Rattle.std.specs.Prelude.{ℕ, Bool, true, false, Option, Some, None, List, slice_get, unwrap_or}
+use Rattle.std.specs.Prelude.{ℕ, Bool, true, false, Option, List, slice_get, unwrap_or}
 use Rattle.std.specs.List.{position}
 use Rattle.std.specs.Option.{option_and_then, option_map}
 use Rattle.std.specs.Str.{bytes_eq}

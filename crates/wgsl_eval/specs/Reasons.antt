@@ -1,14 +1,11 @@
 -- Why there is no value: what needs floats, and what calls of builtin functions need.
-use Rattle.std.specs.Prelude.{Bool, true, false, ◌||◌, Option, Some, None}
+use Rattle.std.specs.Prelude.{Bool, true, false, ◌||◌}
 use Rattle.wgsl_functions.specs.declared.builtin.Builtin.{Builtin}
 use Rattle.wgsl_functions.specs.declared.builtin.Builtin.TheVariants as functions
 use Rattle.wgsl_rules.specs.Types as types
 use Rattle.wgsl_rules.specs.Types.{Ty, Fields, no_fields, field}
 use Rattle.wgsl_scalar.specs.declared.literal.LiteralInstance.{LiteralInstance}
 use Rattle.wgsl_scalar.specs.declared.literal.LiteralInstance.TheVariants as literals
-use Rattle.wgsl_source.specs.declared.names.Predeclared.{Predeclared}
-use Rattle.wgsl_source.specs.declared.names.Predeclared.TheVariants as named
-use Rattle.wgsl_source.specs.declared.names.Scalar.TheVariants as scalars
 use Rattle.wgsl_eval.specs.declared.answer.Need.{Need}
 use Rattle.wgsl_eval.specs.declared.answer.Need.TheVariants as needs
 

@@ -1,13 +1,13 @@
 //! Gives declarations their meanings (WGSL: value declarations; type aliases).
 
-ghost use Rattle.std.specs.Prelude.{◌≡◌, ◌≢◌, ◌<◌, ◌↔◌, IfOk, IfSome, IsSomeAnd, IsTrue, OnErr, OnOk, Some, slice_get, vec_len};
+ghost use Rattle.std.specs.Prelude.{◌≡◌, ◌≢◌, ◌<◌, ◌↔◌, IfOk, IfSome, IsSomeAnd, IsTrue, MatchBool, OnErr, OnOk, Some, slice_get, vec_len};
 ghost use Rattle.wgsl_rules.specs.Converted.{converted};
 ghost use Rattle.wgsl_rules.specs.Values.{IsStorable, type_of};
 ghost use Rattle.wgsl_scalar.specs.Literals.{literal_of};
 ghost use Rattle.wgsl_values.specs.View.{value_of};
-ghost use Rattle.wgsl_eval.specs.Answers.{AreAnswers, IsAnswer, IsNoType, IsSoundValue, IsValueWith, meaning_at};
+ghost use Rattle.wgsl_eval.specs.Answers.{AreAnswers, IsAnswer, IsFault, IsNoType, IsSoundValue, IsValueWith, meaning_at};
 ghost use Rattle.wgsl_eval.specs.Evaluation.{name_at};
-ghost use Rattle.wgsl_eval.specs.Meanings.{AreOthers, IsAlias, IsConcreteValue, IsConstant, IsDeclared, IsFoundAt, IsGivenValue, IsLimited, IsOverride, IsOverrideNamed, IsOwnValue, IsPlaced, IsSecond, IsTypedBy, told, with_all, with_faults, with_meaning};
+ghost use Rattle.wgsl_eval.specs.Meanings.{AreOthers, IsAlias, IsBesideType, IsConcreteValue, IsConstant, IsDeclared, IsFoundAt, IsGivenValue, IsLimited, IsOverride, IsOverrideNamed, IsOwnValue, IsPlaced, IsSecond, IsTypedBy, IsUnset, IsWithheld, is_first, told, with_all, with_faults, with_meaning};
 ghost use Rattle.wgsl_eval.specs.Messages.{faults_with};
 ghost use Rattle.wgsl_eval.specs.Evaluators.{setting_of};
 ghost use Rattle.wgsl_eval.specs.Structures.{AreFaultsBehind, behind_first};
@@ -148,12 +148,28 @@ impl Evaluator<'_> {
         ensures answer { IfOk result IsAnswer }
     {
         let answer = self.expression(value)?;
+        let Some(ty) = ty else {
+            return self.unready(value.token, answer);
+        };
         match answer {
-            Answer::Value(found) => match ty {
-                Some(ty) => self.typed(value.token, found, ty),
-                None => Ok(Answer::Value(found)),
-            },
+            Answer::Value(found) => self.typed(value.token, found, ty),
+            Answer::Skipped(skip) => self.beside_type(ty, Answer::Skipped(skip)),
             other => self.unready(value.token, other),
+        }
+    }
+
+    // The answer, where its type is one.
+    fn beside_type(&mut self, ty: Span, answer: Answer) -> Result<Answer, AllocError>
+        requires meanings { AreAnswers self.old.meanings.items }
+        requires answer { IsAnswer answer }
+        ensures keeps { setting_of self.new ≡ setting_of self.old }
+        ensures found { IfOk result (IsBesideType (setting_of self.old) ty answer) }
+        ensures answer { IfOk result IsAnswer }
+    {
+        let found = self.expression(ty)?;
+        match found {
+            Answer::Type(_) => Ok(answer),
+            other => self.no_type(ty.token, other),
         }
     }
 
@@ -172,7 +188,7 @@ impl Evaluator<'_> {
         }
     }
 
-    // The value of an override where no host gives another; in the first stage it has none.
+    // What an override is where no host gives it a value.
     fn changeable(
         &mut self,
         name: usize,
@@ -184,13 +200,48 @@ impl Evaluator<'_> {
         ensures found { IfOk result (IsOverride (setting_of self.old) ty value) }
         ensures answer { IfOk result IsAnswer }
     {
-        let Some(span) = value else {
-            return Ok(self.skipped(name, Need::Override));
-        };
-        if self.stage == ShaderStage::Const {
-            return Ok(self.skipped(name, Need::Override));
+        if let Some(value) = value {
+            let own = self.own_value(ty, value)?;
+            return Ok(self.withheld(name, own));
         }
-        self.own_value(ty, span)
+        match ty {
+            Some(ty) => self.unset(name, ty),
+            None => self.without_type(name),
+        }
+    }
+
+    // The own value of an override, which it has in no stage that comes before a host gives another.
+    fn withheld(&self, name: usize, own: Answer) -> Answer
+        requires { IsAnswer own }
+        ensures withheld { MatchBool (is_first self.now.stage) (IsWithheld own result) (result ≡ own) }
+        ensures answer { IsAnswer result }
+    {
+        if !is_first(self.stage) {
+            return own;
+        }
+        match own {
+            Answer::Wrong(message, guard) => Answer::Wrong(message, guard),
+            Answer::Faulty => Answer::Faulty,
+            _ => self.skipped(name, Need::Override),
+        }
+    }
+
+    // An override that has no value, of this type.
+    fn unset(&mut self, name: usize, ty: Span) -> Result<Answer, AllocError>
+        requires { AreAnswers self.old.meanings.items }
+        ensures keeps { setting_of self.new ≡ setting_of self.old }
+        ensures found { IfOk result (IsUnset (setting_of self.old) ty) }
+        ensures answer { IfOk result IsAnswer }
+    {
+        let skipped = self.skipped(name, Need::Override);
+        self.beside_type(ty, skipped)
+    }
+
+    fn without_type(&self, name: usize) -> Result<Answer, AllocError>
+        ensures fault { IfOk result IsFault }
+        ensures answer { IfOk result IsAnswer }
+    {
+        self.wrong_text(name, "an override needs a type or a value")
     }
 
     // The value of an override by itself.
@@ -242,7 +293,7 @@ impl Evaluator<'_> {
             return self.typed(name, Value::literal(given), ty);
         }
         let Some(span) = value else {
-            return Ok(self.skipped(name, Need::Override));
+            return self.without_type(name);
         };
         let own = self.own_value(None, span)?;
         match own {
@@ -322,6 +373,13 @@ impl Evaluator<'_> {
         }
         Ok(Answer::Type(of))
     }
+}
+
+// Whether a host has given no values yet.
+fn is_first(stage: ShaderStage) -> bool
+    ensures { result ≡ is_first stage }
+{
+    matches!(stage, ShaderStage::Const)
 }
 
 fn behind_first(mut faults: Vec<Message>) -> Vec<Message>

@@ -24,6 +24,7 @@ const floating: f32 = 1; // not evaluated: needs floats, `1`
 const of_floating = floating + 1; // not evaluated: needs floats, `floating`
 const not_type: early = 1; // error: this is no type
 const no_such: foo = 1; // error: nothing is named foo
+const no_such_either: foo = 1.5; // error: nothing is named foo
 alias Id = u32;
 alias Deep = array<Point, 2>;
 struct Point { x: i32, y: i32 }
@@ -41,6 +42,13 @@ const twice = 1; // AbstractInt = 1
 const twice = 2; // error: this name is there already
 override given = 3; // none
 override asked: u32; // none
+override of_given = given + 1; // none
+override of_floats: f32 = 1.5; // none
+override unknown_type: foo; // error: nothing is named foo
+override no_type: u32 == 1; // error: a type stands where a value belongs
+override unknown_value = missing; // error: nothing is named missing
+override not_unsigned: u32 = -1; // error: -1 is no u32
+override neither; // error: an override needs a type or a value
 const of_override = given + 1; // not evaluated: needs an override, `given`
 var<private> state: i32 = 1;
 const of_variable = state; // not evaluated: needs a variable, `state`

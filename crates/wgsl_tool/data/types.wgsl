@@ -63,7 +63,7 @@ override width = 4; // none
 var<workgroup> shared_row: array<f32, width>; // ok
 alias Doubled = array<u32, width * 2>; // ok
 const doubled = Doubled(); // not evaluated: needs an override, `Doubled`
-override below: u32 = -1; // none
+override below: u32 = -1; // error: -1 is no u32
 @group(0) @binding(0) var image: texture_2d<f32>; // ok
 var nearest: sampler; // ok
 const of_image = image; // not evaluated: needs a type without constants, `image`
