@@ -172,7 +172,7 @@ member-size (Some k) own n s is valid x e from =
     let le : n ≤ k = grind (arith, nat_tests) in
     omega arith
 
-by-attribute : (attribute own : Option ℕ) → option_or attribute own ≡ elim attribute [ None ↦ own | Some k ↦ Some k ]
+pub by-attribute : (attribute own : Option ℕ) → option_or attribute own ≡ elim attribute [ None ↦ own | Some k ↦ Some k ]
 by-attribute None own = refl
 by-attribute (Some k) own = refl
 
@@ -282,7 +282,7 @@ fixed-tail (struct name fs) h = fixed-last fs (Some 0) (and-both (have_fixed_nod
 fixed-tail (array t None) h = absurd (false≢true h)
 fixed-tail t h = refl
 
-runtime-stride : (t : Ty) (o : ℕ) → is_runtime_array t ≡ true → 0 < stride_of (tail_at o t)
+pub runtime-stride : (t : Ty) (o : ℕ) → is_runtime_array t ≡ true → 0 < stride_of (tail_at o t)
 runtime-stride (array t None) o h =
     let both = and-both (has_fixed_nodes t) (is_some (known_stride t)) h in
     let own = fixed-sized t both.0 in

@@ -1,6 +1,7 @@
 pub mod Added
 pub mod Alike
 pub mod Arrays
+pub mod Filled
 pub mod Fixed
 pub mod Growing
 pub mod Known
@@ -8,7 +9,11 @@ pub mod Led
 pub mod LengthsOf
 pub mod Members
 pub mod Parts
+pub mod Powers
 pub mod Renaming
 pub mod Rows
+pub mod Sound
 pub mod Texts
+pub mod Typed
+pub mod Unnamed
 pub mod Walk

@@ -18,6 +18,7 @@ use Rattle.wgsl_nodes.proofs.Known.{end_after-none, offset_after-none}
 use Rattle.wgsl_nodes.proofs.Fixed.{fixed-tail_at}
 use Rattle.wgsl_nodes.proofs.Arrays.{IsFixedPart}
 use Rattle.wgsl_nodes.proofs.Growing.{KeepsFrom, get-set, get-set-other, leads-kept, leads-lower}
+use Rattle.wgsl_nodes.proofs.Typed.{AreFilled, filled-each}
 
 -- ---- members
 
@@ -177,7 +178,7 @@ end-none : (ms : List Extent) → end_of_members None ms ≡ None
 end-none [] = refl
 end-none (m ∷ ms) = ap (λ (o : Option ℕ). end_of_members o ms) (end_after-none m) ∙ end-none ms
 
-runtime-none : (fs : Fields) → end_in_runtime_array None fs ≡ false
+pub runtime-none : (fs : Fields) → end_in_runtime_array None fs ≡ false
 runtime-none no_fields = refl
 runtime-none (field n t s a no_fields) = rw (offset_after-none (extent_in t s a)) (and-false (is_runtime_array t && (is_none s && is_align_valid a (align_of t))))
 runtime-none (field n t s a (field m u y k fs)) =
@@ -248,14 +249,14 @@ SaysStructure fs old now o = (name : List ℕ) → MatchOption o (has_nodes (str
 
 -- the structure of all members, each of a fixed size
 pub structure-made : (fs : Fields) (nodes old : List Node) (child count i end all : ℕ) (o : Option Node)
-    → AreMade fs no_fields nodes child (child + count) i end all → child ≡ length old → count ≡ members_in fs → length old ≤ length nodes → Keeps old nodes
+    → AreMade fs no_fields nodes child (child + count) i end all → child ≡ length old → count ≡ members_in fs → length old ≤ length nodes → Keeps old nodes → AreFilled old nodes child (child + count) i → count ≤ i
     → MatchOption o (with_both round_up (Some all) (Some end) ≡ None) (λ r. (with_both round_up (Some all) (Some end) ≡ Some r.size) × (r ≡ structure_node r.size all count child 0 0))
     → SaysStructure fs old nodes o
-structure-made fs nodes old child count i end all None made at counted longer kept h = λ name.
+structure-made fs nodes old child count i end all None made at counted longer kept filled past h = λ name.
     let size_is : size_of (struct name fs) ≡ None =
     ap (λ (a : Option ℕ). with_both round_up a (end_of_members (Some 0) (extents fs))) (sym made.align_is) ∙ ap (with_both round_up (Some all)) (sym made.end_is) ∙ h in
     rw (size_is, ← made.runtime) (ap (λ (b : Bool). b || false) (and-false (have_fixed_nodes fs)))
-structure-made fs nodes old child count i end all (Some r) made at counted longer kept h = λ name.
+structure-made fs nodes old child count i end all (Some r) made at counted longer kept filled past h = λ name.
     let t = struct name fs in
     let size_is : size_of t ≡ Some r.size =
     ap (λ (a : Option ℕ). with_both round_up a (end_of_members (Some 0) (extents fs))) (sym made.align_is) ∙ ap (with_both round_up (Some all)) (sym made.end_is) ∙ h.0 in
@@ -280,5 +281,7 @@ structure-made fs nodes old child count i end all (Some r) made at counted longe
       };
       longer = longer;
       kept = kept;
+      each = filled-each old nodes child (child + count) i filled at (omega arith);
+      children = let counted_so = filled.children in omega arith;
     } in
     subst (λ (x : Node). IsAdded old nodes x t) (sym h.1) node

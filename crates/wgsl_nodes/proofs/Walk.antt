@@ -22,6 +22,8 @@ use Rattle.wgsl_nodes.proofs.Known.{and-both}
 use Rattle.wgsl_nodes.proofs.Fixed.{fixed-sized, fixed-tail}
 use Rattle.wgsl_nodes.proofs.Arrays.{IsFixedPart, fixed-part, tail-not-fixed}
 use Rattle.wgsl_nodes.proofs.Added.{keeps-set, keeps-through}
+use Rattle.wgsl_nodes.proofs.Typed.{AreFilled, filled-each}
+use Rattle.wgsl_nodes.proofs.Filled.{filled-next}
 use Rattle.wgsl_nodes.proofs.Members.{first, fields-from, fields-past, members-counted, AgreesBut, AreMade, IsRefused, refused, other-refused, fixed-refused, runtime-refused, member-made, member-stands, agrees-before, SaysStructure, structure-made}
 
 -- the members from one on
@@ -44,14 +46,15 @@ pub record AreNext (ms : List StructMemberType) (i : ℕ) (first_nodes nodes : L
   pub made : AreMadeTo ms i nodes child end all
   pub longer : child + length ms ≤ length nodes
   pub kept : Keeps first_nodes nodes
+  pub filled : AreFilled first_nodes nodes child (child + length ms) i
 
 pub member-next : (ms : List StructMemberType) (i : ℕ) (m : StructMemberType) (before old grown now : List Node) (child end all : ℕ) (part : Node) (spot : Spot) (next : SoFar)
-    → i < length ms → m ≡ get_or ms i m → AreMadeTo ms i old child end all → child + length ms ≤ length old → Keeps before old → length before ≤ child
+    → i < length ms → m ≡ get_or ms i m → AreMadeTo ms i old child end all → child + length ms ≤ length old → Keeps before old → AreFilled before old child (child + length ms) i → length before ≤ child
     → IsAdded old grown part (type_view m.ty) → part.tail_stride ≡ 0 → IsSpot (Some end) m.align (Some part.align) spot
     → IsTrue (is_size_valid m.size (Some part.size)) × (with_both sum_of (Some spot.offset) (option_or m.size (Some part.size)) ≡ Some next.end) × (next.align ≡ max all spot.align)
     → now ≡ slice_set grown (child + i) (record part { offset = spot.offset })
     → AreNext ms (i + 1) before now child next.end next.align
-member-next ms i m before old grown now child end all part spot next h e made longer kept le added no_tail is with set =
+member-next ms i m before old grown now child end all part spot next h e made longer kept filled le added no_tail is with set =
     let placed = record part { offset = spot.offset } in
     let fixed = fixed-part (type_view m.ty) part added.host added.describes.says no_tail in
     let here = with-member ms i m old child end all h e made in
@@ -62,6 +65,7 @@ member-next ms i m before old grown now child end all part spot next h e made lo
       made = rw (set, with.2) behind;
       longer = rw set (omega (arith, length-set grown (child + i) placed));
       kept = rw set (keeps-set before grown (child + i) placed (omega arith) (keeps-through before old grown kept added.kept));
+      filled = rw set (filled-next before old grown child (child + length ms) i spot.offset part (type_view m.ty) filled (omega arith) longer added);
     }
 
 -- ---- no member more
@@ -157,11 +161,11 @@ no-next ms i m old grown child end all part spot h e made added no_tail is none 
 -- a last member that is one
 ended : (fs : Fields) (n : List ℕ) (u : Ty) (a : Option ℕ) (before old grown now : List Node) (child count low i end all o far : ℕ) (part : Node) (name : List ℕ)
     → AreMade fs (field n (array u None) None a no_fields) old child low i end all
-    → low ≤ length old → child + i < low → low ≡ child + count → count ≡ members_in fs → child ≡ length before → Keeps before old → IsAdded old grown part (array u None)
+    → low ≤ length old → child + i < low → low ≡ child + count → count ≡ members_in fs → child ≡ length before → Keeps before old → AreFilled before old child low i → low ≤ child + (i + 1) → IsAdded old grown part (array u None)
     → is_runtime_array (array u None) ≡ true → is_align_valid a (Some part.align) ≡ true → option_or a (Some part.align) ≡ Some far → with_both round_up (option_or a (Some part.align)) (Some end) ≡ Some o
     → now ≡ slice_set grown (child + i) (record part { offset = o })
     → IsAdded before now (structure_node o (max all far) count child o part.tail_stride) (struct name fs)
-ended fs n u a before old grown now child count low i end all o far part name made le lt low_is counted at kept added runtime valid far_is offset set =
+ended fs n u a before old grown now child count low i end all o far part name made le lt low_is counted at kept filled all_filled added runtime valid far_is offset set =
     let t = array u None in
     let extent = extent_in t None a in
     let aligned = runtime-aligned t part added.describes.says runtime in
@@ -176,6 +180,7 @@ ended fs n u a before old grown now child count low i end all o far part name ma
     let stands = member-stands old grown (slice_set grown (child + i) placed) (child + i) low o t part le lt added refl_agrees in
     let all_of = made.stand (slice_set grown (child + i) placed) (agrees-before old grown (slice_set grown (child + i) placed) (child + i) low placed lt added.kept refl_agrees)
     (subst (λ (x : ℕ). Stands (slice_set grown (child + i) placed) (child + i) x t (λ c. LeadsTo (slice_set grown (child + i) placed) low c t)) (sym (ap amount offset_is)) stands, tt) in
+    let behind = filled-next before old grown child low i o part t filled lt le added in
     let host : end_in_runtime_array (Some 0) fs ≡ true = sym made.runtime ∙ rw (runtime, aligned, valid, offset) refl in
     rw set (record {
       host = rw host (or-true (has_fixed_nodes (struct name fs)));
@@ -195,6 +200,8 @@ ended fs n u a before old grown now child count low i end all o far part name ma
       };
       longer = omega (arith, length-set grown (child + i) placed);
       kept = keeps-set before grown (child + i) placed (omega arith) (keeps-through before old grown kept added.kept);
+      each = filled-each before (slice_set grown (child + i) placed) child low (i + 1) behind at all_filled;
+      children = let counted_so = behind.children in omega arith;
     })
   where
     or-true : (b : Bool) → (b || true) ≡ true
@@ -211,27 +218,27 @@ Ends fs before now name o = MatchOption o (has_nodes (struct name fs) ≡ false)
 -- what is answered where a member has no fixed size: a structure, if it is the last and a runtime-sized array
 ended-says : (fs : Fields) (n : List ℕ) (t : Ty) (s a : Option ℕ) (rest : Fields) (before old grown now : List Node) (child count low i end all : ℕ) (part : Node) (spot : Spot) (last : Bool) (o : Option Node) (name : List ℕ)
     → AreMade fs (field n t s a rest) old child low i end all
-    → low ≤ length old → child + i < low → low ≡ child + count → count ≡ members_in fs → child ≡ length before → Keeps before old → IsAdded old grown part t → has_fixed_nodes t ≡ false
+    → low ≤ length old → child + i < low → low ≡ child + count → count ≡ members_in fs → child ≡ length before → Keeps before old → AreFilled before old child low i → (last ≡ true → low ≤ child + (i + 1)) → IsAdded old grown part t → has_fixed_nodes t ≡ false
     → IsSpot (Some end) a (Some part.align) spot → now ≡ slice_set grown (child + i) (record part { offset = spot.offset }) → last ≡ have_none rest
     → o ≡ (if (last && is_none s) && part.sort == 3 then Some (structure_node spot.offset (max all spot.align) count child spot.offset part.tail_stride) else None)
     → Ends fs before now name o
-ended-says fs n (array u None) None a no_fields before old grown now child count low i end all part spot last o name made le lt low_is counted at kept added fixed is set last_is answer =
+ended-says fs n (array u None) None a no_fields before old grown now child count low i end all part spot last o name made le lt low_is counted at kept filled all_filled added fixed is set last_is answer =
     let node = structure_node spot.offset (max all spot.align) count child spot.offset part.tail_stride in
     let some : o ≡ Some node = answer ∙ rw (last_is, added.describes.says.sort) refl in
     subst (λ (x : Option Node). Ends fs before now name x) (sym some)
-    (ended fs n u a before old grown now child count low i end all spot.offset spot.align part name made le lt low_is counted at kept added added.host is.valid is.align_is is.offset_is set)
-ended-says fs n (array u None) None a (field m w y k gs) before old grown now child count low i end all part spot last o name made le lt low_is counted at kept added fixed is set last_is answer =
+    (ended fs n u a before old grown now child count low i end all spot.offset spot.align part name made le lt low_is counted at kept filled (all_filled last_is) added added.host is.valid is.align_is is.offset_is set)
+ended-says fs n (array u None) None a (field m w y k gs) before old grown now child count low i end all part spot last o name made le lt low_is counted at kept filled all_filled added fixed is set last_is answer =
     let none : o ≡ None = answer ∙ rw last_is refl in
     subst (λ (x : Option Node). Ends fs before now name x) (sym none)
     (refused name fs _ old child low i end all made (other-refused n (array u None) None a (field m w y k gs) end fixed (and-false (is_runtime_array (array u None)))))
-ended-says fs n (array u None) (Some z) a rest before old grown now child count low i end all part spot last o name made le lt low_is counted at kept added fixed is set last_is answer =
+ended-says fs n (array u None) (Some z) a rest before old grown now child count low i end all part spot last o name made le lt low_is counted at kept filled all_filled added fixed is set last_is answer =
     let none : o ≡ None = answer ∙ rw (and-false last) refl in
     subst (λ (x : Option Node). Ends fs before now name x) (sym none)
     (refused name fs _ old child low i end all made (other-refused n (array u None) (Some z) a rest end fixed (and-false (is_runtime_array (array u None)))))
-ended-says fs n (array u (Some k)) s a rest before old grown now child count low i end all part spot last o name made le lt low_is counted at kept added fixed is set last_is answer =
+ended-says fs n (array u (Some k)) s a rest before old grown now child count low i end all part spot last o name made le lt low_is counted at kept filled all_filled added fixed is set last_is answer =
     let host : (has_fixed_nodes (array u (Some k)) || false) ≡ true = added.host in
     absurd (false≢true (sym (ap (λ (b : Bool). b || false) fixed) ∙ host))
-ended-says fs n t s a rest before old grown now child count low i end all part spot last o name made le lt low_is counted at kept added fixed is set last_is answer =
+ended-says fs n t s a rest before old grown now child count low i end all part spot last o name made le lt low_is counted at kept filled all_filled added fixed is set last_is answer =
     let none : o ≡ None = answer ∙ rw (added.describes.says.sort, and-false (last && is_none s)) refl in
     subst (λ (x : Option Node). Ends fs before now name x) (sym none) (refused name fs _ old child low i end all made (other-refused n t s a rest end fixed refl))
 
@@ -256,27 +263,28 @@ last-is ms i h = by (nat_lt (i + 1) (length ms)) refl
         is-same (i + 1) (length ms) (omega arith) ∙ sym (ap have_none (fields-past ms (i + 1) le))
 
 pub tail-says : (ms : List StructMemberType) (i : ℕ) (m : StructMemberType) (before old grown now : List Node) (child first_child count end all : ℕ) (part : Node) (spot : Spot) (tail : Bool) (o : Option Node)
-    → i < length ms → m ≡ get_or ms i m → AreMadeTo ms i old child end all → child + length ms ≤ length old → Keeps before old → child ≡ length before → first_child ≡ child → count ≡ length ms
+    → i < length ms → m ≡ get_or ms i m → AreMadeTo ms i old child end all → child + length ms ≤ length old → Keeps before old → AreFilled before old child (child + length ms) i → child ≡ length before → first_child ≡ child → count ≡ length ms
     → IsAdded old grown part (type_view m.ty) → (part.tail_stride ≡ 0 → ⊥) → IsSpot (Some end) m.align (Some part.align) spot
     → now ≡ slice_set grown (child + i) (record part { offset = spot.offset }) → tail ≡ (nat_eq (i + 1) (length ms) && is_none m.size)
     → o ≡ (if tail && part.sort == 3 then Some (structure_node spot.offset (max all spot.align) count first_child spot.offset part.tail_stride) else None)
     → SaysStructure (members_view ms) before now o
-tail-says ms i m before old grown now child first_child count end all part spot tail o h e made longer kept at first_is counted added some is set tail_is answer = λ name.
+tail-says ms i m before old grown now child first_child count end all part spot tail o h e made longer kept filled at first_is counted added some is set tail_is answer = λ name.
     let last = nat_eq (i + 1) (length ms) in
     let fixed = tail-not-fixed (type_view m.ty) part added.describes.says some in
     let answers : o ≡ (if (last && is_none m.size) && part.sort == 3 then Some (structure_node spot.offset (max all spot.align) count child spot.offset part.tail_stride) else None) =
     answer ∙ ap (λ (b : Bool). if b && part.sort == 3 then Some (structure_node spot.offset (max all spot.align) count first_child spot.offset part.tail_stride) else None) tail_is
     ∙ ap (λ (k : ℕ). if (last && is_none m.size) && part.sort == 3 then Some (structure_node spot.offset (max all spot.align) count k spot.offset part.tail_stride) else None) first_is in
     ended-says (members_view ms) (string_bytes m.name) (type_view m.ty) m.size m.align (members_view (drop (i + 1) ms)) before old grown now child count (child + length ms) i end all part spot last o name
-    (with-member ms i m old child end all h e made) longer (omega arith) (ap (λ (k : ℕ). child + k) (sym counted)) (counted ∙ sym (members-counted ms)) at kept added fixed is set (last-is ms i h) answers
+    (with-member ms i m old child end all h e made) longer (omega arith) (ap (λ (k : ℕ). child + k) (sym counted)) (counted ∙ sym (members-counted ms)) at kept filled (λ (is_last : last ≡ true). let end_is : i + 1 ≡ length ms = grind (arith, nat_tests) in omega arith) added fixed is set (last-is ms i h) answers
 
 pub structure-says : (ms : List StructMemberType) (i : ℕ) (before old : List Node) (child first_child count end all : ℕ) (o : Option Node)
-    → length ms ≤ i → AreMadeTo ms i old child end all → child + length ms ≤ length old → Keeps before old → child ≡ length before → first_child ≡ child → count ≡ length ms
+    → length ms ≤ i → AreMadeTo ms i old child end all → child + length ms ≤ length old → Keeps before old → AreFilled before old child (child + length ms) i → child ≡ length before → first_child ≡ child → count ≡ length ms
     → MatchOption o (with_both round_up (Some all) (Some end) ≡ None) (λ r. (with_both round_up (Some all) (Some end) ≡ Some r.size) × (r ≡ structure_node r.size all count first_child 0 0))
     → SaysStructure (members_view ms) before old o
-structure-says ms i before old child first_child count end all o past made longer kept at first_is counted answer =
+structure-says ms i before old child first_child count end all o past made longer kept filled at first_is counted answer =
     let none = fields-past ms i past in
     let all_made = subst (λ (fs : Fields). AreMade (members_view ms) fs old child (child + length ms) i end all) none made in
     let by_count = subst (λ (k : ℕ). AreMade (members_view ms) no_fields old child (child + k) i end all) (sym counted) all_made in
+    let filled_count = subst (λ (k : ℕ). AreFilled before old child (child + k) i) (sym counted) filled in
     let by_child = subst (λ (k : ℕ). MatchOption o (with_both round_up (Some all) (Some end) ≡ None) (λ r. (with_both round_up (Some all) (Some end) ≡ Some r.size) × (r ≡ structure_node r.size all count k 0 0))) first_is answer in
-    structure-made (members_view ms) old before child count i end all o by_count at (counted ∙ sym (members-counted ms)) (omega arith) kept by_child
+    structure-made (members_view ms) old before child count i end all o by_count at (counted ∙ sym (members-counted ms)) (omega arith) kept filled_count (omega arith) by_child

@@ -1,11 +1,12 @@
 -- What the making of a table adds to it, for the contracts of the code that makes it.
-use Rattle.std.specs.Prelude.{◌≡◌, ℕ, ◌≤◌, ◌*◌, Option, Some, List, slice_get, length, Bool, IsTrue, is_some, ◌&&◌}
+use Rattle.std.specs.Prelude.{◌≡◌, ℕ, ◌+◌, ◌<◌, ◌≤◌, ◌*◌, Option, Some, List, slice_get, length, sum_by, Bool, IsTrue, is_some, ◌&&◌}
 use Rattle.std.specs.Option.{option_or}
 use Rattle.wgsl_rules.specs.Types.{Ty, array}
 use Rattle.wgsl_rules.specs.Size.{with_both, round_up}
 use Rattle.wgsl_rules.specs.Layout.{is_align_valid}
 use Rattle.wgsl_nodes.specs.HostTypes.{has_nodes}
-use Rattle.wgsl_nodes.specs.Nodes.{Says, Describes}
+use Rattle.wgsl_nodes.specs.Nodes.{Says, Describes, IsNodeOf}
+use Rattle.wgsl_nodes.specs.Tables.{children_counted}
 use Rattle.wgsl_nodes.specs.declared.nodes.Node.{Node}
 use Rattle.wgsl_nodes.specs.declared.make.Spot.{Spot}
 
@@ -27,6 +28,10 @@ plain_node sort kind size align count stride child start tail = record {
   name_start = 0;
   name_end = 0;
 }
+
+-- of a place that is kept for a record
+abbrev pub empty_node : Node
+empty_node = plain_node 0 0 0 0 0 0 0 0 0
 
 abbrev pub number_node : ℕ → ℕ → Node
 number_node kind bytes = plain_node 0 kind bytes bytes 0 0 0 0 0
@@ -71,10 +76,19 @@ pub record IsSpot (from attribute align : Option ℕ) (s : Spot) : Type 0 where
 abbrev pub Keeps : List Node → List Node → Type 0
 Keeps old new = (k : ℕ) (r : Node) → slice_get old k ≡ Some r → slice_get new k ≡ Some r
 
--- the table has grown by what a record of the type leads to; the record itself has no offset yet
+-- the record of the number is of a type that has a table
+pub record IsTyped (nodes : List Node) (number : ℕ) : Type 0 where
+  pub ty : Ty
+  pub host : IsTrue (has_nodes ty)
+  pub is : IsNodeOf nodes number ty
+
+-- the table has grown by what a record of the type leads to, each record once as a child; the record itself has no
+-- offset yet
 pub record IsAdded (old new : List Node) (r : Node) (t : Ty) : Type 0 where
   pub host : IsTrue (has_nodes t)
   pub place : r.offset ≡ 0
   pub describes : Describes new (length old) r t
   pub longer : length old ≤ length new
   pub kept : Keeps old new
+  pub each : (number : ℕ) → length old ≤ number → number < length new → IsTyped new number
+  pub children : (sum_by children_counted new + children_counted r) + length old ≡ sum_by children_counted old + length new

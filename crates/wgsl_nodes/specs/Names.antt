@@ -2,6 +2,7 @@
 use Rattle.std.specs.Prelude.{◌≡◌, ℕ, List, option_map, slice_get}
 use Rattle.wgsl_rules.specs.Types.{Ty}
 use Rattle.wgsl_nodes.specs.Nodes.{IsNodeOf}
+use Rattle.wgsl_nodes.specs.Tables.{IsTable}
 use Rattle.wgsl_nodes.specs.declared.nodes.Node.{Node}
 
 abbrev pub unnamed : Node → Node
@@ -14,3 +15,7 @@ AreRenamed before after = (k : ℕ) → option_map unnamed (slice_get after k) �
 -- a table with other names is the layout of the same type
 abbrev pub NamesAreNoPart : Type 0
 NamesAreNoPart = (nodes now : List Node) (number : ℕ) (t : Ty) → AreRenamed nodes now → IsNodeOf nodes number t → IsNodeOf now number t
+
+-- a table with other names is a table
+abbrev pub NamesAreNoPartOfTables : Type 0
+NamesAreNoPartOfTables = (nodes now : List Node) → AreRenamed nodes now → IsTable nodes → IsTable now

@@ -4,6 +4,7 @@ ghost use Rattle.std.specs.Prelude.{
   ◌≡◌,
   ◌<◌,
   ◌+◌,
+  ◌++◌,
   ℕ,
   List,
   Some,
@@ -23,6 +24,7 @@ ghost use Rattle.std.specs.Prelude.{
   max,
   nat_le,
   nat_lt,
+  replicate,
   slice_get,
   slice_set,
   false,
@@ -44,13 +46,14 @@ ghost use Rattle.wgsl_nodes.specs.HostTypes.{
 };
 ghost use Rattle.wgsl_nodes.specs.Names.{AreRenamed};
 ghost use Rattle.wgsl_nodes.specs.Nodes.{IsNodeOf, Says};
+ghost use Rattle.wgsl_nodes.specs.Tables.{IsTable};
 ghost use Rattle.wgsl_nodes.specs.Making.{
   IsAdded,
   IsArrayOf,
   IsNumberOf,
   IsSpot,
-  Keeps,
   array_node,
+  empty_node,
   has_spot,
   number_node,
   structure_node,
@@ -68,7 +71,7 @@ use wgsl_rules::{StructMemberType, StructType, Type};
 /// to 4,095 within a stack of 8 MiB.
 pub fn nodes_of(alloc: Global, ty: &Type) -> Result<Option<Vec<Node>>, AllocError>
     ensures { let t = type_view ty.now in
-        IfOk result (λ made. MatchOption made (has_nodes t ≡ false) (λ nodes. IsTrue (has_nodes t) × IsNodeOf nodes.items 0 t × (length nodes.items < 2 ^ 32))) }
+        IfOk result (λ made. MatchOption made (has_nodes t ≡ false) (λ nodes. IsTrue (has_nodes t) × IsNodeOf nodes.items 0 t × (length nodes.items < 2 ^ 32) × IsTable nodes.items)) }
 {
     let mut nodes = Vec::new(alloc);
     nodes.push(Node::EMPTY)?;
@@ -246,7 +249,7 @@ fn put(nodes: &mut Vec<Node>, number: usize, node: Node)
 
 // Room for the records of so many members.
 fn reserve(nodes: &mut Vec<Node>, count: usize) -> Result<(), AllocError>
-    ensures { IfOk result (λ _. Keeps nodes.old.items nodes.new.items × (vec_len nodes.new ≡ vec_len nodes.old + count)) }
+    ensures { IfOk result (λ _. nodes.new.items ≡ nodes.old.items ++ replicate count empty_node) }
 {
     for _ in 0..count {
         nodes.push(Node::EMPTY)?;

@@ -181,10 +181,12 @@ fn fits_in(width: usize, bits: u64) -> bool
 fn read(bytes: &[u8], at: usize, width: usize) -> Option<u64>
     ensures { result ≡ number_in bytes.now at width }
 {
-    if is_width(width) && is_inside(bytes.len(), at, width) {
-        Some(number_at(bytes, at, width))
-    } else {
-        None
+    // For each width alone, so that it is told apart once.
+    match width {
+        4 if is_inside(bytes.len(), at, 4) => Some(number_at(bytes, at, 4)),
+        8 if is_inside(bytes.len(), at, 8) => Some(number_at(bytes, at, 8)),
+        2 if is_inside(bytes.len(), at, 2) => Some(number_at(bytes, at, 2)),
+        _ => None,
     }
 }
 
@@ -193,10 +195,12 @@ fn write(bytes: &mut [u8], at: usize, width: usize, bits: u64) -> bool
     ensures answer { result ≡ is_some (stored_in bytes.old at width bits) }
     ensures bytes { bytes.new ≡ unwrap_or (stored_in bytes.old at width bits) bytes.old }
 {
-    if !is_width(width) || !is_inside(bytes.len(), at, width) || !fits_in(width, bits) {
-        return false;
+    match width {
+        4 if is_inside(bytes.len(), at, 4) && fits_in(4, bits) => put_number(bytes, at, 4, bits),
+        8 if is_inside(bytes.len(), at, 8) => put_number(bytes, at, 8, bits),
+        2 if is_inside(bytes.len(), at, 2) && fits_in(2, bits) => put_number(bytes, at, 2, bits),
+        _ => return false,
     }
-    put_number(bytes, at, width, bits);
     true
 }
 

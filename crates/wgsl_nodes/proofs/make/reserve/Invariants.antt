@@ -1,9 +1,6 @@
-use Rattle.std.proofs.Common.{◌≡◌, ◌+◌, vec_len}
-use Rattle.wgsl_nodes.proofs.Growing.{KeepsFrom}
+use Rattle.std.proofs.Common.{◌≡◌, ◌++◌, replicate}
+use Rattle.wgsl_nodes.specs.Making.{empty_node}
 use Rattle.wgsl_nodes.proofs.make.reserve.Given as goal
 
 abbrev pub invariant-loop : goal.invariant-loop
-invariant-loop l = record {
-  kept : KeepsFrom 0 l.initial.nodes.items l.nodes.items;
-  longer : vec_len l.nodes ≡ vec_len l.initial.nodes + l.counter;
-}
+invariant-loop l = l.nodes.items ≡ l.initial.nodes.items ++ replicate l.counter empty_node
