@@ -2,18 +2,24 @@
 use Rattle.std.specs.Prelude.{ℕ, ◌+◌, ◌^◌, ◌≤◌, List, [], ◌≡◌, ◌⊎◌, Option, Some, None, IfSome, MatchOption}
 use Rattle.wgsl_rules.specs.Types.{Ty}
 use Rattle.wgsl_nodes.specs.Compare.{AreSame, IsFirstDifference}
-use Rattle.wgsl_nodes.specs.Nodes.{IsNodeOf}
 use Rattle.wgsl_nodes.specs.Paths.{IsLed}
 use Rattle.wgsl_nodes.specs.Places.{IsPartAlong, IsPartAt, Part}
 use Rattle.wgsl_nodes.specs.declared.compare.Difference.{Difference}
 use Rattle.wgsl_nodes.specs.declared.nodes.Node.{Node}
 use Rattle.wgsl_nodes.specs.declared.places.Place.{Place}
+use Rattle.wgsl_eval.specs.declared.settings.Settings.{Settings}
+use Rattle.wgsl_report.specs.Records.{IsLayoutOf, IsTypeOf}
+use Rattle.wgsl_c.specs.Asked.{AreSettings}
 use Rattle.wgsl_c.specs.declared.nodes.Number.{Number}
 use Rattle.wgsl_c.specs.declared.nodes.TheConstants.{NOWHERE}
 
--- those of a type, or none where it has a fault
-abbrev pub AreRecords : List Node → Type 0
-AreRecords nodes = (nodes ≡ []) ⊎ ((t : Ty) × IsNodeOf nodes 0 t)
+-- those of the type that a text is in the module of a source, by the settings of these numbers
+abbrev pub IsTableOf : List ℕ → List ℕ → ℕ → ℕ → List Node → Type 0
+IsTableOf source text stage flags nodes = (settings : Settings) × AreSettings stage flags settings × ((t : Ty) × IsTypeOf source text settings t × IsLayoutOf t nodes)
+
+-- the same, or none where the type has a fault
+abbrev pub AreRecords : List ℕ → List ℕ → ℕ → ℕ → List Node → Type 0
+AreRecords source text stage flags nodes = (nodes ≡ []) ⊎ IsTableOf source text stage flags nodes
 
 -- a number, where there is one
 abbrev pub number_or_none : Option ℕ → Number

@@ -2,9 +2,7 @@
 
 ghost use Rattle.std.specs.Prelude.{◌≡◌, ◌<◌, ◌≤◌, IfOk, IfSome, string_bytes};
 ghost use Rattle.wgsl_c.specs.Answers.{IsAnswer, TellsNumbers};
-ghost use Rattle.wgsl_c.specs.Expressions.{IsTypeText, IsValueText, AreBytes};
-ghost use Rattle.wgsl_rules.specs.Values.{IsWellFormed};
-ghost use Rattle.wgsl_values.specs.View.{value_of};
+ghost use Rattle.wgsl_c.specs.Expressions.{IsTypeText, IsValueText, IsWorth, AreBytes};
 
 use crate::answer::{Answer, Refusal, Stop, given};
 use crate::asked::{settings_of, text_of, values_in};
@@ -18,8 +16,8 @@ use wgsl_values::Instance;
 /// An expression and its module, by texts and numbers.
 #[derive(Clone, Copy)]
 struct Asked<'a> {
-    module: &'a [u8],
-    expression: &'a [u8],
+    source: &'a [u8],
+    text: &'a [u8],
     defines: &'a [u8],
     stage: u32,
     flags: u32,
@@ -43,12 +41,12 @@ pub extern "C" fn wgsl_expression_type(
     flags: u32,
     out: &mut [u8],
 ) -> Answer
-    ensures answer { IsAnswer IsTypeText result out.old out.new }
+    ensures answer { IsAnswer (IsTypeText «module».now expression.now stage flags) result out.old out.new }
     ensures numbers { TellsNumbers stage flags 4 result }
 {
     let asked = Asked {
-        module,
-        expression,
+        source: module,
+        text: expression,
         defines,
         stage,
         flags,
@@ -70,12 +68,12 @@ pub extern "C" fn wgsl_expression_value(
     flags: u32,
     out: &mut [u8],
 ) -> Answer
-    ensures answer { IsAnswer IsValueText result out.old out.new }
+    ensures answer { IsAnswer (IsValueText «module».now expression.now stage flags) result out.old out.new }
     ensures numbers { TellsNumbers stage flags 4 result }
 {
     let asked = Asked {
-        module,
-        expression,
+        source: module,
+        text: expression,
         defines,
         stage,
         flags,
@@ -97,12 +95,12 @@ pub extern "C" fn wgsl_expression_bytes(
     flags: u32,
     out: &mut [u8],
 ) -> Answer
-    ensures answer { IsAnswer AreBytes result out.old out.new }
+    ensures answer { IsAnswer (AreBytes «module».now expression.now stage flags) result out.old out.new }
     ensures numbers { TellsNumbers stage flags 4 result }
 {
     let asked = Asked {
-        module,
-        expression,
+        source: module,
+        text: expression,
         defines,
         stage,
         flags,
@@ -117,7 +115,7 @@ pub extern "C" fn wgsl_expression_bytes(
 fn type_text(alloc: Global, asked: Asked<'_>) -> Result<(String, usize), Stop>
     ensures stage { 3 ≤ asked.entry.stage → result ≡ Err (Stop.Misuse 4) }
     ensures flags { asked.entry.stage < 3 → 4 ≤ asked.entry.flags → result ≡ Err (Stop.Misuse 5) }
-    ensures found { IfOk result (λ found. IsTypeText (string_bytes found.0)) }
+    ensures found { IfOk result (λ found. IsTypeText asked.entry.source.now asked.entry.text.now asked.entry.stage asked.entry.flags (string_bytes found.0)) }
 {
     let Worth { value, faults } = worth_of(alloc, asked)?;
     let Some(value) = value else {
@@ -130,7 +128,7 @@ fn type_text(alloc: Global, asked: Asked<'_>) -> Result<(String, usize), Stop>
 fn value_text(alloc: Global, asked: Asked<'_>) -> Result<(String, usize), Stop>
     ensures stage { 3 ≤ asked.entry.stage → result ≡ Err (Stop.Misuse 4) }
     ensures flags { asked.entry.stage < 3 → 4 ≤ asked.entry.flags → result ≡ Err (Stop.Misuse 5) }
-    ensures found { IfOk result (λ found. IsValueText (string_bytes found.0)) }
+    ensures found { IfOk result (λ found. IsValueText asked.entry.source.now asked.entry.text.now asked.entry.stage asked.entry.flags (string_bytes found.0)) }
 {
     let Worth { value, faults } = worth_of(alloc, asked)?;
     let Some(value) = value else {
@@ -143,7 +141,7 @@ fn value_text(alloc: Global, asked: Asked<'_>) -> Result<(String, usize), Stop>
 fn value_bytes(alloc: Global, asked: Asked<'_>) -> Result<(Vec<u8>, usize), Stop>
     ensures stage { 3 ≤ asked.entry.stage → result ≡ Err (Stop.Misuse 4) }
     ensures flags { asked.entry.stage < 3 → 4 ≤ asked.entry.flags → result ≡ Err (Stop.Misuse 5) }
-    ensures found { IfOk result (λ found. AreBytes found.0.items) }
+    ensures found { IfOk result (λ found. AreBytes asked.entry.source.now asked.entry.text.now asked.entry.stage asked.entry.flags found.0.items) }
 {
     let Worth { value, faults } = worth_of(alloc, asked)?;
     let Some(value) = value else {
@@ -159,11 +157,11 @@ fn value_bytes(alloc: Global, asked: Asked<'_>) -> Result<(Vec<u8>, usize), Stop
 fn worth_of(alloc: Global, asked: Asked<'_>) -> Result<Worth, Stop>
     ensures stage { 3 ≤ asked.entry.stage → result ≡ Err (Stop.Misuse 4) }
     ensures flags { asked.entry.stage < 3 → 4 ≤ asked.entry.flags → result ≡ Err (Stop.Misuse 5) }
-    ensures worth { IfOk result (λ worth. IfSome worth.value (λ v. IsWellFormed (value_of v))) }
+    ensures worth { IfOk result (λ worth. IfSome worth.value (IsWorth asked.entry.source.now asked.entry.text.now asked.entry.stage asked.entry.flags)) }
 {
     let settings = settings_of(asked.stage, asked.flags, 4)?;
-    let module = text_of(asked.module, 1)?;
-    let expression = text_of(asked.expression, 2)?;
+    let module = text_of(asked.source, 1)?;
+    let expression = text_of(asked.text, 2)?;
     let defined = values_in(alloc, text_of(asked.defines, 3)?, settings, 3)?;
     let Found { outcome, faults } = outcome_in_scope(
         alloc, module, expression, settings, &defined,

@@ -9,9 +9,11 @@ ghost use Rattle.std.specs.Prelude.{
   ◌↔◌,
   IsTrue,
   IfOk,
+  List,
   MatchOption,
   None,
   ⊤,
+  ℕ,
   is_some,
   length,
   option_and_then,
@@ -35,6 +37,7 @@ ghost use Rattle.wgsl_c.specs.Records.{
   IsFoundAlong,
   IsFoundAt,
   IsLengthOf,
+  IsTableOf,
   LeadsTo,
   number_or_none,
   place_or_nowhere,
@@ -72,41 +75,25 @@ pub extern "C" fn wgsl_layout(
     flags: u32,
     out: &mut [Node],
 ) -> Answer
-    ensures answer { IsAnswer AreRecords result out.old out.new }
+    ensures answer { IsAnswer (AreRecords source.now name.now stage flags) result out.old out.new }
     ensures stage { 3 ≤ stage → result ≡ misuse 4 }
     ensures flags { stage < 3 → 4 ≤ flags → result ≡ misuse 5 }
     ensures text { stage < 3 → flags < 4 → ¬ IsUtf8 source.now → result ≡ misuse 1 }
 {
-    match table_named(alloc, source, name, defines, stage, flags) {
-        Ok(records) => handed_out(&records, out),
-        Err(stop) => stop.answer(),
-    }
-}
-
-// Hands the records out; none, with a fault, where the type is faulty.
-fn handed_out(records: &Records, out: &mut [Node]) -> Answer
-    requires { MatchOption records.now.nodes ⊤ (λ nodes. (t : Ty) × IsNodeOf nodes.items 0 t) }
-    ensures { IsAnswer AreRecords result out.old out.new }
-{
+    let records = match table_named(alloc, source, name, defines, stage, flags) {
+        Ok(records) => records,
+        Err(stop) => return stop.answer(),
+    };
     match &records.nodes {
         Some(nodes) => given_records(nodes.as_slice(), records.faults, out),
-        None => given_none(records, out),
-    }
-}
-
-fn given_none(records: &Records, out: &mut [Node]) -> Answer
-    ensures { IsAnswer AreRecords result out.old out.new }
-{
-    if records.is_faulty {
-        given_records(&[], records.faults.max(1), out)
-    } else {
-        Stop::Refused(Refusal::NoLayout).answer()
+        None if records.is_faulty => given(&[], records.faults.max(1), out),
+        None => Stop::Refused(Refusal::NoLayout).answer(),
     }
 }
 
 fn given_records(nodes: &[Node], faults: usize, out: &mut [Node]) -> Answer
-    requires { AreRecords nodes.now }
-    ensures { IsAnswer AreRecords result out.old out.new }
+    ensures { (source : List ℕ) → (text : List ℕ) → (stage : ℕ) → (flags : ℕ) → AreRecords source text stage flags nodes.now →
+        IsAnswer (AreRecords source text stage flags) result out.old out.new }
 {
     given(nodes, faults, out)
 }
@@ -119,7 +106,7 @@ fn table_named(
     stage: u32,
     flags: u32,
 ) -> Result<Records, Stop>
-    ensures records { IfOk result (λ r. MatchOption r.nodes ⊤ (λ nodes. (t : Ty) × IsNodeOf nodes.items 0 t)) }
+    ensures records { IfOk result (λ r. MatchOption r.nodes ⊤ (λ nodes. IsTableOf source.now name.now stage flags nodes.items)) }
     ensures stage { 3 ≤ stage → result ≡ Err (Stop.Misuse 4) }
     ensures flags { stage < 3 → 4 ≤ flags → result ≡ Err (Stop.Misuse 5) }
     ensures text { stage < 3 → flags < 4 → ¬ IsUtf8 source.now → result ≡ Err (Stop.Misuse 1) }

@@ -2,6 +2,8 @@ pub mod Endings
 pub mod Faults
 pub mod Fields
 pub mod Kinds
+pub mod Records
 pub mod Rows
 pub mod Scalars
+pub mod Scopes
 pub mod Texts

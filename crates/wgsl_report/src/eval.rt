@@ -1,5 +1,8 @@
 //! What is printed of the constants of a source.
 
+ghost use Rattle.std.specs.Prelude.{◌≡◌, ℕ, List, IfOk, IfSome, string_bytes};
+ghost use Rattle.wgsl_report.specs.Scopes.{IsLastValue, IsOutcomeOf, with_constant};
+
 use crate::defines::{GivenValues, Values, values_for};
 use crate::finding::{Finding, fault_count, findings_of, sort};
 use crate::findings_json::Told;
@@ -203,7 +206,9 @@ pub fn outcome_in_scope(
     expression: &str,
     settings: Settings,
     defined: &GivenValues<'_>,
-) -> Result<Found, AllocError> {
+) -> Result<Found, AllocError>
+    ensures { IfOk result (λ f. IfSome f.outcome (IsOutcomeOf «module».now expression.now settings)) }
+{
     let form = Reading::of_expression(alloc, expression)?.faults().len();
     if form > 0 {
         return Ok(Found {
@@ -223,6 +228,18 @@ pub fn outcome_in_scope(
     Ok(Found { outcome, faults })
 }
 
+// What the last of the values is, if it is of the constant of this name.
+fn last_outcome(mut values: Vec<Evaluated>, reading: &Reading<'_>, name: &str) -> Option<Outcome>
+    ensures { IfSome result (IsLastValue reading.now name.now values.items) }
+{
+    let value = values.pop()?;
+    if reading.word(value.token) == name {
+        Some(value.outcome)
+    } else {
+        None
+    }
+}
+
 // The expression of which there is a constant behind the module.
 fn in_scope(
     alloc: Global,
@@ -230,7 +247,10 @@ fn in_scope(
     with: &WithConstant,
     settings: Settings,
     defined: &GivenValues<'_>,
-) -> Result<Scoped, AllocError> {
+) -> Result<Scoped, AllocError>
+    ensures { (text : List ℕ) → string_bytes with.now.text ≡ with_constant «module».now (string_bytes with.now.name) text →
+        IfOk result (λ s. IfSome s.outcome (IsOutcomeOf «module».now text settings)) }
+{
     let text = with.text.as_str();
     let reading = Reading::of_module(alloc, text)?;
     let Values {
@@ -245,12 +265,7 @@ fn in_scope(
     } = evaluate_with(alloc, &reading, settings, given)?;
     messages.append(&mut messages_of_numbers(alloc, text, &reading, settings, given)?)?;
     messages.append(&mut of_overrides)?;
-    let mut outcome = None;
-    for value in values {
-        if reading.word(value.token) == with.name.as_str() {
-            outcome = Some(value.outcome);
-        }
-    }
+    let outcome = last_outcome(values, &reading, with.name.as_str());
     if let Some(outcome) = &outcome {
         add_skipped(alloc, &mut messages, text, outcome, settings.is_strict)?;
     }

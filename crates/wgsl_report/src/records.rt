@@ -1,9 +1,11 @@
 //! The layout of a type as records, of a type by its name or as a source may write it.
 
-ghost use Rattle.std.specs.Prelude.{IfOk, MatchOption, ⊤};
+ghost use Rattle.std.specs.Prelude.{◌≡◌, IfOk, IfSome, MatchOption, string_bytes, ⊤};
 ghost use Rattle.wgsl_nodes.specs.Names.{AreRenamed};
-ghost use Rattle.wgsl_nodes.specs.Nodes.{IsNodeOf};
 ghost use Rattle.wgsl_rules.specs.Types.{Ty};
+ghost use Rattle.wgsl_rules.specs.View.{type_view};
+ghost use Rattle.wgsl_report.specs.Records.{AreNodesOf, IfType, IsLast, IsLayoutOf, IsOfName, IsTypeOf, IsVariable};
+ghost use Rattle.wgsl_report.specs.Scopes.{with_alias};
 
 use crate::defines::{GivenValues, Values, values_for};
 use crate::eval::is_expression;
@@ -53,7 +55,7 @@ pub fn records_of(
     settings: Settings,
     defined: &GivenValues<'_>,
 ) -> Result<Records, AllocError>
-    ensures { IfOk result (λ r. MatchOption r.nodes ⊤ (λ nodes. (t : Ty) × IsNodeOf nodes.items 0 t)) }
+    ensures { IfOk result (λ r. MatchOption r.nodes ⊤ (λ nodes. (t : Ty) × IsTypeOf «module».now ty.now settings t × IsLayoutOf t nodes.items)) }
 {
     if !is_expression(alloc, ty)? {
         return Ok(Records {
@@ -76,7 +78,7 @@ pub fn records_of(
     )?;
     let variable = variable_named(items.as_slice(), ty);
     let is_variable = variable.is_some();
-    let found = variable.unwrap_or_else(|| alias_named(items.as_slice(), name.as_str()));
+    let found = variable.unwrap_or(last_named(items.as_slice(), name.as_str()));
     let of_form = reading.faults().len();
     let of_values = faults_of(messages.as_slice(), is_variable, start);
     let faults = of_form
@@ -91,7 +93,7 @@ fn records_with_names(
     found: Found<'_>,
     faults: usize,
 ) -> Result<Records, AllocError>
-    ensures { IfOk result (λ r. MatchOption r.nodes ⊤ (λ nodes. (t : Ty) × IsNodeOf nodes.items 0 t)) }
+    ensures { IfOk result (λ r. MatchOption r.nodes ⊤ (λ nodes. AreNodesOf found.entry nodes.items)) }
 {
     let (nodes, is_faulty) = match found {
         Found::Type(ty) => (named_nodes(alloc, reading, ty)?, false),
@@ -111,7 +113,7 @@ fn named_nodes(
     reading: &Reading<'_>,
     ty: &Type,
 ) -> Result<Option<Vec<Node>>, AllocError>
-    ensures { IfOk result (λ made. MatchOption made ⊤ (λ nodes. (t : Ty) × IsNodeOf nodes.items 0 t)) }
+    ensures { IfOk result (λ made. MatchOption made ⊤ (λ nodes. IsLayoutOf (type_view ty.now) nodes.items)) }
 {
     let Some(mut nodes) = nodes_of(alloc, ty)? else {
         return Ok(None);
@@ -120,7 +122,9 @@ fn named_nodes(
     Ok(Some(nodes))
 }
 
-fn with_alias(alloc: Global, module: &str, ty: &str) -> Result<WithAlias, AllocError> {
+fn with_alias(alloc: Global, module: &str, ty: &str) -> Result<WithAlias, AllocError>
+    ensures { IfOk result (λ w. string_bytes w.text ≡ with_alias «module».now (string_bytes w.name) ty.now) }
+{
     let name = free_name(alloc, module)?;
     let mut text = String::from_str(alloc, module)?;
     write!(text, "\nalias {name} = ")?;
@@ -129,8 +133,10 @@ fn with_alias(alloc: Global, module: &str, ty: &str) -> Result<WithAlias, AllocE
     Ok(WithAlias { text, name, start })
 }
 
-// The type of the first variable of this name.
-fn variable_named<'a>(items: &'a [Item], name: &str) -> Option<Found<'a>> {
+// The type of the first declaration of this name, if that is a variable.
+fn variable_named<'a>(items: &'a [Item], name: &str) -> Option<Found<'a>>
+    ensures { IfSome result (λ found. IfType found (λ t. IsVariable name.now t items.now)) }
+{
     for item in items {
         if item.name.as_str() == name {
             return match &item.kind {
@@ -142,18 +148,25 @@ fn variable_named<'a>(items: &'a [Item], name: &str) -> Option<Found<'a>> {
     None
 }
 
-// What stands behind the alias of this name.
-fn alias_named<'a>(items: &'a [Item], name: &str) -> Found<'a> {
-    for item in items {
-        if item.name.as_str() == name {
-            return match &item.kind {
-                ItemKind::Struct(ty) | ItemKind::Alias(ty) => Found::Type(ty),
-                ItemKind::Skipped(_) => Found::Skipped,
-                ItemKind::Value(_) | ItemKind::Variable(_) | ItemKind::Faulty => Found::Faulty,
-            };
-        }
+// What the last declaration is, which has this name.
+fn last_named<'a>(items: &'a [Item], name: &str) -> Found<'a>
+    ensures { IfType result (λ t. IsLast name.now t items.now) }
+{
+    match items.last() {
+        Some(item) if item.name.as_str() == name => named(item),
+        _ => Found::Faulty,
     }
-    Found::Faulty
+}
+
+// What stands behind a name of a type.
+fn named(item: &Item) -> Found<'_>
+    ensures { IfType result (λ t. IsOfName t item.now.kind) }
+{
+    match &item.kind {
+        ItemKind::Struct(ty) | ItemKind::Alias(ty) => Found::Type(ty),
+        ItemKind::Skipped(_) => Found::Skipped,
+        ItemKind::Value(_) | ItemKind::Variable(_) | ItemKind::Faulty => Found::Faulty,
+    }
 }
 
 // How many of the messages are faults, without those of the type where it is a variable's.

@@ -1,5 +1,8 @@
 //! An expression in the scope of a module: it is evaluated as a constant behind all that the module declares.
 
+ghost use Rattle.std.specs.Prelude.{◌≡◌, IfOk, string_bytes};
+ghost use Rattle.wgsl_report.specs.Scopes.{with_constant};
+
 use std::alloc::{AllocError, Global};
 use wgsl_eval::Message;
 
@@ -18,7 +21,9 @@ pub(crate) fn with_constant(
     alloc: Global,
     module: &str,
     expression: &str,
-) -> Result<WithConstant, AllocError> {
+) -> Result<WithConstant, AllocError>
+    ensures { IfOk result (λ w. string_bytes w.text ≡ with_constant «module».now (string_bytes w.name) expression.now) }
+{
     let name = free_name(alloc, module)?;
     let mut text = String::from_str(alloc, module)?;
     write!(text, "\nconst {name} = ")?;
