@@ -1,6 +1,6 @@
 /* Prints the layouts of a shader, and what is told of it:
  *
- *     cc -std=c11 example.c LIBWGSL_C.a LIBLIBC_C.a -o example
+ *     cc -std=c11 example.c -I FOLDER FOLDER/libwgsl.a -o example
  *     ./example ../../examples/particles.wgsl */
 #include "wgsl.h"
 

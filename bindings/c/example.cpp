@@ -1,4 +1,4 @@
-// The same in C++: c++ -std=c++17 places.cpp -I FOLDER FOLDER/libwgsl.a -o places && ./places
+// What places.c does, in C++: c++ -std=c++17 example.cpp -I FOLDER FOLDER/libwgsl.a -o example && ./example
 #include <array>
 #include <cstring>
 #include <iostream>
