@@ -1,5 +1,5 @@
 -- What a record more adds to a table.
-use Rattle.std.proofs.Common.{◌≡◌, ℕ, ◌+◌, ◌*◌, ◌<◌, ◌≤◌, ◌^◌, List, [], ◌∷◌, ◌++◌, length, slice_get, slice_set, Option, Some, None, true, false, IsTrue, refl, sym, ap, ◌∙◌, subst, arith, length-append, sum_by}
+use Rattle.std.proofs.Common.{◌≡◌, ℕ, ◌+◌, ◌*◌, ◌<◌, ◌≤◌, ◌^◌, List, [], ◌∷◌, ◌++◌, length, slice_get, slice_set, Option, Some, None, true, false, IsTrue, refl, sym, ap, ◌∙◌, subst, arith, append_assoc, length-append, sum_by}
 use Rattle.std.specs.Prelude.{IsSomeAnd, MatchOption}
 use Rattle.std.proofs.Math.ListN.{length-set}
 use Rattle.std.proofs.lemmas.Bool.{false≢true}
@@ -9,12 +9,14 @@ use Rattle.wgsl_rules.specs.Types as types
 use Rattle.wgsl_rules.specs.Types.{Ty, array, vec, mat}
 use Rattle.wgsl_rules.specs.Size.{size_of, align_of}
 use Rattle.wgsl_rules.specs.Layout.{amount, size, align, Tail, is_from_2_to_4}
+use Rattle.wgsl_nodes.specs.Canonical.{node_of, below, table}
 use Rattle.wgsl_nodes.specs.HostTypes.{has_nodes, is_scalar, is_number}
 use Rattle.wgsl_nodes.specs.Nodes.{Says, Stands, LeadsTo, IsNodeOf, sort_of, bytes_before}
 use Rattle.wgsl_nodes.specs.Tables.{IsTable, children_counted, is_sound_at, is_sound_if}
 use Rattle.wgsl_nodes.specs.Making.{Keeps, IsAdded, IsTyped, IsNumberOf, IsArrayOf, vector_node, plain_node}
 use Rattle.wgsl_nodes.specs.declared.nodes.Node.{Node}
 use Rattle.wgsl_nodes.proofs.Fixed.{scalar-is, vector-sized, vector-size, vector-fits}
+use Rattle.wgsl_nodes.proofs.Exact.{node-is, element-grown}
 use Rattle.wgsl_nodes.proofs.Growing.{KeepsFrom, get-append, get-pushed, get-set, get-set-other, keeps-later, leads-kept}
 use Rattle.wgsl_nodes.proofs.Sound.{scalar-sort, described-sound}
 use Rattle.wgsl_nodes.proofs.Typed.{typed-either, stands-typed, typed-kept, children-set, no-children, one-child}
@@ -131,6 +133,8 @@ component-added old n t part a count scalar is aligned = record {
       let is_last : length old ≡ k = omega (arith, length-append old (part ∷ [])) in
       component-typed (old ++ (part ∷ [])) k t part scalar is (subst (λ (m : ℕ). slice_get (old ++ (part ∷ [])) m ≡ Some part) is_last (get-pushed old part));
   children = omega (arith, length-append old (part ∷ []), sum_by_push children_counted old part, component-children t part scalar is);
+  exact = node-is (vector_node n part.size a (length old)) (vec n t) (length old) (vector-says n t part a (length old) count scalar is.says aligned) refl refl refl refl;
+  grown = ap (λ (x : Node). old ++ (x ∷ [])) is.exact;
 }
 
 -- ---- matrices
@@ -153,27 +157,30 @@ column-added old c r t part a s columns rows scalar is aligned sized =
       says = vector-says r t part a (length old + 1) rows scalar is.says aligned;
       leads = (omega arith, component-stands two (length old + 1) t part scalar is number);
     } in
+    let says : Says (plain_node 2 0 s a c a (length old) 0 0) (mat c r t) =
+    record {
+      sort = refl;
+      kind = refl;
+      size = sym (ap amount sized);
+      align = sym (ap amount aligned);
+      count = refl;
+      stride = sym far;
+      tail_start = refl;
+      tail_stride = refl;
+    } in
     record {
       host = rw (columns, rows, scalar, sized) refl;
       place = refl;
-      describes = record {
-        says = record {
-          sort = refl;
-          kind = refl;
-          size = sym (ap amount sized);
-          align = sym (ap amount aligned);
-          count = refl;
-          stride = sym far;
-          tail_start = refl;
-          tail_stride = refl;
-        };
-        leads = (omega arith, vector);
-      };
+      describes = record { says = says; leads = (omega arith, vector) };
       longer = omega (arith, length-append {A = Node});
       kept = keeps-through old one two (keeps-append old (column ∷ [])) (keeps-append one (part ∷ []));
       each = λ k le lt. typed-either two k (length old + 1) (λ h. let e : length old ≡ k = omega arith in subst (IsTyped two) e (stands-typed two (length old) 0 (vec r t) (rw (rows, scalar, aligned) refl) vector))
           (λ h. let e : length old + 1 ≡ k = omega (arith, length-append one (part ∷ [])) in subst (IsTyped two) e (component-typed two (length old + 1) t part scalar is number));
       children = omega (arith, length-append one (part ∷ []), sum_by_push children_counted one part, sum_by_push children_counted old column, component-children t part scalar is);
+      exact = node-is (plain_node 2 0 s a c a (length old) 0 0) (mat c r t) (length old) says refl refl refl refl;
+      grown =
+          let column_is = node-is column (vec r t) (length old + 1) vector.says refl refl refl refl in
+          append_assoc old (column ∷ []) (part ∷ []) ∙ ap (λ (x : Node). old ++ (x ∷ (part ∷ []))) column_is ∙ ap (λ (x : Node). old ++ (node_of (vec r t) (length old + 1) ∷ (x ∷ []))) is.exact;
     }
 
 -- ---- arrays
@@ -208,6 +215,8 @@ element-added old pushed grown x t n part r none is made has =
           let pushed_there = subst (λ (xs : List Node). slice_get xs (length old) ≡ Some x) (sym is) (get-pushed old x) in
           let counted = made.children in
           omega (arith, length-set grown (length old) part, children-set grown (length old) x part (made.kept (length old) x pushed_there), ap (sum_by children_counted) is, sum_by_push children_counted old x, one-child r 3 has.says.sort refl refl);
+      exact = has.exact;
+      grown = element-grown old pushed grown x part t is made.exact made.grown;
     }
 
 -- ---- roots
@@ -248,7 +257,7 @@ column-answers old one two c r t part column a s count child inner columns rows 
     second ∙ ap (λ (xs : List Node). xs ++ (part ∷ [])) (first ∙ ap (λ (x : Node). old ++ (x ∷ [])) (column_is ∙ ap (vector_node r part.size a) inner_is)) in
     rw (whole, count_is, at) (column-added old c r t part a s columns rows scalar is aligned sized)
 
-root-table : (x : Node) (t : Ty) (grown : List Node) (root : Node) → children_counted x ≡ 0 → IsAdded (x ∷ []) grown root t → IsTable (slice_set grown 0 root)
+pub root-table : (x : Node) (t : Ty) (grown : List Node) (root : Node) → children_counted x ≡ 0 → IsAdded (x ∷ []) grown root t → IsTable (slice_set grown 0 root)
 root-table x t grown root none made =
     let longer = made.longer in
     let counted = made.children in
@@ -261,9 +270,12 @@ root-table x t grown root none made =
           (λ h. typed-kept grown now k (keeps-later 1 k grown now h (keeps-behind-set grown 0 root)) (made.each k h (omega (arith, length-set grown 0 root)))));
     }
 
+pub root-exact : (x : Node) (t : Ty) (grown : List Node) (root : Node) → IsAdded (x ∷ []) grown root t → slice_set grown 0 root ≡ table t
+root-exact x t grown root made = ap (λ (xs : List Node). slice_set xs 0 root) made.grown ∙ ap (λ (r : Node). r ∷ below 1 t) made.exact
+
 pub root-answers : (empty pushed grown now : List Node) (x : Node) (t : Ty) (root : Node) → children_counted x ≡ 0 → empty ≡ [] → pushed ≡ empty ++ (x ∷ []) → IsAdded pushed grown root t → now ≡ slice_set grown 0 root → length grown < 2 ^ 32
-    → IsTrue (has_nodes t) × IsNodeOf now 0 t × (length now < 2 ^ 32) × IsTable now
+    → IsTrue (has_nodes t) × IsNodeOf now 0 t × (length now < 2 ^ 32) × IsTable now × (now ≡ table t)
 root-answers empty pushed grown now x t root bare none is made set few =
     let one : pushed ≡ x ∷ [] = is ∙ ap (λ (xs : List Node). xs ++ (x ∷ [])) none in
     let here = subst (λ (xs : List Node). IsAdded xs grown root t) one made in
-    rw set (made.host, root-made x t grown root here, omega (arith, length-set grown 0 root), root-table x t grown root bare here)
+    rw set (made.host, root-made x t grown root here, omega (arith, length-set grown 0 root), root-table x t grown root bare here, root-exact x t grown root here)

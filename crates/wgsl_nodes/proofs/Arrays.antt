@@ -11,6 +11,7 @@ use Rattle.wgsl_nodes.specs.Nodes as nodes
 use Rattle.wgsl_nodes.specs.Nodes.{Says, bytes_before}
 use Rattle.wgsl_nodes.specs.Making.{IsArrayOf, array_node}
 use Rattle.wgsl_nodes.specs.declared.nodes.Node.{Node}
+use Rattle.wgsl_nodes.proofs.Exact.{node-is}
 use Rattle.wgsl_nodes.proofs.Known.{fitting-is, rounded-known}
 use Rattle.wgsl_nodes.proofs.Fixed.{fixed-sized, fixed-tail, no-tail-fixed}
 
@@ -158,10 +159,17 @@ sized-says t r n far child (Some x) host says e is h =
       says = subst (λ (y : Node). Says y (array t (Some n))) (sym h.2) made.1;
       place = ap (λ (y : Node). y.offset) h.2;
       child_is = ap (λ (y : Node). y.child) h.2;
+      exact = h.2 ∙ node-is (array_node x.size r.align n far child 0) (array t (Some n)) child made.1 refl refl refl refl;
     }
 
 pub open-says : (t : Ty) (r : Node) (n : Option ℕ) (far child : ℕ) → n ≡ None → has_nodes t ≡ true → Says r t → r.tail_stride ≡ 0 → Some far ≡ round_up r.align r.size
     → IsArrayOf t n child (array_node 0 r.align 0 far child far)
 open-says t r n far child none host says e is =
     let made = open-array t r far child (fixed-part t r host says e) (sym is) in
-    rw none (record { host = made.0; says = made.1; place = refl; child_is = refl })
+    rw none (record {
+      host = made.0;
+      says = made.1;
+      place = refl;
+      child_is = refl;
+      exact = node-is (array_node 0 r.align 0 far child far) (array t None) child made.1 refl refl refl refl;
+    })

@@ -1,6 +1,7 @@
 pub mod Added
 pub mod Alike
 pub mod Arrays
+pub mod Exact
 pub mod Filled
 pub mod Fixed
 pub mod Growing
@@ -13,6 +14,7 @@ pub mod Powers
 pub mod Renaming
 pub mod Rows
 pub mod Sound
+pub mod Tabled
 pub mod Texts
 pub mod Typed
 pub mod Unnamed

@@ -17,6 +17,7 @@ use Rattle.wgsl_nodes.specs.declared.nodes.Node.{Node}
 use Rattle.wgsl_nodes.proofs.Known.{end_after-none, offset_after-none}
 use Rattle.wgsl_nodes.proofs.Fixed.{fixed-tail_at}
 use Rattle.wgsl_nodes.proofs.Arrays.{IsFixedPart}
+use Rattle.wgsl_nodes.proofs.Exact.{node-is, AreExact, all-exact}
 use Rattle.wgsl_nodes.proofs.Growing.{KeepsFrom, get-set, get-set-other, leads-kept, leads-lower}
 use Rattle.wgsl_nodes.proofs.Typed.{AreFilled, filled-each}
 
@@ -117,6 +118,14 @@ agrees-before old grown now number low x lt keeps agrees = record {
   behind = λ k r h e. agrees.behind k r h (get-set-other grown number k x (λ same. omega arith) ∙ keeps k r e);
 }
 
+-- where a member of a fixed size stands, and where it ends
+pub offset-of : (t : Ty) (s a : Option ℕ) (end o : ℕ) (part : Node) → IsFixedPart t part → with_both round_up (option_or a (Some part.align)) (Some end) ≡ Some o → offset_after (Some end) (extent_in t s a) ≡ Some o
+offset-of t s a end o part is offset = ap (λ (x : Option ℕ). with_both round_up (option_or a x) (Some end)) is.align_is ∙ offset
+
+pub end-of : (t : Ty) (s a : Option ℕ) (end o : ℕ) (part : Node) → IsFixedPart t part → offset_after (Some end) (extent_in t s a) ≡ Some o
+    → end_after (Some end) (extent_in t s a) ≡ with_both sum_of (Some o) (option_or s (Some part.size))
+end-of t s a end o part is offset = ap (λ (x : Option ℕ). with_both sum_of x (extent_in t s a).size) offset ∙ ap (λ (x : Option ℕ). with_both sum_of (Some o) (option_or s x)) is.size_is
+
 -- a member more, of a fixed size
 pub member-made : (fs : Fields) (n : List ℕ) (t : Ty) (s a : Option ℕ) (rest : Fields) (old grown : List Node) (child low i end all o next far : ℕ) (part : Node)
     → AreMade fs (field n t s a rest) old child low i end all
@@ -127,8 +136,8 @@ pub member-made : (fs : Fields) (n : List ℕ) (t : Ty) (s a : Option ℕ) (rest
 member-made fs n t s a rest old grown child low i end all o next far part made le lt added is align_valid far_is offset size_valid sum =
     let extent = extent_in t s a in
     let align_in : extent.align ≡ Some far = ap (option_or a) is.align_is ∙ far_is in
-    let offset_is : offset_after (Some end) extent ≡ Some o = ap (λ (x : Option ℕ). with_both round_up (option_or a x) (Some end)) is.align_is ∙ offset in
-    let end_is : end_after (Some end) extent ≡ Some next = ap (λ (x : Option ℕ). with_both sum_of x extent.size) offset_is ∙ ap (λ (x : Option ℕ). with_both sum_of (Some o) (option_or s x)) is.size_is ∙ sum in
+    let offset_is : offset_after (Some end) extent ≡ Some o = offset-of t s a end o part is offset in
+    let end_is : end_after (Some end) extent ≡ Some next = end-of t s a end o part is offset_is ∙ sum in
     let valid : are_attributes_valid t s a ≡ true =
     rw (is.size_is, is.align_is, size_valid, align_valid) refl in
     let placed = record part { offset = o } in
@@ -249,39 +258,39 @@ SaysStructure fs old now o = (name : List ℕ) → MatchOption o (has_nodes (str
 
 -- the structure of all members, each of a fixed size
 pub structure-made : (fs : Fields) (nodes old : List Node) (child count i end all : ℕ) (o : Option Node)
-    → AreMade fs no_fields nodes child (child + count) i end all → child ≡ length old → count ≡ members_in fs → length old ≤ length nodes → Keeps old nodes → AreFilled old nodes child (child + count) i → count ≤ i
+    → AreMade fs no_fields nodes child (child + count) i end all → child ≡ length old → count ≡ members_in fs → length old ≤ length nodes → Keeps old nodes → AreFilled old nodes child (child + count) i → AreExact old nodes fs no_fields (Some end) i count → count ≤ i
     → MatchOption o (with_both round_up (Some all) (Some end) ≡ None) (λ r. (with_both round_up (Some all) (Some end) ≡ Some r.size) × (r ≡ structure_node r.size all count child 0 0))
     → SaysStructure fs old nodes o
-structure-made fs nodes old child count i end all None made at counted longer kept filled past h = λ name.
+structure-made fs nodes old child count i end all None made at counted longer kept filled exact past h = λ name.
     let size_is : size_of (struct name fs) ≡ None =
     ap (λ (a : Option ℕ). with_both round_up a (end_of_members (Some 0) (extents fs))) (sym made.align_is) ∙ ap (with_both round_up (Some all)) (sym made.end_is) ∙ h in
     rw (size_is, ← made.runtime) (ap (λ (b : Bool). b || false) (and-false (have_fixed_nodes fs)))
-structure-made fs nodes old child count i end all (Some r) made at counted longer kept filled past h = λ name.
+structure-made fs nodes old child count i end all (Some r) made at counted longer kept filled exact past h = λ name.
     let t = struct name fs in
     let size_is : size_of t ≡ Some r.size =
     ap (λ (a : Option ℕ). with_both round_up a (end_of_members (Some 0) (extents fs))) (sym made.align_is) ∙ ap (with_both round_up (Some all)) (sym made.end_is) ∙ h.0 in
     let no_tail : tail_of t ≡ None = sym made.tail in
     let all_of = made.stand nodes (record { below = λ k x lt e. e; behind = λ k x le e. e }) tt in
     let made_node = structure_node r.size all count child 0 0 in
+    let says : Says made_node t = record {
+      sort = refl;
+      kind = refl;
+      size = sym (ap (λ (x : Option Tail). bytes_before x (size t)) no_tail ∙ ap amount size_is);
+      align = ap amount made.align_is;
+      count = counted;
+      stride = refl;
+      tail_start = sym (ap start_of no_tail);
+      tail_stride = sym (ap tables.stride_of no_tail);
+    } in
     let node : IsAdded old nodes made_node t = record {
       host = rw (size_is, ← made.fixed) refl;
       place = refl;
-      describes = record {
-        says = record {
-          sort = refl;
-          kind = refl;
-          size = sym (ap (λ (x : Option Tail). bytes_before x (size t)) no_tail ∙ ap amount size_is);
-          align = ap amount made.align_is;
-          count = counted;
-          stride = refl;
-          tail_start = sym (ap start_of no_tail);
-          tail_stride = sym (ap tables.stride_of no_tail);
-        };
-        leads = (omega arith, subst (λ (k : ℕ). MembersStand nodes (child + k) child (Some 0) fs) counted all_of);
-      };
+      describes = record { says = says; leads = (omega arith, subst (λ (k : ℕ). MembersStand nodes (child + k) child (Some 0) fs) counted all_of) };
       longer = longer;
       kept = kept;
       each = filled-each old nodes child (child + count) i filled at (omega arith);
       children = let counted_so = filled.children in omega arith;
+      exact = node-is made_node t (length old) says refl at refl refl;
+      grown = all-exact old nodes name fs (Some end) i count exact past counted;
     } in
     subst (λ (x : Node). IsAdded old nodes x t) (sym h.1) node

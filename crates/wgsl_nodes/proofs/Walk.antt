@@ -22,9 +22,10 @@ use Rattle.wgsl_nodes.proofs.Known.{and-both}
 use Rattle.wgsl_nodes.proofs.Fixed.{fixed-sized, fixed-tail}
 use Rattle.wgsl_nodes.proofs.Arrays.{IsFixedPart, fixed-part, tail-not-fixed}
 use Rattle.wgsl_nodes.proofs.Added.{keeps-set, keeps-through}
+use Rattle.wgsl_nodes.proofs.Exact.{node-is, AreExact, next-exact, all-exact}
 use Rattle.wgsl_nodes.proofs.Typed.{AreFilled, filled-each}
 use Rattle.wgsl_nodes.proofs.Filled.{filled-next}
-use Rattle.wgsl_nodes.proofs.Members.{first, fields-from, fields-past, members-counted, AgreesBut, AreMade, IsRefused, refused, other-refused, fixed-refused, runtime-refused, member-made, member-stands, agrees-before, SaysStructure, structure-made}
+use Rattle.wgsl_nodes.proofs.Members.{first, fields-from, fields-past, members-counted, AgreesBut, AreMade, IsRefused, refused, other-refused, fixed-refused, runtime-refused, offset-of, end-of, member-made, member-stands, agrees-before, SaysStructure, structure-made}
 
 -- the members from one on
 pub member-from : (ms : List StructMemberType) (i : ℕ) (m : StructMemberType) → i < length ms → m ≡ get_or ms i m
@@ -40,6 +41,13 @@ AreMadeWith ms i m nodes child end all = AreMade (members_view ms) (field (strin
 with-member : (ms : List StructMemberType) (i : ℕ) (m : StructMemberType) (nodes : List Node) (child end all : ℕ) → i < length ms → m ≡ get_or ms i m → AreMadeTo ms i nodes child end all → AreMadeWith ms i m nodes child end all
 with-member ms i m nodes child end all h e made = subst (λ (fs : Fields). AreMade (members_view ms) fs nodes child (child + length ms) i end all) (member-from ms i m h e) made
 
+abbrev pub AreExactTo : List StructMemberType → ℕ → List Node → List Node → ℕ → Type 0
+AreExactTo ms i before nodes end = AreExact before nodes (members_view ms) (members_view (drop i ms)) (Some end) i (length ms)
+
+exact-with : (ms : List StructMemberType) (i : ℕ) (m : StructMemberType) (before nodes : List Node) (end : ℕ) → i < length ms → m ≡ get_or ms i m → AreExactTo ms i before nodes end
+    → AreExact before nodes (members_view ms) (field (string_bytes m.name) (type_view m.ty) m.size m.align (members_view (drop (i + 1) ms))) (Some end) i (length ms)
+exact-with ms i m before nodes end h e exact = subst (λ (fs : Fields). AreExact before nodes (members_view ms) fs (Some end) i (length ms)) (member-from ms i m h e) exact
+
 -- ---- a member more
 
 pub record AreNext (ms : List StructMemberType) (i : ℕ) (first_nodes nodes : List Node) (child end all : ℕ) : Type 0 where
@@ -47,25 +55,31 @@ pub record AreNext (ms : List StructMemberType) (i : ℕ) (first_nodes nodes : L
   pub longer : child + length ms ≤ length nodes
   pub kept : Keeps first_nodes nodes
   pub filled : AreFilled first_nodes nodes child (child + length ms) i
+  pub exact : AreExactTo ms i first_nodes nodes end
 
 pub member-next : (ms : List StructMemberType) (i : ℕ) (m : StructMemberType) (before old grown now : List Node) (child end all : ℕ) (part : Node) (spot : Spot) (next : SoFar)
-    → i < length ms → m ≡ get_or ms i m → AreMadeTo ms i old child end all → child + length ms ≤ length old → Keeps before old → AreFilled before old child (child + length ms) i → length before ≤ child
+    → i < length ms → m ≡ get_or ms i m → AreMadeTo ms i old child end all → child + length ms ≤ length old → Keeps before old → AreFilled before old child (child + length ms) i → AreExactTo ms i before old end → child ≡ length before
     → IsAdded old grown part (type_view m.ty) → part.tail_stride ≡ 0 → IsSpot (Some end) m.align (Some part.align) spot
     → IsTrue (is_size_valid m.size (Some part.size)) × (with_both sum_of (Some spot.offset) (option_or m.size (Some part.size)) ≡ Some next.end) × (next.align ≡ max all spot.align)
     → now ≡ slice_set grown (child + i) (record part { offset = spot.offset })
     → AreNext ms (i + 1) before now child next.end next.align
-member-next ms i m before old grown now child end all part spot next h e made longer kept filled le added no_tail is with set =
+member-next ms i m before old grown now child end all part spot next h e made longer kept filled exact at added no_tail is with set =
     let placed = record part { offset = spot.offset } in
     let fixed = fixed-part (type_view m.ty) part added.host added.describes.says no_tail in
     let here = with-member ms i m old child end all h e made in
     let behind = member-made (members_view ms) (string_bytes m.name) (type_view m.ty) m.size m.align (members_view (drop (i + 1) ms)) old grown child (child + length ms) i end all spot.offset next.end spot.align part
     here longer (omega arith) added fixed is.valid is.align_is is.offset_is with.0 with.1 in
     let more = added.longer in
+    let offset_is = offset-of (type_view m.ty) m.size m.align end spot.offset part fixed is.offset_is in
+    let end_is : end_after (Some end) (extent_in (type_view m.ty) m.size m.align) ≡ Some next.end = end-of (type_view m.ty) m.size m.align end spot.offset part fixed offset_is ∙ with.1 in
+    let exactly = next-exact before old grown (members_view ms) (string_bytes m.name) (type_view m.ty) m.size m.align (members_view (drop (i + 1) ms)) (Some end) child i (length ms) spot.offset part
+    (exact-with ms i m before old end h e exact) h at added.exact added.grown offset_is in
     record {
       made = rw (set, with.2) behind;
       longer = rw set (omega (arith, length-set grown (child + i) placed));
       kept = rw set (keeps-set before grown (child + i) placed (omega arith) (keeps-through before old grown kept added.kept));
       filled = rw set (filled-next before old grown child (child + length ms) i spot.offset part (type_view m.ty) filled (omega arith) longer added);
+      exact = rw (set, ← end_is) exactly;
     }
 
 -- ---- no member more
@@ -101,11 +115,11 @@ attributes-refused t s a end h = by (is_size_valid s (size_of t)) (is_align_vali
     by true true None e k = refl
     by true true (Some x) e k = absurd (false≢true (sym k))
 
-fixed-part-of : (t : Ty) (part : Node) → has_nodes t ≡ true → Says part t → has_fixed_nodes t ≡ true → IsFixedPart t part
+pub fixed-part-of : (t : Ty) (part : Node) → has_nodes t ≡ true → Says part t → has_fixed_nodes t ≡ true → IsFixedPart t part
 fixed-part-of t part host says fixed = fixed-part t part host says (says.tail_stride ∙ ap tables.stride_of (fixed-tail t fixed))
 
 -- of a runtime-sized array its alignment is known
-runtime-aligned : (t : Ty) (part : Node) → Says part t → is_runtime_array t ≡ true → align_of t ≡ Some part.align
+pub runtime-aligned : (t : Ty) (part : Node) → Says part t → is_runtime_array t ≡ true → align_of t ≡ Some part.align
 runtime-aligned (array u None) part says h =
     let own = fixed-sized u (and-both (has_fixed_nodes u) (is_some (known_stride u)) h).0 in
     let same : part.align ≡ own.align = says.align ∙ ap amount own.align_is in
@@ -141,9 +155,8 @@ pub no-next : (ms : List StructMemberType) (i : ℕ) (m : StructMemberType) (old
 no-next ms i m old grown child end all part spot h e made added no_tail is none name =
     let t = type_view m.ty in
     let part_is = fixed-part t part added.host added.describes.says no_tail in
-    let offset_is : offset_after (Some end) (extent_in t m.size m.align) ≡ Some spot.offset = ap (λ (x : Option ℕ). with_both round_up (option_or m.align x) (Some end)) part_is.align_is ∙ is.offset_is in
-    let end_is : end_after (Some end) (extent_in t m.size m.align) ≡ with_both sum_of (Some spot.offset) (option_or m.size (Some part.size)) =
-    ap (λ (x : Option ℕ). with_both sum_of x (extent_in t m.size m.align).size) offset_is ∙ ap (λ (x : Option ℕ). with_both sum_of (Some spot.offset) (option_or m.size x)) part_is.size_is in
+    let offset_is : offset_after (Some end) (extent_in t m.size m.align) ≡ Some spot.offset = offset-of t m.size m.align end spot.offset part part_is is.offset_is in
+    let end_is : end_after (Some end) (extent_in t m.size m.align) ≡ with_both sum_of (Some spot.offset) (option_or m.size (Some part.size)) = end-of t m.size m.align end spot.offset part part_is offset_is in
     let never : (are_attributes_valid t m.size m.align && is_some (end_after (Some end) (extent_in t m.size m.align))) ≡ false =
     ap (λ (o : Option ℕ). are_attributes_valid t m.size m.align && is_some o) end_is
     ∙ ap (λ (o : Option ℕ). (is_size_valid m.size o && is_align_valid m.align (align_of t)) && is_some (with_both sum_of (Some spot.offset) (option_or m.size (Some part.size)))) part_is.size_is
@@ -159,13 +172,13 @@ no-next ms i m old grown child end all part spot h e made added no_tail is none 
 -- ---- a runtime-sized array
 
 -- a last member that is one
-ended : (fs : Fields) (n : List ℕ) (u : Ty) (a : Option ℕ) (before old grown now : List Node) (child count low i end all o far : ℕ) (part : Node) (name : List ℕ)
+pub ended : (fs : Fields) (n : List ℕ) (u : Ty) (a : Option ℕ) (before old grown now : List Node) (child count low i end all o far : ℕ) (part : Node) (name : List ℕ)
     → AreMade fs (field n (array u None) None a no_fields) old child low i end all
-    → low ≤ length old → child + i < low → low ≡ child + count → count ≡ members_in fs → child ≡ length before → Keeps before old → AreFilled before old child low i → low ≤ child + (i + 1) → IsAdded old grown part (array u None)
+    → low ≤ length old → child + i < low → low ≡ child + count → count ≡ members_in fs → child ≡ length before → Keeps before old → AreFilled before old child low i → AreExact before old fs (field n (array u None) None a no_fields) (Some end) i count → low ≤ child + (i + 1) → IsAdded old grown part (array u None)
     → is_runtime_array (array u None) ≡ true → is_align_valid a (Some part.align) ≡ true → option_or a (Some part.align) ≡ Some far → with_both round_up (option_or a (Some part.align)) (Some end) ≡ Some o
     → now ≡ slice_set grown (child + i) (record part { offset = o })
     → IsAdded before now (structure_node o (max all far) count child o part.tail_stride) (struct name fs)
-ended fs n u a before old grown now child count low i end all o far part name made le lt low_is counted at kept filled all_filled added runtime valid far_is offset set =
+ended fs n u a before old grown now child count low i end all o far part name made le lt low_is counted at kept filled exact all_filled added runtime valid far_is offset set =
     let t = array u None in
     let extent = extent_in t None a in
     let aligned = runtime-aligned t part added.describes.says runtime in
@@ -182,26 +195,31 @@ ended fs n u a before old grown now child count low i end all o far part name ma
     (subst (λ (x : ℕ). Stands (slice_set grown (child + i) placed) (child + i) x t (λ c. LeadsTo (slice_set grown (child + i) placed) low c t)) (sym (ap amount offset_is)) stands, tt) in
     let behind = filled-next before old grown child low i o part t filled lt le added in
     let host : end_in_runtime_array (Some 0) fs ≡ true = sym made.runtime ∙ rw (runtime, aligned, valid, offset) refl in
+    let made_node = structure_node o (max all far) count child o part.tail_stride in
+    let says : Says made_node (struct name fs) = record {
+      sort = refl;
+      kind = refl;
+      size = sym (ap (λ (x : Option Tail). bytes_before x (size (struct name fs))) tail_is);
+      align = sym align_is;
+      count = counted;
+      stride = refl;
+      tail_start = sym (ap start_of tail_is);
+      tail_stride = added.describes.says.tail_stride ∙ sym (ap tables.stride_of tail_is);
+    } in
+    let exactly = next-exact before old grown fs n t None a no_fields (Some end) child i count o part exact (omega arith) at added.exact added.grown offset_is in
     rw set (record {
       host = rw host (or-true (has_fixed_nodes (struct name fs)));
       place = refl;
       describes = record {
-        says = record {
-          sort = refl;
-          kind = refl;
-          size = sym (ap (λ (x : Option Tail). bytes_before x (size (struct name fs))) tail_is);
-          align = sym align_is;
-          count = counted;
-          stride = refl;
-          tail_start = sym (ap start_of tail_is);
-          tail_stride = added.describes.says.tail_stride ∙ sym (ap tables.stride_of tail_is);
-        };
+        says = says;
         leads = (omega arith, subst (λ (k : ℕ). MembersStand (slice_set grown (child + i) placed) k child (Some 0) fs) (low_is ∙ ap (λ (k : ℕ). child + k) counted) all_of);
       };
       longer = omega (arith, length-set grown (child + i) placed);
       kept = keeps-set before grown (child + i) placed (omega arith) (keeps-through before old grown kept added.kept);
       each = filled-each before (slice_set grown (child + i) placed) child low (i + 1) behind at all_filled;
       children = let counted_so = behind.children in omega arith;
+      exact = node-is made_node (struct name fs) (length before) says refl at refl refl;
+      grown = all-exact before (slice_set grown (child + i) placed) name fs (end_after (Some end) extent) (i + 1) count exactly (omega arith) counted;
     })
   where
     or-true : (b : Bool) → (b || true) ≡ true
@@ -218,27 +236,27 @@ Ends fs before now name o = MatchOption o (has_nodes (struct name fs) ≡ false)
 -- what is answered where a member has no fixed size: a structure, if it is the last and a runtime-sized array
 ended-says : (fs : Fields) (n : List ℕ) (t : Ty) (s a : Option ℕ) (rest : Fields) (before old grown now : List Node) (child count low i end all : ℕ) (part : Node) (spot : Spot) (last : Bool) (o : Option Node) (name : List ℕ)
     → AreMade fs (field n t s a rest) old child low i end all
-    → low ≤ length old → child + i < low → low ≡ child + count → count ≡ members_in fs → child ≡ length before → Keeps before old → AreFilled before old child low i → (last ≡ true → low ≤ child + (i + 1)) → IsAdded old grown part t → has_fixed_nodes t ≡ false
+    → low ≤ length old → child + i < low → low ≡ child + count → count ≡ members_in fs → child ≡ length before → Keeps before old → AreFilled before old child low i → AreExact before old fs (field n t s a rest) (Some end) i count → (last ≡ true → low ≤ child + (i + 1)) → IsAdded old grown part t → has_fixed_nodes t ≡ false
     → IsSpot (Some end) a (Some part.align) spot → now ≡ slice_set grown (child + i) (record part { offset = spot.offset }) → last ≡ have_none rest
     → o ≡ (if (last && is_none s) && part.sort == 3 then Some (structure_node spot.offset (max all spot.align) count child spot.offset part.tail_stride) else None)
     → Ends fs before now name o
-ended-says fs n (array u None) None a no_fields before old grown now child count low i end all part spot last o name made le lt low_is counted at kept filled all_filled added fixed is set last_is answer =
+ended-says fs n (array u None) None a no_fields before old grown now child count low i end all part spot last o name made le lt low_is counted at kept filled exact all_filled added fixed is set last_is answer =
     let node = structure_node spot.offset (max all spot.align) count child spot.offset part.tail_stride in
     let some : o ≡ Some node = answer ∙ rw (last_is, added.describes.says.sort) refl in
     subst (λ (x : Option Node). Ends fs before now name x) (sym some)
-    (ended fs n u a before old grown now child count low i end all spot.offset spot.align part name made le lt low_is counted at kept filled (all_filled last_is) added added.host is.valid is.align_is is.offset_is set)
-ended-says fs n (array u None) None a (field m w y k gs) before old grown now child count low i end all part spot last o name made le lt low_is counted at kept filled all_filled added fixed is set last_is answer =
+    (ended fs n u a before old grown now child count low i end all spot.offset spot.align part name made le lt low_is counted at kept filled exact (all_filled last_is) added added.host is.valid is.align_is is.offset_is set)
+ended-says fs n (array u None) None a (field m w y k gs) before old grown now child count low i end all part spot last o name made le lt low_is counted at kept filled exact all_filled added fixed is set last_is answer =
     let none : o ≡ None = answer ∙ rw last_is refl in
     subst (λ (x : Option Node). Ends fs before now name x) (sym none)
     (refused name fs _ old child low i end all made (other-refused n (array u None) None a (field m w y k gs) end fixed (and-false (is_runtime_array (array u None)))))
-ended-says fs n (array u None) (Some z) a rest before old grown now child count low i end all part spot last o name made le lt low_is counted at kept filled all_filled added fixed is set last_is answer =
+ended-says fs n (array u None) (Some z) a rest before old grown now child count low i end all part spot last o name made le lt low_is counted at kept filled exact all_filled added fixed is set last_is answer =
     let none : o ≡ None = answer ∙ rw (and-false last) refl in
     subst (λ (x : Option Node). Ends fs before now name x) (sym none)
     (refused name fs _ old child low i end all made (other-refused n (array u None) (Some z) a rest end fixed (and-false (is_runtime_array (array u None)))))
-ended-says fs n (array u (Some k)) s a rest before old grown now child count low i end all part spot last o name made le lt low_is counted at kept filled all_filled added fixed is set last_is answer =
+ended-says fs n (array u (Some k)) s a rest before old grown now child count low i end all part spot last o name made le lt low_is counted at kept filled exact all_filled added fixed is set last_is answer =
     let host : (has_fixed_nodes (array u (Some k)) || false) ≡ true = added.host in
     absurd (false≢true (sym (ap (λ (b : Bool). b || false) fixed) ∙ host))
-ended-says fs n t s a rest before old grown now child count low i end all part spot last o name made le lt low_is counted at kept filled all_filled added fixed is set last_is answer =
+ended-says fs n t s a rest before old grown now child count low i end all part spot last o name made le lt low_is counted at kept filled exact all_filled added fixed is set last_is answer =
     let none : o ≡ None = answer ∙ rw (added.describes.says.sort, and-false (last && is_none s)) refl in
     subst (λ (x : Option Node). Ends fs before now name x) (sym none) (refused name fs _ old child low i end all made (other-refused n t s a rest end fixed refl))
 
@@ -263,28 +281,29 @@ last-is ms i h = by (nat_lt (i + 1) (length ms)) refl
         is-same (i + 1) (length ms) (omega arith) ∙ sym (ap have_none (fields-past ms (i + 1) le))
 
 pub tail-says : (ms : List StructMemberType) (i : ℕ) (m : StructMemberType) (before old grown now : List Node) (child first_child count end all : ℕ) (part : Node) (spot : Spot) (tail : Bool) (o : Option Node)
-    → i < length ms → m ≡ get_or ms i m → AreMadeTo ms i old child end all → child + length ms ≤ length old → Keeps before old → AreFilled before old child (child + length ms) i → child ≡ length before → first_child ≡ child → count ≡ length ms
+    → i < length ms → m ≡ get_or ms i m → AreMadeTo ms i old child end all → child + length ms ≤ length old → Keeps before old → AreFilled before old child (child + length ms) i → AreExactTo ms i before old end → child ≡ length before → first_child ≡ child → count ≡ length ms
     → IsAdded old grown part (type_view m.ty) → (part.tail_stride ≡ 0 → ⊥) → IsSpot (Some end) m.align (Some part.align) spot
     → now ≡ slice_set grown (child + i) (record part { offset = spot.offset }) → tail ≡ (nat_eq (i + 1) (length ms) && is_none m.size)
     → o ≡ (if tail && part.sort == 3 then Some (structure_node spot.offset (max all spot.align) count first_child spot.offset part.tail_stride) else None)
     → SaysStructure (members_view ms) before now o
-tail-says ms i m before old grown now child first_child count end all part spot tail o h e made longer kept filled at first_is counted added some is set tail_is answer = λ name.
+tail-says ms i m before old grown now child first_child count end all part spot tail o h e made longer kept filled exact at first_is counted added some is set tail_is answer = λ name.
     let last = nat_eq (i + 1) (length ms) in
     let fixed = tail-not-fixed (type_view m.ty) part added.describes.says some in
     let answers : o ≡ (if (last && is_none m.size) && part.sort == 3 then Some (structure_node spot.offset (max all spot.align) count child spot.offset part.tail_stride) else None) =
     answer ∙ ap (λ (b : Bool). if b && part.sort == 3 then Some (structure_node spot.offset (max all spot.align) count first_child spot.offset part.tail_stride) else None) tail_is
     ∙ ap (λ (k : ℕ). if (last && is_none m.size) && part.sort == 3 then Some (structure_node spot.offset (max all spot.align) count k spot.offset part.tail_stride) else None) first_is in
     ended-says (members_view ms) (string_bytes m.name) (type_view m.ty) m.size m.align (members_view (drop (i + 1) ms)) before old grown now child count (child + length ms) i end all part spot last o name
-    (with-member ms i m old child end all h e made) longer (omega arith) (ap (λ (k : ℕ). child + k) (sym counted)) (counted ∙ sym (members-counted ms)) at kept filled (λ (is_last : last ≡ true). let end_is : i + 1 ≡ length ms = grind (arith, nat_tests) in omega arith) added fixed is set (last-is ms i h) answers
+    (with-member ms i m old child end all h e made) longer (omega arith) (ap (λ (k : ℕ). child + k) (sym counted)) (counted ∙ sym (members-counted ms)) at kept filled (subst (λ (k : ℕ). AreExact before old (members_view ms) (field (string_bytes m.name) (type_view m.ty) m.size m.align (members_view (drop (i + 1) ms))) (Some end) i k) (sym counted) (exact-with ms i m before old end h e exact)) (λ (is_last : last ≡ true). let end_is : i + 1 ≡ length ms = grind (arith, nat_tests) in omega arith) added fixed is set (last-is ms i h) answers
 
 pub structure-says : (ms : List StructMemberType) (i : ℕ) (before old : List Node) (child first_child count end all : ℕ) (o : Option Node)
-    → length ms ≤ i → AreMadeTo ms i old child end all → child + length ms ≤ length old → Keeps before old → AreFilled before old child (child + length ms) i → child ≡ length before → first_child ≡ child → count ≡ length ms
+    → length ms ≤ i → AreMadeTo ms i old child end all → child + length ms ≤ length old → Keeps before old → AreFilled before old child (child + length ms) i → AreExactTo ms i before old end → child ≡ length before → first_child ≡ child → count ≡ length ms
     → MatchOption o (with_both round_up (Some all) (Some end) ≡ None) (λ r. (with_both round_up (Some all) (Some end) ≡ Some r.size) × (r ≡ structure_node r.size all count first_child 0 0))
     → SaysStructure (members_view ms) before old o
-structure-says ms i before old child first_child count end all o past made longer kept filled at first_is counted answer =
+structure-says ms i before old child first_child count end all o past made longer kept filled exact at first_is counted answer =
     let none = fields-past ms i past in
     let all_made = subst (λ (fs : Fields). AreMade (members_view ms) fs old child (child + length ms) i end all) none made in
     let by_count = subst (λ (k : ℕ). AreMade (members_view ms) no_fields old child (child + k) i end all) (sym counted) all_made in
     let filled_count = subst (λ (k : ℕ). AreFilled before old child (child + k) i) (sym counted) filled in
+    let exact_count = subst (λ (k : ℕ). AreExact before old (members_view ms) no_fields (Some end) i k) (sym counted) (subst (λ (fs : Fields). AreExact before old (members_view ms) fs (Some end) i (length ms)) none exact) in
     let by_child = subst (λ (k : ℕ). MatchOption o (with_both round_up (Some all) (Some end) ≡ None) (λ r. (with_both round_up (Some all) (Some end) ≡ Some r.size) × (r ≡ structure_node r.size all count k 0 0))) first_is answer in
-    structure-made (members_view ms) old before child count i end all o by_count at (counted ∙ sym (members-counted ms)) (omega arith) kept filled_count (omega arith) by_child
+    structure-made (members_view ms) old before child count i end all o by_count at (counted ∙ sym (members-counted ms)) (omega arith) kept filled_count exact_count (omega arith) by_child

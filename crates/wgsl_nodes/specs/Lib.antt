@@ -1,3 +1,4 @@
+pub mod Canonical
 pub mod Compare
 pub mod HostTypes
 pub mod Lengths

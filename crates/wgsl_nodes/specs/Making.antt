@@ -1,9 +1,10 @@
 -- What the making of a table adds to it, for the contracts of the code that makes it.
-use Rattle.std.specs.Prelude.{◌≡◌, ℕ, ◌+◌, ◌<◌, ◌≤◌, ◌*◌, Option, Some, List, slice_get, length, sum_by, Bool, IsTrue, is_some, ◌&&◌}
+use Rattle.std.specs.Prelude.{◌≡◌, ℕ, ◌+◌, ◌++◌, ◌<◌, ◌≤◌, ◌*◌, Option, Some, List, slice_get, length, sum_by, Bool, IsTrue, is_some, ◌&&◌}
 use Rattle.std.specs.Option.{option_or}
 use Rattle.wgsl_rules.specs.Types.{Ty, array}
 use Rattle.wgsl_rules.specs.Size.{with_both, round_up}
 use Rattle.wgsl_rules.specs.Layout.{is_align_valid}
+use Rattle.wgsl_nodes.specs.Canonical.{node_of, below}
 use Rattle.wgsl_nodes.specs.HostTypes.{has_nodes}
 use Rattle.wgsl_nodes.specs.Nodes.{Says, Describes, IsNodeOf}
 use Rattle.wgsl_nodes.specs.Tables.{children_counted}
@@ -51,6 +52,7 @@ pub record IsNumberOf (r : Node) (t : Ty) : Type 0 where
   pub says : Says r t
   pub place : r.offset ≡ 0
   pub last : r.child ≡ 0
+  pub exact : r ≡ node_of t 0
 
 -- a record of an array of n elements of the type, whose own record has this number
 pub record IsArrayOf (t : Ty) (n : Option ℕ) (child : ℕ) (r : Node) : Type 0 where
@@ -58,6 +60,7 @@ pub record IsArrayOf (t : Ty) (n : Option ℕ) (child : ℕ) (r : Node) : Type 0
   pub says : Says r (array t n)
   pub place : r.offset ≡ 0
   pub child_is : r.child ≡ child
+  pub exact : r ≡ node_of (array t n) child
 
 -- ---- members
 
@@ -82,8 +85,8 @@ pub record IsTyped (nodes : List Node) (number : ℕ) : Type 0 where
   pub host : IsTrue (has_nodes ty)
   pub is : IsNodeOf nodes number ty
 
--- the table has grown by what a record of the type leads to, each record once as a child; the record itself has no
--- offset yet
+-- the table has grown by what a record of the type leads to, and by nothing else, each record once as a child; the
+-- record itself has no offset yet
 pub record IsAdded (old new : List Node) (r : Node) (t : Ty) : Type 0 where
   pub host : IsTrue (has_nodes t)
   pub place : r.offset ≡ 0
@@ -92,3 +95,5 @@ pub record IsAdded (old new : List Node) (r : Node) (t : Ty) : Type 0 where
   pub kept : Keeps old new
   pub each : (number : ℕ) → length old ≤ number → number < length new → IsTyped new number
   pub children : (sum_by children_counted new + children_counted r) + length old ≡ sum_by children_counted old + length new
+  pub exact : r ≡ node_of t (length old)
+  pub grown : new ≡ old ++ below (length old) t

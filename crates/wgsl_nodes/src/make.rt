@@ -39,6 +39,7 @@ ghost use Rattle.wgsl_rules.specs.Layout.{
 ghost use Rattle.wgsl_rules.specs.Size.{align_of, size_of, with_both, fitting, round_up, sum_of};
 ghost use Rattle.wgsl_rules.specs.Types.{Ty, array, atomic, mat, struct, vec};
 ghost use Rattle.wgsl_rules.specs.View.{type_view, struct_view, members_view};
+ghost use Rattle.wgsl_nodes.specs.Canonical.{table};
 ghost use Rattle.wgsl_nodes.specs.HostTypes.{
   has_nodes,
   is_scalar,
@@ -67,11 +68,11 @@ use wgsl_rules::{StructMemberType, StructType, Type};
 /// The table of the type; `None` where it has none: where it has a number of another kind than [`Node::kind`] tells, is
 /// not host-shareable, or a size, an alignment or an offset in it is not known.
 ///
-/// Memory alone is refused, for a table of 2^32 records or more too. It calls itself for each level of the type: keep
-/// to 4,095 within a stack of 8 MiB.
+/// Equal types have equal tables, record for record. Memory alone is refused, for a table of 2^32 records or more too.
+/// It calls itself for each level of the type: keep to 4,095 within a stack of 8 MiB.
 pub fn nodes_of(alloc: Global, ty: &Type) -> Result<Option<Vec<Node>>, AllocError>
     ensures { let t = type_view ty.now in
-        IfOk result (λ made. MatchOption made (has_nodes t ≡ false) (λ nodes. IsTrue (has_nodes t) × IsNodeOf nodes.items 0 t × (length nodes.items < 2 ^ 32) × IsTable nodes.items)) }
+        IfOk result (λ made. MatchOption made (has_nodes t ≡ false) (λ nodes. IsTrue (has_nodes t) × IsNodeOf nodes.items 0 t × (length nodes.items < 2 ^ 32) × IsTable nodes.items × (nodes.items ≡ table t))) }
 {
     let mut nodes = Vec::new(alloc);
     nodes.push(Node::EMPTY)?;

@@ -4,6 +4,7 @@ use Rattle.wgsl_rules.specs.declared.ty.StructType.{out-StructType}
 use Rattle.wgsl_rules.proofs.lemmas.Views.{struct_view-is}
 use Rattle.wgsl_nodes.proofs.Arrays.{no-element}
 use Rattle.wgsl_nodes.proofs.Added.{element-says}
+use Rattle.wgsl_nodes.proofs.Exact.{none-exact}
 use Rattle.wgsl_nodes.proofs.Filled.{none-filled}
 use Rattle.wgsl_nodes.proofs.Members.{none-made}
 use Rattle.wgsl_nodes.proofs.Walk.{member-next, no-part, no-spot, no-next, tail-says, structure-says}
@@ -34,7 +35,7 @@ add_members-loop-i-init t c =
     let child = c.len-child.ensures ∙ c.args.nodes.now.ok.0 in
     let count : c.in_ok-count.count ≡ length members = c.in_ok-count.ensures in
     let n = none-filled c.args.nodes.now.items c.reserve.new.nodes.items c.len-child.result (length members) c.in_ok-reserve.ensures child in
-    record { made = none-made (members_view members) c.reserve.new.nodes.items c.len-child.result (c.len-child.result + length members); longer = n.longer; kept = n.kept; filled = n.filled }
+    record { made = none-made (members_view members) c.reserve.new.nodes.items c.len-child.result (c.len-child.result + length members); longer = n.longer; kept = n.kept; filled = n.filled; exact = none-exact c.args.nodes.now.items c.reserve.new.nodes.items (members_view members) (length members) c.in_ok-reserve.ensures }
 
 pub add_members-loop-i-preserved : goal.add_members-loop-i-preserved
 add_members-loop-i-preserved t c =
@@ -42,8 +43,8 @@ add_members-loop-i-preserved t c =
     let m = c.index-members-i.result in
     let added = rw c.in-Some.is at c.in_ok-part.ensures in
     let n = member-next c.args.members.now l.i m c.args.nodes.now.items l.nodes.items c.add_parts.new.nodes.items c.put.new.nodes.items c.len-child.result l.so_far.end l.so_far.align c.in-Some.part c.in-Some-spot.spot c.in-Some-with.next
-    c.loop-i-test.true c.index-members-i.is l.invariant.made l.invariant.longer l.invariant.kept l.invariant.filled (omega (arith, c.len-child.ensures, c.args.nodes.now.ok.0)) added c.if-part-ne0.false c.in-Some-spot.ensures c.in-Some-with.ensures c.put.ensures in
-    record { made = n.made; longer = n.longer; kept = n.kept; filled = n.filled }
+    c.loop-i-test.true c.index-members-i.is l.invariant.made l.invariant.longer l.invariant.kept l.invariant.filled l.invariant.exact (c.len-child.ensures ∙ c.args.nodes.now.ok.0) added c.if-part-ne0.false c.in-Some-spot.ensures c.in-Some-with.ensures c.put.ensures in
+    record { made = n.made; longer = n.longer; kept = n.kept; filled = n.filled; exact = n.exact }
 
 pub add_members-returns-in_default : goal.add_members-returns-in_default
 add_members-returns-in_default t c =
@@ -71,14 +72,14 @@ add_members-returns-then-part-ne0 t c =
     let child = c.len-child.ensures ∙ c.args.nodes.now.ok.0 in
     let added = rw c.in-Some.is at c.in_ok-part.ensures in
     tail-says c.args.members.now l.i c.index-members-i.result c.args.nodes.now.items l.nodes.items c.add_parts.new.nodes.items c.put.new.nodes.items c.len-child.result c.in_ok-first.first c.in_ok-count.count l.so_far.end l.so_far.align c.in-Some.part c.in-Some-spot.spot c.is_tail-is_tail.result c.ended_by.result
-    c.loop-i-test.true c.index-members-i.is l.invariant.made l.invariant.longer l.invariant.kept l.invariant.filled child c.in_ok-first.ensures c.in_ok-count.ensures added c.if-part-ne0.true c.in-Some-spot.ensures c.put.ensures c.is_tail-is_tail.ensures c.ended_by.ensures
+    c.loop-i-test.true c.index-members-i.is l.invariant.made l.invariant.longer l.invariant.kept l.invariant.filled l.invariant.exact child c.in_ok-first.ensures c.in_ok-count.ensures added c.if-part-ne0.true c.in-Some-spot.ensures c.put.ensures c.is_tail-is_tail.ensures c.ended_by.ensures
 
 pub add_members-returns : goal.add_members-returns
 add_members-returns t c =
     let l = c.loop-i in
     let child = c.len-child.ensures ∙ c.args.nodes.now.ok.0 in
     structure-says c.args.members.now l.i c.args.nodes.now.items l.nodes.items c.len-child.result c.in_ok-first.first c.in_ok-count.count l.so_far.end l.so_far.align c.structure.result
-    c.loop-i-test.false l.invariant.made l.invariant.longer l.invariant.kept l.invariant.filled child c.in_ok-first.ensures c.in_ok-count.ensures c.structure.ensures
+    c.loop-i-test.false l.invariant.made l.invariant.longer l.invariant.kept l.invariant.filled l.invariant.exact child c.in_ok-first.ensures c.in_ok-count.ensures c.structure.ensures
 
 pub add_element-returns-in_default : goal.add_element-returns-in_default
 add_element-returns-in_default t c = no-element (type_view c.args.element.now) c.args.n (rw c.in_default.is at c.in_ok-part.ensures)
