@@ -8,7 +8,7 @@ use Rattle.wgsl_rules.specs.Size.{extent_in, offset_after, end_after}
 use Rattle.wgsl_rules.specs.Layout.{amount, size, align, stride}
 use Rattle.wgsl_nodes.specs.HostTypes.{kind_of}
 use Rattle.wgsl_nodes.specs.Nodes.{Says, Stands, LeadsTo, MembersStand, Describes, IsNodeOf, members_in}
-use Rattle.wgsl_nodes.specs.Places.{Part, part_in, member_in, part_if, number_kind, numbers_in, IsPlaceOf, IsPartAt, kind_at, count_at, placed, place_in, member_place, part_of_node, part_of}
+use Rattle.wgsl_nodes.specs.Places.{Part, part_in, member_in, part_if, number_kind, numbers_in, IsPlaceOf, IsPartAt, kind_at, count_at, placed, place_in, member_place, part_of_node, part_of, part_where, part_with, part_of_with, has_part_with}
 use Rattle.wgsl_nodes.specs.declared.nodes.Node.{Node}
 use Rattle.wgsl_nodes.specs.declared.places.Place.{Place}
 use Rattle.wgsl_nodes.proofs.Growing.{leads-lower}
@@ -147,3 +147,23 @@ node-part nodes offset room i number r t few says leads = rw says.sort refl
 
 pub part-is : (nodes : List Node) (p : Place) (i len : ℕ) (t : Ty) → length nodes < 2 ^ 32 → IsNodeOf nodes p.node t → IsPartAt nodes p.offset (part_in (len - p.offset) i t) (part_of nodes p i len)
 part-is nodes p i len t few is = rw is.there (node-part nodes p.offset (len - p.offset) i p.node is.node t few is.describes.says is.describes.leads)
+
+-- ---- with so many elements
+
+node-part-with : (nodes : List Node) (offset n i number : ℕ) (r : Node) (t : Ty) → length nodes < 2 ^ 32 → Says r t → LeadsTo nodes (number + 1) r.child t
+    → IsPartAt nodes offset (part_with n i t) (part_where nodes offset i r (has_part_with r i n))
+node-part-with nodes offset n i number r (vec k t) few says leads =
+    rw (says.sort, says.count) (row-part nodes offset r.child (i * size t) r.stride i (nat_lt i k) t few (stands-node nodes r.child 0 t leads.1) (ap (λ (k : ℕ). i * k) (sym says.stride)))
+node-part-with nodes offset n i number r (mat c k t) few says leads =
+    rw (says.sort, says.count) (row-part nodes offset r.child (i * align (vec k t)) r.stride i (nat_lt i c) (vec k t) few (stands-node nodes r.child 0 (vec k t) leads.1) (ap (λ (m : ℕ). i * m) (sym says.stride)))
+node-part-with nodes offset n i number r (array t (Some k)) few says leads =
+    rw (says.sort, says.tail_stride, says.count) (row-part nodes offset r.child (i * stride t) r.stride i (nat_lt i k) t few (stands-node nodes r.child 0 t leads.1) (ap (λ (k : ℕ). i * k) (sym says.stride)))
+node-part-with nodes offset n i number r (array t None) few says leads =
+    rw (says.sort, says.tail_stride, says.count) (rw (open-test (nat_lt 0 (stride t)) (nat_lt i n) i)
+    (row-part nodes offset r.child (i * stride t) r.stride i (nat_lt 0 (stride t) && nat_lt i n) t few (stands-node nodes r.child 0 t leads.1) (ap (λ (k : ℕ). i * k) (sym says.stride))))
+node-part-with nodes offset n i number r (struct name fs) few says leads =
+    rw (says.sort, says.count) (member-part nodes offset r.child i (members_in fs) (member_in (Some 0) i fs) few (member-at nodes (r.child + members_in fs) r.child (Some 0) i fs leads.1))
+node-part-with nodes offset n i number r t few says leads = rw says.sort refl
+
+pub part-with-is : (nodes : List Node) (p : Place) (i n : ℕ) (t : Ty) → length nodes < 2 ^ 32 → IsNodeOf nodes p.node t → IsPartAt nodes p.offset (part_with n i t) (part_of_with nodes p i n)
+part-with-is nodes p i n t few is = rw is.there (node-part-with nodes p.offset n i p.node is.node t few is.describes.says is.describes.leads)

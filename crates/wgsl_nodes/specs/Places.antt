@@ -34,6 +34,11 @@ part_in room i (array t None) = part_if (nat_lt 0 (stride t) && nat_lt i (room /
 part_in room i (struct name fs) = member_in (Some 0) i fs
 part_in room i t = None
 
+-- the same, with so many elements in a runtime-sized array
+abbrev pub part_with : ℕ → ℕ → Ty → Option Part
+part_with n i (array t None) = part_if (nat_lt 0 (stride t) && nat_lt i n) (i * stride t) t
+part_with n i t = part_in 0 i t
+
 -- the kind of a number, or of a vector's components
 abbrev pub number_kind : Ty → ℕ
 number_kind (vec n t) = kind_of t
@@ -103,3 +108,18 @@ part_of_node nodes offset room i r =
 -- the place of the part of the position, in a value of `len` bytes
 abbrev pub part_of : List Node → Place → ℕ → ℕ → Option Place
 part_of nodes p i len = option_and_then (part_of_node nodes p.offset (len - p.offset) i) (slice_get nodes p.node)
+
+-- a component, column or element of the position is there, with so many elements in a runtime-sized array
+abbrev pub has_part_with : Node → ℕ → ℕ → Bool
+has_part_with r i n = if r.sort == 3 && nat_lt 0 r.tail_stride then nat_lt i n else nat_lt i r.count
+
+-- the part of the position in what begins at the offset, where a component, column or element is there if it says so
+abbrev pub part_where : List Node → ℕ → ℕ → Node → Bool → Option Place
+part_where nodes offset i r there =
+    if r.sort == 4
+    then (if nat_lt i r.count then member_place nodes offset (r.child + i) else None)
+    else (if has_row r && there then place_in nodes (offset + i * r.stride) r.child else None)
+
+-- the place of the part of the position, with so many elements in a runtime-sized array
+abbrev pub part_of_with : List Node → Place → ℕ → ℕ → Option Place
+part_of_with nodes p i n = option_and_then (λ r. part_where nodes p.offset i r (has_part_with r i n)) (slice_get nodes p.node)

@@ -18,5 +18,5 @@ pub use make::{nodes_of, set_name};
 pub use nodes::Node;
 pub use numbers::{load, load_vec, store, store_vec};
 pub use paths::place;
-pub use places::{Place, part, whole};
+pub use places::{Place, part, part_with, whole};
 pub use tables::is_table;

@@ -9,12 +9,16 @@ ghost use Rattle.wgsl_nodes.specs.Places.{
   IsPlaceOf,
   count_at,
   has_part,
+  has_part_with,
   has_row,
   kind_at,
   member_place,
   part_in,
   part_of,
   part_of_node,
+  part_of_with,
+  part_where,
+  part_with,
   place_in,
   placed,
 };
@@ -62,9 +66,34 @@ pub(crate) fn part_of(nodes: &[Node], place: Place, index: u64, len: u64) -> Opt
     part_of_node(nodes, place.offset, room, index, *node)
 }
 
+/// The place of the part of the position, as [`part`] finds it, in a value with so many elements in the runtime-sized
+/// array that its type is or ends in.
+pub fn part_with(nodes: &[Node], place: Place, index: u64, elements: u64) -> Option<Place>
+    ensures answer { result ≡ part_of_with nodes.now place index elements }
+    ensures on_table { (t : Ty) → length nodes.now < 2 ^ 32 → IsNodeOf nodes.now place.node t → IsPartAt nodes.now place.offset (part_with elements index t) result }
+{
+    part_of_with(nodes, place, index, elements)
+}
+
+// The part of the position, by the records alone.
+fn part_of_with(nodes: &[Node], place: Place, index: u64, elements: u64) -> Option<Place>
+    ensures { result ≡ part_of_with nodes.now place index elements }
+{
+    let node = nodes.get(place.node as usize)?;
+    let is_there = has_part_with(*node, index, elements);
+    part_where(nodes, place.offset, index, *node, is_there)
+}
+
 // In what begins at the offset, with so many bytes from there on.
 fn part_of_node(nodes: &[Node], offset: u64, room: u64, index: u64, node: Node) -> Option<Place>
     ensures { result ≡ part_of_node nodes.now offset room index node }
+{
+    part_where(nodes, offset, index, node, has_part(node, index, room))
+}
+
+// In what begins at the offset, where a component, column or element is there if it says so.
+fn part_where(nodes: &[Node], offset: u64, index: u64, node: Node, is_there: bool) -> Option<Place>
+    ensures { result ≡ part_where nodes.now offset index node is_there }
 {
     match node.sort {
         Node::STRUCTURE => {
@@ -74,7 +103,7 @@ fn part_of_node(nodes: &[Node], offset: u64, room: u64, index: u64, node: Node) 
             member_at(nodes, offset, u64::from(node.child) + index)
         }
         Node::VECTOR | Node::MATRIX | Node::ARRAY => {
-            if !has_part(node, index, room) {
+            if !is_there {
                 return None;
             }
             let start = index.checked_mul(u64::from(node.stride))?;
@@ -90,6 +119,17 @@ fn has_part(node: Node, index: u64, room: u64) -> bool
 {
     if node.sort == Node::ARRAY && node.tail_stride != 0 {
         index < room / u64::from(node.tail_stride)
+    } else {
+        index < u64::from(node.count)
+    }
+}
+
+// Whether the component, column or element is there, with so many elements in a runtime-sized array.
+fn has_part_with(node: Node, index: u64, elements: u64) -> bool
+    ensures { result ≡ has_part_with node index elements }
+{
+    if node.sort == Node::ARRAY && node.tail_stride != 0 {
+        index < elements
     } else {
         index < u64::from(node.count)
     }
