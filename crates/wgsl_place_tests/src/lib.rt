@@ -1,0 +1,5 @@
+//! The tests of `wgsl_places`.
+#![tactic(auto)]
+
+#[cfg(test)]
+mod tests;

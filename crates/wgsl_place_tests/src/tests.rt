@@ -1,0 +1,9 @@
+//! Places, and the numbers there.
+
+mod depth;
+mod growth;
+mod numbers;
+mod refusals;
+mod samples;
+mod using;
+mod without_memory;

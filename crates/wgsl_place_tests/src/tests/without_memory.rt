@@ -1,0 +1,22 @@
+//! What takes no memory.
+
+use crate::tests::samples::Step::{Index, Member};
+use crate::tests::samples::{LEN, scene, view_of};
+use wgsl_places::Places;
+use wgsl_scalar::LiteralInstance;
+
+#[test]
+fn numbers_are_found_loaded_and_stored_without_memory(rt: HostRuntime) {
+    let alloc = rt.alloc();
+    let ty = scene(alloc).expect(&rt, "no memory to make it");
+    let made = Places::of(alloc, &ty).expect(&rt, "no memory to make it");
+    let places = made.expect(&rt, "a layout");
+    let view = view_of(&rt, alloc, &[Member("tail", 5)]);
+    let mut bytes = [0; LEN];
+    let tail = places.place(LEN, &view).expect(&rt, "a part");
+    let last = places.part(tail, 2).expect(&rt, "an element");
+    assert!(rt; places.store(&mut bytes, last, LiteralInstance::U32(7)));
+    assert_eq!(rt; &bytes[108..], [7, 0, 0, 0].as_slice());
+    assert_eq!(rt; places.load(&bytes, last), Some(LiteralInstance::U32(7)));
+    drop((ty, places, view));
+}

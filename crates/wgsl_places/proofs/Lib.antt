@@ -1,0 +1,6 @@
+mod Host
+mod Named
+mod Parts
+mod Told
+mod Values
+mod Views

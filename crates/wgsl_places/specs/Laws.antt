@@ -1,0 +1,30 @@
+-- Numbers at places, and values of parts (WGSL: load rule; assignment statement).
+use Rattle.std.specs.Prelude.{◌≡◌, ℕ, ℤ, Option, Some, None, Ok, true, List}
+use Rattle.wgsl_rules.specs.Kinds.{Kind}
+use Rattle.wgsl_rules.specs.Layout.{HasLayout, layout, type_in}
+use Rattle.wgsl_rules.specs.Types.{Ty, atomic}
+use Rattle.wgsl_rules.specs.Values.{Val, number, atomic_of}
+use Rattle.wgsl_store.specs.Buffers.{decoded}
+use Rattle.wgsl_store.specs.Layouts.{written_in}
+use Rattle.wgsl_store.specs.Ranges.{Range}
+use Rattle.wgsl_places.specs.Places.{is_inside, loaded, stored}
+
+-- the number that a value is, or that an atomic holds
+abbrev pub number_in : Val → Option Val
+number_in (number k z) = Some (number k z)
+number_in (atomic_of v) = Some v
+number_in v = None
+
+-- in bytes that hold the range, what is loaded is the number of the value that they lay out there
+abbrev pub LoadsAreReads : Type 0
+LoadsAreReads = (b : List ℕ) (r : Range) → is_inside b r ≡ true → loaded b r ≡ number_in (decoded b r.start r.layout)
+
+-- the value of the type with this number
+abbrev pub value_with : Ty → Val → Val
+value_with (atomic t) w = atomic_of w
+value_with t w = w
+
+-- what is stored is what a write of the value makes, in the range of a type that has a layout
+abbrev pub StoresAreWrites : Type 0
+StoresAreWrites = (b after : List ℕ) (r : Range) (n : ℕ) (k : Kind) (z : ℤ) → HasLayout (type_in r.layout) → r.layout ≡ layout n (type_in r.layout)
+    → stored b r (number k z) ≡ Some after → written_in b (value_with (type_in r.layout) (number k z)) r ≡ Ok after

@@ -1,0 +1,12 @@
+//! Places of numbers in bytes that hold a value of a type: found once, by a view or step by step, and then read and put
+//! with no names, no value and no memory (WGSL: internal layout of values; memory views).
+#![tactic(auto)]
+
+pub mod laws;
+mod numbers;
+mod place;
+mod places;
+mod shape;
+
+pub use place::Place;
+pub use places::Places;
