@@ -11,8 +11,10 @@ fn reckoned(rt: &impl Abort, bytes: &[u8], row: &Row) -> LiteralInstance {
     } else {
         4
     };
+    let end = row.start.saturating_add(width);
+    let own = bytes.get(row.start..end).expect(rt, "bytes of a row");
     let mut number = 0u64;
-    for byte in bytes[row.start..row.start + width].iter().rev() {
+    for byte in own.iter().rev() {
         number = number << 8 | u64::from(*byte);
     }
     literal(rt, row.kind, number)
