@@ -1,4 +1,4 @@
-"""The places of random types, through the library: types.py RUN.
+"""The places of random types, through the library: random_types.py RUN.
 
 Of each of 2,000 random types, each scalar's place, size and number in random bytes is compared with those of a plain
 reckoning (tools/fuzzing/layouts.py, which follows the rules of the language alone); of those without floats, some scalars
