@@ -6,4 +6,5 @@ mod numbers;
 mod refusals;
 mod samples;
 mod using;
+mod vectors;
 mod without_memory;

@@ -1,6 +1,10 @@
+mod ComponentTypes
 mod Host
 mod Named
 mod Parts
+mod SideBySide
 mod Told
 mod Values
+mod VectorValues
+mod Vectors
 mod Views

@@ -1,5 +1,6 @@
 -- Numbers in bytes by the kinds that the records of a table have, for the contracts of the code.
-use Rattle.std.specs.Prelude.{ℕ, ◌+◌, Option, Some, None, List, length, nat_le, ◌==◌, ◌||◌, if◌then◌else◌, option_and_then}
+use Rattle.std.specs.Prelude.{ℕ, zero, suc, ◌+◌, Option, Some, None, Bool, is_some, List, [], ◌∷◌, length, nat_le, ◌==◌, ◌||◌, if◌then◌else◌, option_and_then, option_map}
+use Rattle.wgsl_rules.specs.InCommon.{prepended}
 use Rattle.wgsl_rules.specs.Kinds as kinds
 use Rattle.wgsl_rules.specs.Kinds.{Kind, bytes_of}
 use Rattle.wgsl_rules.specs.Values.{Val, number}
@@ -39,3 +40,28 @@ stored_in b o w width = if nat_le (o + width) (length b) then Some (number_put b
 
 abbrev pub stored_kind : List ℕ → ℕ → ℕ → Val → Option (List ℕ)
 stored_kind b o kind w = option_and_then (stored_in b o w) (width_with kind w)
+
+-- ---- numbers side by side
+
+-- how many bytes a number takes of the kind that is named
+abbrev pub width_of : ℕ → Option ℕ
+width_of kind = option_map bytes_of (kind_named kind)
+
+-- n numbers from o on, so far apart
+abbrev pub loaded_far : List ℕ → ℕ → ℕ → ℕ → ℕ → Option (List Val)
+loaded_far b o kind far zero = Some []
+loaded_far b o kind far (suc n) = prepended (loaded_kind b o kind) (loaded_far b (o + far) kind far n)
+
+abbrev pub loaded_row : List ℕ → ℕ → ℕ → ℕ → Option (List Val)
+loaded_row b o kind n = option_and_then (λ far. loaded_far b o kind far n) (width_of kind)
+
+abbrev pub is_of_kind : ℕ → Val → Bool
+is_of_kind kind w = is_some (width_with kind w)
+
+-- the bytes with these numbers from o on, so far apart
+abbrev pub stored_far : List ℕ → ℕ → ℕ → ℕ → List Val → Option (List ℕ)
+stored_far b o kind far [] = Some b
+stored_far b o kind far (w ∷ ws) = option_and_then (λ c. stored_far c (o + far) kind far ws) (stored_kind b o kind w)
+
+abbrev pub stored_row : List ℕ → ℕ → ℕ → List Val → Option (List ℕ)
+stored_row b o kind ws = option_and_then (λ far. stored_far b o kind far ws) (width_of kind)

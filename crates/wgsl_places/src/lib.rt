@@ -2,11 +2,14 @@
 //! with no names, no value and no memory (WGSL: internal layout of values; memory views).
 #![tactic(auto)]
 
+mod components;
 pub mod laws;
 mod numbers;
 mod place;
 mod places;
+mod rows;
 mod shape;
 
+pub use components::Components;
 pub use place::Place;
 pub use places::Places;

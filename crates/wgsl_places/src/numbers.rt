@@ -7,6 +7,7 @@ ghost use Rattle.wgsl_places.specs.Numbers.{
   loaded_kind,
   number_put,
   stored_kind,
+  width_of,
   width_with,
 };
 ghost use Rattle.wgsl_scalar.specs.Literals.{literal_of};
@@ -45,8 +46,19 @@ pub(crate) fn store_number(bytes: &mut [u8], at: usize, kind: u32, number: Liter
     }
 }
 
-// How many bytes the number takes; `None` where it is of another kind.
-fn width_with(kind: u32, number: LiteralInstance) -> Option<usize>
+/// How many bytes a number of the kind takes; `None` where it is no kind that has a layout.
+pub(crate) fn width_of(kind: u32) -> Option<usize>
+    ensures { result ≡ width_of kind }
+{
+    match kind {
+        1 | 2 | 257 | 258 => Some(4),
+        5 | 6 => Some(8),
+        _ => None,
+    }
+}
+
+/// How many bytes the number takes; `None` where it is of another kind.
+pub(crate) fn width_with(kind: u32, number: LiteralInstance) -> Option<usize>
     ensures { result ≡ width_with kind (literal_of number) }
 {
     match (number, kind) {
@@ -58,8 +70,8 @@ fn width_with(kind: u32, number: LiteralInstance) -> Option<usize>
     }
 }
 
-// Whether so many bytes from there on lie in bytes of this length.
-fn is_inside(len: usize, at: usize, width: usize) -> bool
+/// Whether so many bytes from there on lie in bytes of this length.
+pub(crate) fn is_inside(len: usize, at: usize, width: usize) -> bool
     ensures { result ≡ nat_le (at + width) len }
 {
     at <= len && width <= len - at
@@ -94,9 +106,9 @@ fn u64_at(bytes: &[u8], at: usize) -> Option<u64>
     ]))
 }
 
-// Puts the bytes of the number there, the lowest first. The condition: it is of a kind that has a layout, and lies
-// inside.
-fn put(bytes: &mut [u8], at: usize, number: LiteralInstance)
+/// Puts the bytes of the number there, the lowest first. The condition: it is of a kind that has a layout, and lies
+/// inside.
+pub(crate) fn put(bytes: &mut [u8], at: usize, number: LiteralInstance)
     requires { Stands (literal_of number) scalar at (length bytes.old) }
     ensures { bytes.new ≡ number_put bytes.old at (literal_of number) }
 {

@@ -2,6 +2,7 @@
 
 ghost use Rattle.std.specs.Prelude.{◌≡◌};
 ghost use Rattle.wgsl_places.specs.Places.{IsPlace};
+ghost use Rattle.wgsl_rules.specs.Layout.{is_from_2_to_4};
 ghost use Rattle.wgsl_rules.specs.Types.{Ty};
 ghost use Rattle.wgsl_store.specs.Ranges.{Range};
 
@@ -21,5 +22,12 @@ impl Place {
         ensures { (t : Ty) (r : Range) → IsPlace t r self.now → result ≡ r.start }
     {
         self.at.offset as usize
+    }
+
+    // Whether numbers stand side by side there, as a vector's components.
+    pub(crate) fn is_of_vector(self) -> bool
+        ensures { result ≡ is_from_2_to_4 self.at.count }
+    {
+        2 <= self.at.count && self.at.count <= 4
     }
 }

@@ -1,11 +1,13 @@
 //! Where the parts of the values of a type stand.
 
-ghost use Rattle.std.specs.Prelude.{◌≡◌, false, IfOk, MatchOption, option_map};
+ghost use Rattle.std.specs.Prelude.{◌≡◌, false, IfOk, MatchOption, map, option_map};
 ghost use Rattle.std.specs.Bool.{OnFalse};
 ghost use Rattle.std.specs.Option.{unwrap_or};
 ghost use Rattle.std.specs.Prelude.{is_some};
+ghost use Rattle.wgsl_places.specs.Components.{components_of};
 ghost use Rattle.wgsl_places.specs.Places.{ArePlaces, IsPlace, IsPlaceAnswer, loaded, stored, whole_of};
 ghost use Rattle.wgsl_places.specs.Steps.{shape_ty};
+ghost use Rattle.wgsl_places.specs.Vectors.{loaded_vec, stored_vec};
 ghost use Rattle.wgsl_rules.specs.Layout.{HasLayout, count_in, has_layout, type_in};
 ghost use Rattle.wgsl_rules.specs.View.{type_view};
 ghost use Rattle.wgsl_scalar.specs.Literals.{literal_of};
@@ -13,8 +15,10 @@ ghost use Rattle.wgsl_store.specs.Layouts.{part_in};
 ghost use Rattle.wgsl_store.specs.Ranges.{Range, further, part_at, parts_in, view_range};
 ghost use Rattle.wgsl_values.specs.View.{steps_of};
 
+use crate::components::Components;
 use crate::numbers::{load_number, store_number};
 use crate::place::Place;
+use crate::rows::{load_row, store_row};
 use crate::shape::Shape;
 use std::alloc::{AllocError, Global};
 use std::marker::Model;
@@ -116,6 +120,35 @@ impl Places {
         ensures refused { OnFalse result (bytes.new ≡ bytes.old) }
     {
         place.at.count == 1 && store_number(bytes, place.at.offset as usize, place.at.kind, number)
+    }
+
+    /// The components of the vector that stands there; `None` where no vector does, or it does not lie in the bytes. No
+    /// memory is taken.
+    pub fn load_vec(&self, bytes: &[u8], place: Place) -> Option<Components>
+        ensures { (r : Range) → IsPlace self.now r place → option_map components_of result ≡ loaded_vec bytes.now r }
+    {
+        if !place.is_of_vector() {
+            return None;
+        }
+        load_row(
+            bytes,
+            place.at.offset as usize,
+            place.at.kind,
+            place.at.count,
+        )
+    }
+
+    /// Puts the components there, and says whether it did: whether a vector of as many numbers of their kind stands
+    /// there and lies in the bytes. Else all bytes are as before. No memory is taken.
+    pub fn store_vec(&self, bytes: &mut [u8], place: Place, components: &[LiteralInstance]) -> bool
+        ensures answer { (r : Range) → IsPlace self.now r place → result ≡ is_some (stored_vec bytes.old r (map literal_of components.now)) }
+        ensures bytes { (r : Range) → IsPlace self.now r place → bytes.new ≡ unwrap_or (stored_vec bytes.old r (map literal_of components.now)) bytes.old }
+        ensures refused { OnFalse result (bytes.new ≡ bytes.old) }
+    {
+        if !place.is_of_vector() || components.len() != place.at.count as usize {
+            return false;
+        }
+        store_row(bytes, place.at.offset as usize, place.at.kind, components)
     }
 
     // The place of the whole, in so many bytes; `None` where they are too few.

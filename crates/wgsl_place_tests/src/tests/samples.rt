@@ -146,7 +146,12 @@ pub(super) fn place_of(rt: &impl Abort, alloc: Global, places: &Places, steps: &
 
 /// The place at the end of these steps, found by one step after the other.
 pub(super) fn stepped(rt: &impl Abort, places: &Places, steps: &[Step]) -> Place {
-    let whole = places.place(LEN, &MemView::Whole);
+    stepped_in(rt, places, LEN, steps)
+}
+
+/// The same, in so many bytes.
+pub(super) fn stepped_in(rt: &impl Abort, places: &Places, len: usize, steps: &[Step]) -> Place {
+    let whole = places.place(len, &MemView::Whole);
     let mut place = whole.expect(rt, "the whole");
     for step in steps {
         let position = match step {

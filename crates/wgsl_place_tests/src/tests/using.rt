@@ -1,7 +1,7 @@
-//! The snippet of `docs/USING.md` on places.
+//! The snippets of `docs/USING.md` on places.
 
 use std::test::Fail;
-use wgsl_places::Places;
+use wgsl_places::{Components, Places};
 use wgsl_rules::Type;
 use wgsl_scalar::LiteralInstance::U32;
 use wgsl_values::MemView;
@@ -21,5 +21,23 @@ fn numbers_are_doubled_in_bytes_of_the_callers(rt: HostRuntime) -> Result<(), Fa
         }
     }
     assert_eq!(rt; bytes, [2, 0, 0, 0, 4, 0, 0, 0, 6, 0, 0, 0]);
+    Ok(())
+}
+
+#[test]
+fn a_vector_is_turned_round_in_bytes_of_the_callers(rt: HostRuntime) -> Result<(), Fail> {
+    let alloc = rt.alloc();
+    let point = Type::Vec(3, Box::new(alloc, Type::U32)?);
+    let points = Type::Array(Box::new(alloc, point)?, None);
+    let places = Places::of(alloc, &points)?.ok_or("a type without a layout")?;
+    let mut bytes = [1, 0, 0, 0, 2, 0, 0, 0, 3, 0, 0, 0, 9, 9, 9, 9];
+    let whole = places.place(bytes.len(), &MemView::Whole);
+    let whole = whole.ok().ok_or("too few bytes")?;
+    let first = places.part(whole, 0).ok_or("past the last")?;
+    if let Some(Components::Three(point)) = places.load_vec(&bytes, first) {
+        let [x, y, z] = point;
+        assert!(rt; places.store_vec(&mut bytes, first, &[z, y, x]));
+    }
+    assert_eq!(rt; bytes, [3, 0, 0, 0, 2, 0, 0, 0, 1, 0, 0, 0, 9, 9, 9, 9]);
     Ok(())
 }
