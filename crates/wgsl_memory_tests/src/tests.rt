@@ -8,6 +8,7 @@ mod copies;
 mod fixtures;
 mod growth;
 mod handles;
+mod laid_out;
 mod layouts;
 mod lent;
 mod plain_memory;

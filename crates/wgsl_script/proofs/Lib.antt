@@ -1,7 +1,7 @@
 pub mod AnswerLines
 pub mod AttributeWords
 pub mod Hexadecimals
+pub mod LaidOut
 pub mod Numbers
-pub mod Scripts
 pub mod Splits
 pub mod Templates

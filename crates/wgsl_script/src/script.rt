@@ -1,14 +1,16 @@
 //! Scripts: a line a call.
 
-ghost use Rattle.std.specs.Prelude.{◌≡◌, IfOk, IsOkAnd, Err};
+ghost use Rattle.std.specs.Prelude.{◌≡◌, IfOk, IsOkAnd, IsSomeAnd, slice_get};
 ghost use Rattle.wgsl_script.specs.Hexadecimal.{hexadecimal};
 ghost use Rattle.wgsl_script.specs.Lines.{answer_text};
-ghost use Rattle.wgsl_store.specs.Buffers.{Lays, buffer};
+ghost use Rattle.wgsl_session.specs.Calls as model;
+ghost use Rattle.wgsl_session.specs.Calls.{IsStep};
+ghost use Rattle.wgsl_session.specs.View.{reply_of};
+ghost use Rattle.wgsl_store.specs.Buffers.{buffer, decode};
 ghost use Rattle.wgsl_store.specs.Memory.{IsKept, held};
 ghost use Rattle.wgsl_store.specs.ReferenceCalls.{read};
-ghost use Rattle.wgsl_rules.specs.Values.{Val};
 ghost use Rattle.wgsl_rules.specs.View.{type_view};
-ghost use Rattle.wgsl_values.specs.View.{reference_of, value_of};
+ghost use Rattle.wgsl_values.specs.View.{reference_of};
 
 use crate::answer::{Answer, write_answer};
 use crate::fault::RunFault;
@@ -21,10 +23,10 @@ use crate::structs::Structs;
 use std::alloc::{AllocError, Global};
 use std::io::{Read, Write};
 use std::str;
-use wgsl_rules::Type;
+use wgsl_rules::{AccessMode, AddressSpace, Type};
 use wgsl_session::{Call, Fault, Reply, Session};
 use wgsl_store::{Buffers, References, Store};
-use wgsl_values::{Instance, RefInstance};
+use wgsl_values::RefInstance;
 
 /// Runs the script that the reader gives, and writes a line for each line that has a word. All of
 /// the script is read before its first line is run; each line is written before the next one is
@@ -96,7 +98,6 @@ impl Script {
         Ok(Reply::Done.into())
     }
 
-    #[tactic(auto, using(crate::proofs::Scripts::laid_is_plain))]
     fn make(
         &mut self,
         ty: &str,
@@ -108,8 +109,8 @@ impl Script {
         let access = access_of(access).ok_or(Stop::BadLine)?;
         let bytes = bytes_of(self.alloc, bytes)?.ok_or(Stop::BadLine)?;
         let ty = self.structs.type_of(ty)?;
-        let value = laid_out(self.alloc, bytes.as_slice(), &ty)?;
-        Ok(self.session.call(Call::New(value, space, access))?.into())
+        let reply = new_of_bytes(&mut self.session, ty, bytes.as_slice(), space, access)?;
+        Ok(reply.into())
     }
 
     fn member(&mut self, handle: &str, name: &str) -> Result<Answer<'static>, Stop> {
@@ -132,13 +133,11 @@ impl Script {
         Ok(self.session.call(Call::Read(handle))?.into())
     }
 
-    #[tactic(auto, using(crate::proofs::Scripts::laid_is_plain))]
     fn write(&mut self, handle: &str, bytes: &str) -> Result<Answer<'static>, Stop> {
         let handle = handle_of(handle).ok_or(Stop::BadLine)?;
         let bytes = bytes_of(self.alloc, bytes)?.ok_or(Stop::BadLine)?;
-        let reference = self.session.reference(handle).ok_or(Fault::NoHandle)?;
-        let value = laid_out(self.alloc, bytes.as_slice(), reference.target_ty())?;
-        Ok(self.session.call(Call::Write(handle, value))?.into())
+        let reply = write_of_bytes(&mut self.session, handle, bytes.as_slice())?;
+        Ok(reply.into())
     }
 
     fn copy(&mut self, from: &str, to: &str) -> Result<Answer<'static>, Stop> {
@@ -173,13 +172,32 @@ fn bytes_read<'a>(
     Ok(Answer::Bytes(bytes.ok_or(Stop::NoValue)?))
 }
 
-/// The value of the type that the bytes lay out; `NoValue` where they lay out none.
-fn laid_out(alloc: Global, bytes: &[u8], ty: &Type) -> Result<Instance, Stop>
-    ensures value { IfOk result (λ value. Lays bytes.now (type_view ty.now) (value_of value)) }
-    ensures none { result ≡ Err Stop.NoValue → (v : Val) → ¬ Lays bytes.now (type_view ty.now) v }
+/// Makes a cell with the value of the type that the bytes lay out; `NoValue`, and nothing is changed, where they lay
+/// out none.
+fn new_of_bytes(
+    session: &mut Session,
+    ty: Type,
+    bytes: &[u8],
+    space: AddressSpace,
+    access: AccessMode,
+) -> Result<Reply, Stop>
+    ensures value { IfOk result (λ reply. IsSomeAnd (decode bytes.now (type_view ty)) (λ v. IsStep session.old (model.new v space access) session.new (Some (reply_of reply)))) }
+    ensures none { result ≡ Err Stop.NoValue → (decode bytes.now (type_view ty) ≡ None) × (session.new ≡ session.old) }
 {
-    match Instance::from_buffer(alloc, bytes, ty)? {
-        Some(value) => Ok(value),
+    match session.new_from_bytes(ty, bytes, space, access)? {
+        Some(reply) => Ok(reply),
+        None => Err(Stop::NoValue),
+    }
+}
+
+/// Writes the value that the bytes lay out in the type of what the handle names; `NoValue`, and nothing is changed,
+/// where they lay out none.
+fn write_of_bytes(session: &mut Session, handle: usize, bytes: &[u8]) -> Result<Reply, Stop>
+    ensures value { IfOk result (λ reply. IsSomeAnd (slice_get session.old.handles handle) (λ r. IsSomeAnd (decode bytes.now r.ty) (λ v. IsStep session.old (model.write handle v) session.new (Some (reply_of reply))))) }
+    ensures none { result ≡ Err Stop.NoValue → IsSomeAnd (slice_get session.old.handles handle) (λ r. (decode bytes.now r.ty ≡ None) × (session.new ≡ session.old)) }
+{
+    match session.write_bytes(handle, bytes)? {
+        Some(reply) => Ok(reply),
         None => Err(Stop::NoValue),
     }
 }

@@ -5,5 +5,6 @@ mod FreeValues
 mod Good
 mod Handles
 mod InStep
+mod LaidOut
 mod Rows
 mod Runs

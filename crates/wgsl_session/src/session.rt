@@ -3,7 +3,7 @@
 use crate::call::{Call, Fault, Reply};
 use std::alloc::{AllocError, Global};
 use std::marker::Model;
-use wgsl_rules::{AccessMode, AddressSpace};
+use wgsl_rules::{AccessMode, AddressSpace, Type};
 use wgsl_store::{Loads, References, Store};
 use wgsl_values::{Instance, RefInstance};
 
@@ -36,8 +36,9 @@ impl Model for Session {
 }
 
 impl Session {
-    ghost use Rattle.std.specs.Prelude.{◌≡◌, [], IfOk, IfSome, IsOk, OnErr, map, option_map, slice_get, string_bytes};
-    ghost use Rattle.wgsl_rules.specs.Values.{Val};
+    ghost use Rattle.std.specs.Prelude.{◌≡◌, [], IfOk, IfSome, IsOk, OnErr, Some, map, option_map, slice_get, string_bytes, true};
+    ghost use Rattle.wgsl_rules.specs.Values.{Reference, Val};
+    ghost use Rattle.wgsl_rules.specs.View.{type_view};
     ghost use Rattle.wgsl_session.specs.Calls as model;
     ghost use Rattle.wgsl_session.specs.Calls.{
       AreSoundCalls,
@@ -53,7 +54,10 @@ impl Session {
       with_handle,
     };
     ghost use Rattle.wgsl_session.specs.Flat.{IsFlatRun, IsFlatStep, flat_of};
+    ghost use Rattle.wgsl_session.specs.LaidOut.{IsStepOf, IsWriteOf};
     ghost use Rattle.wgsl_session.specs.View.{IsContentReply, answer_of, call_of};
+    ghost use Rattle.wgsl_store.specs.Buffers.{decode};
+    ghost use Rattle.wgsl_store.specs.Copies.{in_bytes};
     ghost use Rattle.wgsl_store.specs.Memory.{IsContent, IsKept};
     ghost use Rattle.wgsl_values.specs.View.{reference_of, value_of};
 
@@ -131,6 +135,45 @@ impl Session {
         Ok(replies)
     }
 
+    /// Makes the call [`Call::New`] with the value of the type that the bytes lay out, as
+    /// [`wgsl_store::Buffers::from_buffer`] reads it, and answers its reply; `None`, and nothing is changed, where they
+    /// lay out none. The bytes are copied, with zeros for padding, and no value is made of them. The only fault is
+    /// `Memory`, within [`Fault::Of`].
+    /// It calls itself for each level of the type: keep to 4,095 within a stack of 8 MiB.
+    pub fn new_from_bytes(
+        &mut self,
+        ty: Type,
+        bytes: &[u8],
+        space: AddressSpace,
+        access: AccessMode,
+    ) -> Result<Option<Reply>, Fault>
+        ensures step { IsStepOf IsStep (λ v. model.new v space access) (decode bytes.now (type_view ty)) self.old self.new result }
+        // The same in the memory of bytes that the cells stand for.
+        ensures bytes { IsStepOf IsFlatStep (λ v. model.new v space access) (decode bytes.now (type_view ty)) (flat_of self.old) (flat_of self.new) result }
+        ensures good { IsGood self.new }
+    {
+        self.attest();
+        self.make_from_bytes(ty, bytes, space, access)
+    }
+
+    /// Makes the call [`Call::Write`] with the value that the bytes lay out in the type of what the handle names, as
+    /// [`wgsl_store::Buffers::from_buffer`] reads it, and answers its reply; `None`, and nothing is changed, where they
+    /// lay out none. `NoHandle` comes first, and then that there is no value; the other refusals are those of the call.
+    /// Where the handle names a part of a cell of bytes, as [`Store::read_bytes`] tells, the numbers are copied, and no
+    /// value is made of them: then a write that is accepted takes no memory, and is never answered with `Memory`.
+    /// It calls itself for each level of a value or type, and for each step of a handle: keep to 2,047 within a stack of
+    /// 8 MiB.
+    pub fn write_bytes(&mut self, handle: usize, bytes: &[u8]) -> Result<Option<Reply>, Fault>
+        ensures step { IsWriteOf IsStep handle bytes.now self.old.handles self.old self.new result }
+        // The same in the memory of bytes that the cells stand for.
+        ensures bytes { IsWriteOf IsFlatStep handle bytes.now self.old.handles (flat_of self.old) (flat_of self.new) result }
+        ensures good { IsGood self.new }
+        ensures accepted { (r : Reference) (v : Val) → slice_get self.old.handles handle ≡ Some r → in_bytes self.old.cells r ≡ true → decode bytes.now r.ty ≡ Some v → IsAcceptedWrite self.old (model.write handle v) → IsOk result }
+    {
+        self.attest();
+        self.write_from_bytes(handle, bytes)
+    }
+
     // Does nothing: its contract says what holds of every session.
     fn attest(&self)
         ensures { IsGood self.now }
@@ -181,6 +224,28 @@ impl Session {
         )?;
         self.handles.push(reference).unwrap();
         Ok(Reply::Handle(handle))
+    }
+
+    // A cell with the value of the type that the bytes lay out, and a handle of it.
+    fn make_from_bytes(
+        &mut self,
+        ty: Type,
+        bytes: &[u8],
+        space: AddressSpace,
+        access: AccessMode,
+    ) -> Result<Option<Reply>, Fault>
+        ensures { IsStepOf IsStep (λ v. model.new v space access) (decode bytes.now (type_view ty)) self.old self.new result }
+    {
+        let handle = self.handles.len();
+        self.handles.reserve(1)?;
+        let made = self
+            .store
+            .new_from_bytes(self.alloc, ty, bytes, space, access)?;
+        let Some(reference) = made else {
+            return Ok(None);
+        };
+        self.handles.push(reference).unwrap();
+        Ok(Some(Reply::Handle(handle)))
     }
 
     fn make_of(
@@ -254,6 +319,21 @@ impl Session {
         };
         reference.write(self.alloc, &mut self.store, value)?;
         Ok(Reply::Done)
+    }
+
+    // Writes the value that the bytes lay out.
+    fn write_from_bytes(&mut self, handle: usize, bytes: &[u8]) -> Result<Option<Reply>, Fault>
+        ensures step { IsWriteOf IsStep handle bytes.now self.old.handles self.old self.new result }
+        ensures accepted { (r : Reference) (v : Val) → slice_get self.old.handles handle ≡ Some r → in_bytes self.old.cells r ≡ true → decode bytes.now r.ty ≡ Some v → IsAcceptedWrite self.old (model.write handle v) → IsOk result }
+    {
+        let Some(reference) = reference_at(&self.handles, handle) else {
+            return Err(Fault::NoHandle);
+        };
+        if self.store.write_bytes(self.alloc, reference, bytes)? {
+            Ok(Some(Reply::Done))
+        } else {
+            Ok(None)
+        }
     }
 
     fn replace(&mut self, handle: usize, value: Instance) -> Result<Reply, Fault>

@@ -35,7 +35,7 @@ on-answer P Q (Err e) f h = absurd h
 pub held-is : (cells : List Val) (r : Reference) (v : Val) → slice_get cells r.cell ≡ Some v → held cells r ≡ viewed r.view v
 held-is cells r v e = ap (λ (o : Option Val). and_then (or_refused o not_read) (viewed r.view)) e
 
-bytes-is : (cells : List Val) (r : Reference) (v : Val) → slice_get cells r.cell ≡ Some v → in_bytes cells r ≡ is_bytes v
+pub bytes-is : (cells : List Val) (r : Reference) (v : Val) → slice_get cells r.cell ≡ Some v → in_bytes cells r ≡ is_bytes v
 bytes-is cells r v e = ap (λ (o : Option Val). elim o [ None ↦ false | Some x ↦ is_bytes x ]) e
 
 -- the cell of what a reference holds is there

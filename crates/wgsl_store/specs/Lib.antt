@@ -7,6 +7,7 @@ pub mod Copies
 pub mod Fitting
 pub mod FlatCells
 pub mod HeldBytes
+pub mod LaidOut
 pub mod Laws
 pub mod Layouts
 pub mod Loaded

@@ -20,6 +20,7 @@ ghost use Rattle.std.specs.Prelude.{
   option_map,
 };
 ghost use Rattle.std.specs.Result.{result_ok};
+ghost use Rattle.wgsl_rules.specs.Access.{can_write};
 ghost use Rattle.wgsl_rules.specs.Converted.{converted};
 ghost use Rattle.wgsl_rules.specs.Paths.{fits, member_named, part_at, put_viewed, viewed};
 ghost use Rattle.wgsl_rules.specs.Values.{IsStorable, IsWellFormed, atomic_of, type_of};
@@ -28,15 +29,17 @@ ghost use Rattle.wgsl_scalar.specs.Answers.{refusal_of};
 ghost use Rattle.wgsl_scalar.specs.Literals.{literal_of};
 ghost use Rattle.wgsl_store.specs.Arrays.{elements_in};
 ghost use Rattle.wgsl_store.specs.Atomics.{IsAtomicOf, number_in};
+ghost use Rattle.wgsl_store.specs.Buffers.{decode};
 ghost use Rattle.wgsl_store.specs.Cells.{IsCell, IsPart, LeadsIn, cell_value, part_value};
 ghost use Rattle.wgsl_store.specs.Components.{has_steps, is_vector, leads_to_component};
 ghost use Rattle.wgsl_store.specs.Copies.{IsCopied, is_bytes};
 ghost use Rattle.wgsl_store.specs.Fitting.{FitsAt};
 ghost use Rattle.wgsl_store.specs.HeldBytes.{bytes_at};
+ghost use Rattle.wgsl_store.specs.LaidOut.{CameTo};
 ghost use Rattle.wgsl_values.specs.View.{reference_of, steps_of, value_of};
 
 use crate::flat::{FlatCell, FlatPart};
-use crate::in_place::InPlace;
+use crate::in_place::{BytesWrite, InPlace};
 use crate::parts::{
     atomic_number, element_count, fits_place, indexed, member, no_part, part_viewed, with_number,
 };
@@ -75,6 +78,21 @@ impl Cell {
             Some(bytes) => Ok(Cell::Flat(bytes)),
             None => Ok(Cell::Tree(value)),
         }
+    }
+
+    /// A cell that holds the value of the type that the bytes lay out, as bytes; `None` where they lay out none.
+    pub(crate) fn of_bytes(
+        alloc: Global,
+        ty: &Type,
+        bytes: &[u8],
+    ) -> Result<Option<Cell>, AllocError>
+        ensures value { IfOk result (λ o. option_map cell_value o ≡ decode bytes.now (type_view ty.now)) }
+        ensures cell { IfOk result (λ o. IfSome o IsCell) }
+    {
+        let Some(cell) = FlatCell::of_bytes(alloc, ty, bytes)? else {
+            return Ok(None);
+        };
+        Ok(Some(Cell::Flat(cell)))
     }
 
     /// The whole value, lent.
@@ -140,6 +158,21 @@ impl Cell {
         match self {
             Cell::Flat(bytes) => replace_bytes(alloc, bytes, reference.view(), &value),
             Cell::Tree(whole) => Ok(replace_tree(whole, reference.view(), value)),
+        }
+    }
+
+    /// Writes the value that the bytes lay out in the type of the reference to the place that the reference leads to, as
+    /// [`FlatCell::put_bytes`], where the cell is bytes. It takes no memory. The condition: the reference leads to a
+    /// value of its type.
+    pub(crate) fn write_bytes(&mut self, reference: &RefInstance, bytes: &[u8]) -> BytesWrite
+        requires cell { IsCell self.old }
+        requires leads { LeadsIn (cell_value self.old) (reference_of reference.now) }
+        ensures put { let r = reference_of reference.now in let v = cell_value self.old in CameTo result (is_bytes v) (can_write r.access) (viewed r.view v) (λ w. put_viewed r.view w v) v (cell_value self.new) (decode bytes.now r.ty) }
+        ensures cell { IsCell self.new }
+    {
+        match self {
+            Cell::Flat(cell) => cell.put_bytes(reference, bytes),
+            Cell::Tree(_) => BytesWrite::NotBytes,
         }
     }
 

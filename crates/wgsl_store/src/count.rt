@@ -26,8 +26,8 @@ impl TypePlan {
 }
 
 impl Tail {
-    // As many elements as find room in so many bytes of the whole, one at least.
-    fn count_in(self, len: usize) -> Option<usize>
+    /// As many elements as find room in so many bytes of the whole, one at least; `None` where the bytes are too few.
+    pub(crate) fn count_in(self, len: usize) -> Option<usize>
         ensures { result ≡ (if nat_le self.start len then at_least_one ((len - self.start) / self.stride) else None) }
     {
         let room = len.checked_sub(self.start as usize)?;

@@ -1,6 +1,11 @@
 //! Cells that hold their values as bytes (WGSL: memory locations; internal layout of values).
 
-use crate::in_place::InPlace;
+ghost use Rattle.std.specs.Prelude.{◌≡◌};
+ghost use Rattle.wgsl_rules.specs.Access.{can_write};
+ghost use Rattle.wgsl_values.specs.View.{reference_of};
+
+use crate::copier::copy_numbers;
+use crate::in_place::{BytesWrite, InPlace};
 use crate::located::Located;
 use crate::make::TypePlan;
 use crate::plan::Plan;
@@ -10,7 +15,7 @@ use std::alloc::{AllocError, Global};
 use std::marker::Model;
 use wgsl_rules::{Ty, Type};
 use wgsl_scalar::{Error, LiteralInstance};
-use wgsl_values::{Instance, MemView};
+use wgsl_values::{Instance, MemView, RefInstance};
 
 /// The bytes of a value of a type that has a layout, in memory of their own; padding is 0. Contracts see
 /// the value.
@@ -58,16 +63,20 @@ impl FlatCell {
       MatchOption,
     };
     ghost use Rattle.std.specs.Bool.{OnFalse, OnTrue};
+    ghost use Rattle.wgsl_rules.specs.Access.{can_write};
     ghost use Rattle.wgsl_rules.specs.Layout.{has_layout};
     ghost use Rattle.wgsl_rules.specs.Paths.{put_viewed, viewed};
     ghost use Rattle.wgsl_rules.specs.Values.{IsStorable, atomic_of, type_of};
+    ghost use Rattle.wgsl_rules.specs.View.{type_view};
     ghost use Rattle.wgsl_scalar.specs.Literals.{literal_of};
     ghost use Rattle.wgsl_store.specs.Atomics.{IsAtomicOf};
-    ghost use Rattle.wgsl_store.specs.Buffers.{buffer};
+    ghost use Rattle.wgsl_store.specs.Buffers.{buffer, decode};
+    ghost use Rattle.wgsl_store.specs.Cells.{LeadsIn};
     ghost use Rattle.wgsl_store.specs.Copies.{IsCopied};
     ghost use Rattle.wgsl_store.specs.Fitting.{FitsAt};
     ghost use Rattle.wgsl_store.specs.FlatCells.{IsFlatPart, IsPartAt, part_value};
-    ghost use Rattle.wgsl_values.specs.View.{value_of, steps_of};
+    ghost use Rattle.wgsl_store.specs.LaidOut.{CameTo};
+    ghost use Rattle.wgsl_values.specs.View.{reference_of, value_of, steps_of};
 
     /// The bytes of the value; `None` where its type has no layout. The condition: the value may be stored.
     pub(crate) fn new(alloc: Global, value: &Instance) -> Result<Option<FlatCell>, AllocError>
@@ -85,6 +94,37 @@ impl FlatCell {
             plan: of_type.plan,
             count: runtime_count(value),
             bytes,
+        }))
+    }
+
+    /// The bytes of the value of the type that the bytes lay out, of which the numbers are copied; `None` where they
+    /// lay out none.
+    pub(crate) fn of_bytes(
+        alloc: Global,
+        ty: &Type,
+        bytes: &[u8],
+    ) -> Result<Option<FlatCell>, AllocError>
+        ensures { IfOk result (λ o. o ≡ decode bytes.now (type_view ty.now)) }
+    {
+        let of_type = TypePlan::of_type(alloc, ty)?;
+        if !of_type.has_layout {
+            return Ok(None);
+        }
+        let Some(count) = of_type.count_in(bytes.len()) else {
+            return Ok(None);
+        };
+        // They are no more than the bytes, which are counted.
+        let Some(len) = of_type.length(count) else {
+            unreachable!()
+        };
+        let own_ty = ty.clone(alloc)?;
+        let mut out = vec![in alloc; 0u8; len]?;
+        copy_numbers(out.as_mut_slice(), 0, bytes, 0, count, ty, &of_type.plan);
+        Ok(Some(FlatCell {
+            ty: own_ty,
+            plan: of_type.plan,
+            count,
+            bytes: out,
         }))
     }
 
@@ -140,6 +180,31 @@ impl FlatCell {
         }
         part.write(self.bytes.as_mut_slice(), value);
         true
+    }
+
+    /// Copies the numbers of the value that the bytes lay out in the type of the reference to the place that the
+    /// reference leads to, where they lay out one, it may write, and the value fits there; what refuses it is asked in
+    /// this order. It takes no memory. The condition: the reference leads to a value of its type.
+    pub(crate) fn put_bytes(&mut self, reference: &RefInstance, bytes: &[u8]) -> BytesWrite
+        requires { LeadsIn self.old (reference_of reference.now) }
+        ensures put { let r = reference_of reference.now in CameTo result true (can_write r.access) (viewed r.view self.old) (λ w. put_viewed r.view w self.old) self.old self.new (decode bytes.now r.ty) }
+        ensures laid { has_layout (type_of self.old) ≡ true }
+    {
+        let whole = Located::of_whole(&self.ty, &self.plan, self.count, self.bytes.len());
+        let Some(part) = whole.viewed(reference.view()) else {
+            unreachable!()
+        };
+        let Some(count) = part.count_in(bytes.len()) else {
+            return BytesWrite::NoValue;
+        };
+        if !may_write(reference) {
+            return BytesWrite::NotWrite;
+        }
+        if !part.has_count(count) {
+            return BytesWrite::Misfit;
+        }
+        part.copy_numbers(self.bytes.as_mut_slice(), bytes);
+        BytesWrite::Done
     }
 
     /// Copies the bytes of the part that one view leads to over those of the part that the other leads to, where the
@@ -201,6 +266,13 @@ impl FlatCell {
         };
         part.write_atomic_number(self.bytes.as_mut_slice(), number);
     }
+}
+
+// Whether the reference may write.
+fn may_write(reference: &RefInstance) -> bool
+    ensures { result ≡ can_write (reference_of reference.now).access }
+{
+    reference.access().is_write()
 }
 
 impl<'a> FlatPart<'a> {

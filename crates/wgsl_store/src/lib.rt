@@ -4,9 +4,11 @@
 
 mod buffers;
 mod cell;
+mod copier;
 mod count;
 mod flat;
 mod in_place;
+mod laid_out;
 pub mod laws;
 mod layout;
 mod loads;

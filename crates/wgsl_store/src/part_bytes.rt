@@ -7,6 +7,7 @@ ghost use Rattle.wgsl_rules.specs.Values.{IsStorable, type_of};
 ghost use Rattle.wgsl_rules.specs.View.{type_view};
 ghost use Rattle.wgsl_values.specs.View.{vec_view};
 
+use crate::copier::{copy_numbers, copy_vector};
 use crate::located::{Located, Shape};
 use crate::plan::Plan;
 use crate::reader::{read_value, read_vector};
@@ -18,8 +19,19 @@ use wgsl_scalar::LiteralInstance;
 use wgsl_values::{Instance, MemView, VecInstance};
 
 impl<'a> Located<'a> {
-    ghost use Rattle.std.specs.Prelude.{◌≡◌, ◌↔◌, IfOk, IfSome, IsTrue, length, option_map};
-    ghost use Rattle.wgsl_rules.specs.Layout.{layout_of, length_in};
+    ghost use Rattle.std.specs.Prelude.{
+      ◌≡◌,
+      ◌≤◌,
+      ◌⊎◌,
+      ◌↔◌,
+      true,
+      IfOk,
+      IfSome,
+      IsTrue,
+      length,
+      option_map,
+    };
+    ghost use Rattle.wgsl_rules.specs.Layout.{count_in, has_fixed_layout, layout_of, length_in};
     ghost use Rattle.wgsl_rules.specs.Values.{IsStorable, atomic_of, type_of};
     ghost use Rattle.wgsl_scalar.specs.Literals.{literal_of};
     ghost use Rattle.wgsl_store.specs.Buffers.{buffer, decoded};
@@ -128,6 +140,28 @@ impl<'a> Located<'a> {
         bytes.copy_within(other.start..end, self.start);
     }
 
+    /// Copies the numbers of the value of the part's type that begins with the first of the bytes to the place of
+    /// the part. Padding stays as it was. The conditions: the part stands in its whole, and the bytes hold such a
+    /// value whole, with as many elements in a runtime-sized array as the part has.
+    pub(crate) fn copy_numbers(self, out: &mut [u8], bytes: &[u8])
+        requires located { IsLocated self }
+        requires whole { self.len ≡ length out.old }
+        requires long { length_in (part_range self).layout ≤ length bytes.now }
+        ensures { out.new ≡ put (decoded bytes.now 0 (part_range self.entry).layout) (shape_plan self.entry.shape) self.entry.start out.old }
+    {
+        match self.shape {
+            Shape::Whole(ty, plan) => {
+                copy_numbers(out, self.start, bytes, 0, self.count, ty, plan)
+            }
+            Shape::Column(n, component, plan) => {
+                copy_vector(out, self.start, bytes, 0, n, component, plan)
+            }
+            Shape::Component(ty) => {
+                copy_numbers(out, self.start, bytes, 0, self.count, ty, &Plan::Scalar)
+            }
+        }
+    }
+
     /// The value that the bytes lay out in the place of the part. The conditions: the part stands in these
     /// bytes, and its plan is that of its type.
     pub(crate) fn read(self, alloc: Global, bytes: &[u8]) -> Result<Instance, AllocError>
@@ -175,8 +209,7 @@ impl<'a> Located<'a> {
         requires typed { type_of (value_of value.now) ≡ shape_ty self.shape }
         ensures { IsTrue result ↔ (layout_of (value_of value.now) ≡ (part_range self.entry).layout) }
     {
-        let n = runtime_count(value);
-        n == 0 || n == self.count
+        self.has_count(runtime_count(value))
     }
 
     /// Whether the value is of the part's type. The condition: the value may be stored.
@@ -223,6 +256,44 @@ impl<'a> Located<'a> {
             Shape::Column(_, _, plan) => write_value(bytes, self.start, value, plan),
             Shape::Component(_) => write_value(bytes, self.start, value, &Plan::Scalar),
         }
+    }
+
+    /// How many elements so many bytes of their own hold of the runtime-sized array that the type of the part is or
+    /// ends in, as many as find room; 0 where there is no such array. `None` where the bytes are too few for a value of
+    /// the type (WGSL: buffer binding determines runtime-sized array element count). The condition: the part stands in
+    /// its whole, and its plan is that of its type.
+    pub(crate) fn count_in(self, len: usize) -> Option<usize>
+        requires { IsLocated self }
+        ensures { result ≡ count_in len (shape_ty self.entry.shape) }
+    {
+        match self.shape {
+            Shape::Whole(ty, plan) => {
+                if ty.measures().is_fixed {
+                    self.fixed_count_in(len)
+                } else {
+                    plan.count_in(len)
+                }
+            }
+            Shape::Column(_, _, _) => self.fixed_count_in(len),
+            Shape::Component(_) => self.fixed_count_in(len),
+        }
+    }
+
+    // As `Located::count_in`, of a part whose type tells its size.
+    fn fixed_count_in(self, len: usize) -> Option<usize>
+        requires located { IsLocated self }
+        requires fixed { has_fixed_layout (shape_ty self.shape) ≡ true }
+        ensures { result ≡ count_in len (shape_ty self.entry.shape) }
+    {
+        if self.size() <= len { Some(0) } else { None }
+    }
+
+    /// Whether a value of the part's type with so many elements, as [`Located::count_in`] counts them, has the layout
+    /// of the part.
+    pub(crate) fn has_count(self, count: usize) -> bool
+        ensures { IsTrue result ↔ ((count ≡ 0) ⊎ (count ≡ self.entry.count)) }
+    {
+        count == 0 || count == self.count
     }
 
     /// Writes the number of the atomic that the part is; an atomic of this number has its layout.

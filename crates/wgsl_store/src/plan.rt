@@ -1,10 +1,18 @@
 //! Where the parts of the values of a type stand, found once for the type (WGSL: internal layout of
 //! values; structure member layout).
 
-ghost use Rattle.std.specs.Prelude.{◌≡◌, ◌<◌, ◌^◌, IfOk};
-ghost use Rattle.wgsl_store.specs.OpenLengths.{last_end, open_len, row_len};
+ghost use Rattle.std.specs.Prelude.{◌≡◌, ◌<◌, ◌^◌, IfOk, None};
+ghost use Rattle.wgsl_store.specs.OpenLengths.{
+  last_count,
+  last_end,
+  open_count,
+  open_len,
+  row_count,
+  row_len,
+};
 ghost use Rattle.wgsl_store.specs.Plan.{place_view, places_view, plan_view};
 
+use crate::make::Tail;
 use std::alloc::{AllocError, Global};
 
 /// Where the parts of a value stand, in bytes from its start.
@@ -74,6 +82,32 @@ impl Plan {
             Plan::Scalar | Plan::Components(_) | Plan::Members(_) => 0,
         }
     }
+
+    /// How many elements so many bytes tell of what has an end that its elements tell: a runtime-sized array, or a
+    /// structure that ends in one. As many as find room, one at least; `None` where the bytes are too few.
+    pub(crate) fn count_in(&self, len: usize) -> Option<usize>
+        ensures { result ≡ open_count (plan_view self.now) len }
+    {
+        match self {
+            Plan::Row(_, _) | Plan::Scalar | Plan::Components(_) => self.row_count_in(0, len),
+            Plan::Members(places) => last_count_in(places.as_slice(), len),
+        }
+    }
+
+    // How many elements so many bytes of the whole tell of the array that this is the plan of, which begins at
+    // `start`.
+    fn row_count_in(&self, start: u32, len: usize) -> Option<usize>
+        ensures { result ≡ row_count start (plan_view self.now) len }
+    {
+        match self {
+            Plan::Row(far, _) => Tail {
+                start,
+                stride: *far,
+            }
+            .count_in(len),
+            Plan::Scalar | Plan::Components(_) | Plan::Members(_) => None,
+        }
+    }
 }
 
 impl Place {
@@ -111,4 +145,16 @@ fn last_end(places: &[Place], count: usize) -> usize
     }
     let last = &places[n - 1];
     last.offset as usize + last.plan.row_len(count)
+}
+
+// How many elements so many bytes tell of the last of the members, which is an array.
+fn last_count_in(places: &[Place], len: usize) -> Option<usize>
+    ensures { result ≡ last_count None len (places_view places.now) }
+{
+    let n = places.len();
+    if n == 0 {
+        return None;
+    }
+    let last = &places[n - 1];
+    last.plan.row_count_in(last.offset, len)
 }

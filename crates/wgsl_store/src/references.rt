@@ -223,9 +223,13 @@ fn check_exchange(
     Ok(())
 }
 
-// Why what the first reference names does not fit the place that the second names: `WriteRefType`, the type of the
-// first reference first.
-fn misfit_of_part(alloc: Global, from: &RefInstance, to: &RefInstance) -> Result<Error, AllocError>
+/// Why what the first reference names does not fit the place that the second names: `WriteRefType`, the type of the
+/// first reference first.
+pub(crate) fn misfit_of_part(
+    alloc: Global,
+    from: &RefInstance,
+    to: &RefInstance,
+) -> Result<Error, AllocError>
     ensures { IfOk result (λ e. refusal_of e ≡ Some (write_ref_type (reference_of from.now).ty (reference_of to.now).ty)) }
 {
     Ok(Error::WriteRefType(from.target_ty().clone(alloc)?, to.target_ty().clone(alloc)?))

@@ -1,10 +1,11 @@
 //! The cells that references name (WGSL: memory locations).
 
 use crate::cell::{Cell, Part};
-use crate::in_place::InPlace;
+use crate::in_place::{BytesWrite, InPlace};
 use crate::parts::{part, part_count};
 use std::alloc::{AllocError, Global};
 use std::marker::Model;
+use wgsl_rules::Type;
 use wgsl_scalar::{Error, LiteralInstance};
 use wgsl_values::{Instance, RefInstance};
 
@@ -56,16 +57,20 @@ impl Store {
       slice_get,
     };
     ghost use Rattle.std.specs.Result.{result_ok};
+    ghost use Rattle.wgsl_rules.specs.Access.{can_write};
     ghost use Rattle.wgsl_rules.specs.Paths.{parts};
     ghost use Rattle.wgsl_rules.specs.Types.{atomic};
     ghost use Rattle.wgsl_rules.specs.Values.{Reference, IsStorable, atomic_of, type_of};
+    ghost use Rattle.wgsl_rules.specs.View.{type_view};
     ghost use Rattle.wgsl_store.specs.Arrays.{element_count};
     ghost use Rattle.wgsl_store.specs.Atomics.{atomic_number};
+    ghost use Rattle.wgsl_store.specs.Buffers.{decode};
     ghost use Rattle.wgsl_store.specs.Cells.{IsPart, part_value};
     ghost use Rattle.wgsl_store.specs.Components.{names_component};
-    ghost use Rattle.wgsl_store.specs.Copies.{AreCopied, are_in_bytes};
+    ghost use Rattle.wgsl_store.specs.Copies.{AreCopied, are_in_bytes, in_bytes};
     ghost use Rattle.wgsl_store.specs.Fitting.{FitsAt};
     ghost use Rattle.wgsl_store.specs.HeldBytes.{held_bytes, read_bytes};
+    ghost use Rattle.wgsl_store.specs.LaidOut.{CameTo, IsAdded};
     ghost use Rattle.wgsl_store.specs.Memory.{
       AllKept,
       HoldsValue,
@@ -268,6 +273,28 @@ impl Store {
         Ok(n)
     }
 
+    /// Makes a last cell of bytes that holds the value of the type that the bytes lay out, and says whether they lay
+    /// out one; where they lay out none, nothing is changed. The condition: the store is sound, as [`Store::len`] tells of
+    /// each.
+    pub(crate) fn add_bytes(
+        &mut self,
+        alloc: Global,
+        ty: &Type,
+        bytes: &[u8],
+    ) -> Result<bool, AllocError>
+        requires { IsSound self.old }
+        ensures added { IfOk result (λ b. IsAdded (decode bytes.now (type_view ty.now)) self.old self.new b) }
+        ensures err { OnErr result (self.new ≡ self.old) }
+        ensures sound { IsSound self.new }
+        ensures kept { (r : Reference) → IsKept self.old r → IsKept self.new r }
+    {
+        let Some(cell) = Cell::of_bytes(alloc, ty, bytes)? else {
+            return Ok(false);
+        };
+        self.cells.push(cell)?;
+        Ok(true)
+    }
+
     /// Puts the value in the place of the part that the reference names, where it fits there; else
     /// gives the value back, and nothing is changed. It takes no memory. The condition: the reference
     /// is kept.
@@ -304,6 +331,20 @@ impl Store {
     {
         let cell = &mut self.cells[reference.cell()];
         cell.replace(alloc, reference, value)
+    }
+
+    /// Writes the value that the bytes lay out in the type of the reference to what the reference names, where that
+    /// stands in a cell of bytes: the numbers are copied, where they lay out a value, the reference may write, and the
+    /// value fits there; what refuses it is asked in this order. It takes no memory. The condition: the reference is
+    /// kept.
+    pub(crate) fn put_bytes(&mut self, reference: &RefInstance, bytes: &[u8]) -> BytesWrite
+        requires { IsKept self.old (reference_of reference.now) }
+        ensures put { let r = reference_of reference.now in CameTo result (in_bytes self.old r) (can_write r.access) (held self.old r) (λ w. put_cells self.old r w) self.old self.new (decode bytes.now r.ty) }
+        ensures sound { IsSound self.new }
+        ensures kept { (r : Reference) → IsKept self.old r → IsKept self.new r }
+    {
+        let cell = &mut self.cells[reference.cell()];
+        cell.write_bytes(reference, bytes)
     }
 
     /// Copies the bytes of the part that one reference names over those of the part that the other names, where both

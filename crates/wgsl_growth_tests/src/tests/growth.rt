@@ -4,6 +4,7 @@
 mod compwise;
 mod conversions;
 mod copies;
+mod laid_out;
 mod lists;
 mod references;
 mod rows;

@@ -3,6 +3,7 @@
 
 mod cells;
 mod compwise;
+mod laid_out;
 mod layouts;
 mod literals;
 mod parts;

@@ -14,7 +14,7 @@ use wgsl_store::Store;
 use wgsl_values::{Instance, RefInstance};
 
 /// Asserts the bytes of the part that the reference names, as words.
-fn assert_lends(
+pub(super) fn assert_lends(
     rt: &impl Abort,
     alloc: Global,
     store: &Store,

@@ -42,7 +42,7 @@ fn assert_done(rt: &impl Abort, session: &mut Session, asked: Call) {
 }
 
 /// Asserts the text of what the handle is read as.
-fn assert_reads(
+pub(super) fn assert_reads(
     rt: &impl Abort,
     alloc: Global,
     session: &mut Session,

@@ -21,13 +21,18 @@ use wgsl_store::{References, Store};
 use wgsl_values::{AtomicInstance, Instance, MemView, RefInstance};
 
 /// The reference to a new cell with the value.
-fn cell_with(rt: &impl Abort, alloc: Global, store: &mut Store, value: Instance) -> RefInstance {
+pub(super) fn cell_with(
+    rt: &impl Abort,
+    alloc: Global,
+    store: &mut Store,
+    value: Instance,
+) -> RefInstance {
     assert!(rt; value.is_storable());
     assert!(rt; store.holds_value(&value));
     made!(rt; RefInstance::new(alloc, store, value, Storage, ReadWrite))
 }
 
-fn view_index(
+pub(super) fn view_index(
     rt: &impl Abort,
     alloc: Global,
     store: &Store,
@@ -255,7 +260,12 @@ fn counts_in_structures(rt: HostRuntime) {
 }
 
 /// Asserts the bytes of the part that the reference names; none where its cell is no bytes.
-fn assert_lends(rt: &impl Abort, store: &Store, reference: &RefInstance, wanted: Option<&[u8]>) {
+pub(super) fn assert_lends(
+    rt: &impl Abort,
+    store: &Store,
+    reference: &RefInstance,
+    wanted: Option<&[u8]>,
+) {
     assert!(rt; store.holds(reference));
     assert_same(rt, store.read_bytes(reference), Ok(wanted));
 }
