@@ -4,7 +4,7 @@ use Rattle.std.specs.Option.{unwrap_or}
 use Rattle.wgsl_rules.specs.Kinds.{Kind}
 use Rattle.wgsl_rules.specs.Layout.{layout, leaf, atomic_kind}
 use Rattle.wgsl_rules.specs.TypeParts.{array_part}
-use Rattle.wgsl_rules.specs.Types.{Ty, array, vec, mat, atomic}
+use Rattle.wgsl_rules.specs.Types.{Ty, array, atomic}
 use Rattle.wgsl_store.specs.Arrays.{elements_in}
 use Rattle.wgsl_store.specs.Buffers.{decoded}
 use Rattle.wgsl_store.specs.Ranges.{parts_in}

@@ -1,5 +1,5 @@
 -- Cells that hold values as bytes: what they hold, and what a write in the place of a part makes of them.
-use Rattle.std.proofs.Common.{Global, Vec, ◌≡◌, ℕ, ◌+◌, List, Option, Some, None, Ok, Err, option_map, true, refl, sym, ap, ◌∙◌, subst, arith}
+use Rattle.std.proofs.Common.{Global, Vec, ◌≡◌, ℕ, ◌+◌, List, Option, Some, None, Ok, Err, option_map, true, sym, ap, ◌∙◌, subst, arith}
 use Rattle.std.specs.Prelude.{◌↔◌, IsOk, IsOkAnd}
 use Rattle.std.specs.Result.{result_ok}
 use Rattle.wgsl_rules.specs.Layout.{has_layout, layout, layout_of, runtime_count}
@@ -18,6 +18,7 @@ use Rattle.wgsl_store.specs.declared.flat.FlatCell.TheInside.{Inside}
 use Rattle.wgsl_store.specs.declared.located.Located.{Located}
 use Rattle.wgsl_store.proofs.lemmas.Flat.{IsLaid, IsPut, buffer-decodes, fits-laid, put-in-place, there-laid, type-alike}
 use Rattle.wgsl_store.proofs.lemmas.Parts.{decoded-viewed}
+use Rattle.wgsl_store.proofs.lemmas.PathRanges.{from-start}
 
 -- ---- what a cell holds
 
@@ -36,10 +37,6 @@ pub held-layout : (c : Inside) (v : Val) → Holds c v → layout_of v ≡ layou
 held-layout c v h = ap (layout (runtime_count v)) h.typed ∙ ap (λ (n : ℕ). layout n (type_view c.ty)) (sym h.counted)
 
 -- ---- the part that a view leads to
-
-from-start : (o : Option Range) → option_map (further 0) o ≡ o
-from-start None = refl
-from-start (Some r) = let z : 0 + r.start ≡ r.start = omega arith in let at : ℕ → Option Range = λ n. Some (record { start = n; layout = r.layout }) in ap at z
 
 -- a part that is located from the start of the whole
 pub found-at : (v : Val) (steps : List Step) (n : ℕ) (t : Ty) (o : Option Range) → layout_of v ≡ layout n t → o ≡ option_map (further 0) (view_range steps (layout n t)) → view_range steps (layout_of v) ≡ o

@@ -10,6 +10,7 @@ pub mod Follows
 pub mod Held
 pub mod HeldPaths
 pub mod InRange
+pub mod KeptLayouts
 pub mod Known
 pub mod Leaves
 pub mod LikeViews
@@ -20,6 +21,7 @@ pub mod OpenLengths
 pub mod Overwritten
 pub mod Padding
 pub mod Parts
+pub mod PathRanges
 pub mod Places
 pub mod Positive
 pub mod Puts

@@ -14,6 +14,7 @@ pub mod Loaded
 pub mod Located
 pub mod Memory
 pub mod MemoryLaws
+pub mod NumbersIn
 pub mod OpenLengths
 pub mod Plan
 pub mod Ranges

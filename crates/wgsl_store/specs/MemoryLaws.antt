@@ -1,9 +1,9 @@
 -- The laws of memory. Each is proved of the definitions alone.
 use Rattle.std.specs.Prelude.{◌≡◌, ℕ, List, [], ◌∷◌, ◌++◌, Ok, Some, IsSomeAnd, IsTrue, slice_get, ◌⊎◌, ◌≢◌, ◌↔◌}
 use Rattle.wgsl_rules.specs.Access.{can_read, can_write}
-use Rattle.wgsl_rules.specs.Layout.{HasLayout, layout_of}
+use Rattle.wgsl_rules.specs.Layout.{HasLayout, Layout, layout_of}
 use Rattle.wgsl_rules.specs.Values.{Step, Reference, Val, pointer, reference, type_of, IsStorable}
-use Rattle.wgsl_rules.specs.Refusals.{and_then}
+use Rattle.wgsl_rules.specs.Refusals.{Outcome, and_then}
 use Rattle.wgsl_rules.specs.Paths.{value_at, path_of}
 use Rattle.wgsl_rules.specs.Laws.{Apart}
 use Rattle.wgsl_rules.specs.declared.syntax.AddressSpace.{AddressSpace}
@@ -34,6 +34,22 @@ ANewCellKeepsReferences = (cells : List Val) (v : Val) (space : AddressSpace) (a
 -- and after a write
 abbrev pub AWriteKeepsReferences : Type 0
 AWriteKeepsReferences = (cells after : List Val) (r : Reference) (w : Val) → IsSound cells → IsContent cells w → written cells r w ≡ Ok after → StaysKept cells after
+
+-- the layout of what a reference names, which says where the parts of it stand in bytes
+abbrev pub layout_held : List Val → Reference → Outcome Layout
+layout_held cells r = and_then (held cells r) (λ v. Ok (layout_of v))
+
+-- each reference that is kept names what has the layout that it had
+abbrev pub KeepsLayouts : List Val → List Val → Type 0
+KeepsLayouts cells after = (r : Reference) → IsKept cells r → layout_held after r ≡ layout_held cells r
+
+-- so it is after a new cell
+abbrev pub ANewCellKeepsLayouts : Type 0
+ANewCellKeepsLayouts = (cells : List Val) (v : Val) → KeepsLayouts cells (cells ++ v ∷ [])
+
+-- and after a write
+abbrev pub AWriteKeepsLayouts : Type 0
+AWriteKeepsLayouts = (cells after : List Val) (r : Reference) (w : Val) → IsSound cells → IsContent cells w → written cells r w ≡ Ok after → KeepsLayouts cells after
 
 -- a reference one step deeper is kept
 abbrev pub AStepDeeperIsKept : Type 0

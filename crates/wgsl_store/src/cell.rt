@@ -5,6 +5,8 @@ ghost use Rattle.std.specs.Prelude.{
   ◌≡◌,
   ◌↔◌,
   ◌&&◌,
+  ℕ,
+  List,
   Err,
   IfErr,
   IfOk,
@@ -19,6 +21,7 @@ ghost use Rattle.std.specs.Prelude.{
   OnOk,
   option_map,
 };
+ghost use Rattle.std.specs.Bool.{OnFalse, OnTrue};
 ghost use Rattle.std.specs.Result.{result_ok};
 ghost use Rattle.wgsl_rules.specs.Access.{can_write};
 ghost use Rattle.wgsl_rules.specs.Converted.{converted};
@@ -36,6 +39,7 @@ ghost use Rattle.wgsl_store.specs.Copies.{IsCopied, is_bytes};
 ghost use Rattle.wgsl_store.specs.Fitting.{FitsAt};
 ghost use Rattle.wgsl_store.specs.HeldBytes.{bytes_at};
 ghost use Rattle.wgsl_store.specs.LaidOut.{CameTo};
+ghost use Rattle.wgsl_store.specs.NumbersIn.{AreFrom, HasNumberAt, IsNumberAt, number_put};
 ghost use Rattle.wgsl_values.specs.View.{reference_of, steps_of, value_of};
 
 use crate::flat::{FlatCell, FlatPart};
@@ -115,6 +119,19 @@ impl Cell {
     {
         match self {
             Cell::Flat(bytes) => Some(bytes.bytes_at(view)),
+            Cell::Tree(_) => None,
+        }
+    }
+
+    /// The bytes of the cell from the part on that the view leads to, lent; `None` in a cell that is a tree. The
+    /// condition: the view leads to a part.
+    pub(crate) fn bytes_from(&self, view: &MemView) -> Option<&[u8]>
+        requires cell { IsCell self.now }
+        requires there { IsOk (viewed (steps_of view.now) (cell_value self.now)) }
+        ensures { IsOkAnd (viewed (steps_of view.now) (cell_value self.now)) (λ x. AreFrom (is_bytes (cell_value self.now)) x (option_map (λ b. b.now) result)) }
+    {
+        match self {
+            Cell::Flat(bytes) => Some(bytes.bytes_from(view)),
             Cell::Tree(_) => None,
         }
     }
@@ -225,6 +242,31 @@ impl Cell {
         match self {
             Cell::Flat(bytes) => bytes.put_atomic_number(reference.view(), number),
             Cell::Tree(whole) => put_number_in_tree(whole, reference.view(), number),
+        }
+    }
+
+    /// Puts the number in the place of that of the scalar or the atomic which begins so many bytes behind the first of
+    /// the part that the reference leads to, where the cell is bytes, and says whether it is; else nothing is changed. It
+    /// takes no memory. The condition: the reference leads to a part, in which one of numbers of the kind begins there.
+    pub(crate) fn put_number(
+        &mut self,
+        reference: &RefInstance,
+        at: usize,
+        number: LiteralInstance,
+    ) -> bool
+        requires cell { IsCell self.old }
+        requires there { IsOkAnd (viewed (reference_of reference.now).view (cell_value self.old)) (λ x. HasNumberAt x at (literal_of number)) }
+        ensures bytes { result ≡ is_bytes (cell_value self.old) }
+        ensures put { OnTrue result ((path : List ℕ) → IsOkAnd (viewed (reference_of reference.now).view (cell_value self.old)) (λ x. IsNumberAt x path at (literal_of number) → cell_value self.new ≡ put_viewed (reference_of reference.now).view (number_put path (literal_of number) x) (cell_value self.old))) }
+        ensures same { OnFalse result (cell_value self.new ≡ cell_value self.old) }
+        ensures cell { IsCell self.new }
+    {
+        match self {
+            Cell::Flat(bytes) => {
+                bytes.put_number(reference.view(), at, number);
+                true
+            }
+            Cell::Tree(_) => false,
         }
     }
 }

@@ -2,6 +2,8 @@
 
 ghost use Rattle.std.specs.Prelude.{◌≡◌};
 ghost use Rattle.wgsl_rules.specs.Access.{can_write};
+ghost use Rattle.wgsl_rules.specs.Values.{IsStorable};
+ghost use Rattle.wgsl_scalar.specs.Literals.{literal_of};
 ghost use Rattle.wgsl_values.specs.View.{reference_of};
 
 use crate::copier::copy_numbers;
@@ -10,7 +12,7 @@ use crate::located::Located;
 use crate::make::TypePlan;
 use crate::plan::Plan;
 use crate::reader::read_literal;
-use crate::writer::{runtime_count, write_whole};
+use crate::writer::{runtime_count, write_literal, write_whole};
 use std::alloc::{AllocError, Global};
 use std::marker::Model;
 use wgsl_rules::{Ty, Type};
@@ -54,7 +56,11 @@ impl FlatCell {
     ghost use Rattle.std.specs.Prelude.{
       ◌≡◌,
       ◌↔◌,
+      ℕ,
+      List,
       false,
+      length,
+      take,
       true,
       IfOk,
       IsOk,
@@ -76,6 +82,7 @@ impl FlatCell {
     ghost use Rattle.wgsl_store.specs.Fitting.{FitsAt};
     ghost use Rattle.wgsl_store.specs.FlatCells.{IsFlatPart, IsPartAt, part_value};
     ghost use Rattle.wgsl_store.specs.LaidOut.{CameTo};
+    ghost use Rattle.wgsl_store.specs.NumbersIn.{HasNumberAt, IsNumberAt, number_put};
     ghost use Rattle.wgsl_values.specs.View.{reference_of, value_of, steps_of};
 
     /// The bytes of the value; `None` where its type has no layout. The condition: the value may be stored.
@@ -146,6 +153,16 @@ impl FlatCell {
         ensures laid { has_layout (type_of self.now) ≡ true }
     {
         self.part_at(view).slice(self.bytes.as_slice())
+    }
+
+    /// The bytes of the cell from the part on that the view leads to, lent. The condition: the view leads to a part.
+    pub(crate) fn bytes_from(&self, view: &MemView) -> &[u8]
+        requires { IsOk (viewed (steps_of view.now) self.now) }
+        ensures bytes { IsOkAnd (viewed (steps_of view.now) self.now) (λ x. take (length (buffer x)) result.now ≡ buffer x) }
+        ensures laid { has_layout (type_of self.now) ≡ true }
+    {
+        let start = self.part_at(view).start;
+        &self.bytes.as_slice()[start..]
     }
 
     // Where the part stands that the view leads to. The condition: the view leads to a part.
@@ -266,6 +283,26 @@ impl FlatCell {
         };
         part.write_atomic_number(self.bytes.as_mut_slice(), number);
     }
+
+    /// Puts the number in the place of that of the scalar or the atomic which begins so many bytes behind the first of
+    /// the part that the view leads to. It takes no memory. The condition: the view leads to a part, in which one of
+    /// numbers of the kind begins there.
+    pub(crate) fn put_number(&mut self, view: &MemView, at: usize, number: LiteralInstance)
+        requires { IsOkAnd (viewed (steps_of view.now) self.old) (λ x. HasNumberAt x at (literal_of number)) }
+        ensures put { (path : List ℕ) → IsOkAnd (viewed (steps_of view.now) self.old) (λ x. IsNumberAt x path at (literal_of number) → self.new ≡ put_viewed (steps_of view.now) (number_put path (literal_of number) x) self.old) }
+        ensures laid { has_layout (type_of self.old) ≡ true }
+    {
+        attest(number);
+        let start = self.part_at(view).start;
+        write_literal(self.bytes.as_mut_slice(), start + at, number);
+    }
+}
+
+/// Does nothing: its contract says what holds of every literal.
+pub(crate) fn attest(number: LiteralInstance)
+    ensures { IsStorable (literal_of number) }
+{
+    let _ = number.literal_ty();
 }
 
 // Whether the reference may write.

@@ -16,6 +16,8 @@ ghost use Rattle.wgsl_store.specs.MemoryLaws.{
   AValueIsHeldByItsPaths,
   ANewCellKeepsReferences,
   AWriteKeepsReferences,
+  ANewCellKeepsLayouts,
+  AWriteKeepsLayouts,
   AStepDeeperIsKept,
   WhatIsReadMayBeStored,
   AWriteIsRead,
@@ -96,6 +98,17 @@ pub fn a_new_cell_keeps_references()
 /// and each reference that was kept is kept: its view leads to a value of its type.
 pub fn a_write_keeps_references()
     ensures { AWriteKeepsReferences }
+{}
+
+/// A law: after a new cell each reference that was kept names what has the layout that it had.
+pub fn a_new_cell_keeps_layouts()
+    ensures { ANewCellKeepsLayouts }
+{}
+
+/// A law: after an accepted write each reference that was kept names what has the layout that it had: where its parts
+/// stand in bytes stays as it was.
+pub fn a_write_keeps_layouts()
+    ensures { AWriteKeepsLayouts }
 {}
 
 /// A law: the reference that a further step answers is kept.

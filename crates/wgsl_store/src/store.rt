@@ -1,6 +1,7 @@
 //! The cells that references name (WGSL: memory locations).
 
 use crate::cell::{Cell, Part};
+use crate::flat::attest;
 use crate::in_place::{BytesWrite, InPlace};
 use crate::parts::{part, part_count};
 use std::alloc::{AllocError, Global};
@@ -44,6 +45,9 @@ impl Store {
       ◌∷◌,
       [],
       length,
+      true,
+      ℕ,
+      List,
       IfErr,
       IfOk,
       IfSome,
@@ -56,6 +60,7 @@ impl Store {
       option_map,
       slice_get,
     };
+    ghost use Rattle.std.specs.Bool.{OnFalse, OnTrue};
     ghost use Rattle.std.specs.Result.{result_ok};
     ghost use Rattle.wgsl_rules.specs.Access.{can_write};
     ghost use Rattle.wgsl_rules.specs.Paths.{parts};
@@ -81,6 +86,8 @@ impl Store {
       put_cells,
       references_in,
     };
+    ghost use Rattle.wgsl_store.specs.MemoryLaws.{KeepsLayouts};
+    ghost use Rattle.wgsl_store.specs.NumbersIn.{AreFrom, HasNumberAt, IsNumberAt, number_put};
     ghost use Rattle.wgsl_store.specs.ReferenceCalls.{read};
     ghost use Rattle.wgsl_scalar.specs.Answers.{Answers, Gives};
     ghost use Rattle.wgsl_scalar.specs.Literals.{literal_of};
@@ -205,16 +212,59 @@ impl Store {
         if !reference.access().is_read() {
             return Err(Error::NotRead);
         }
-        Ok(self.held_bytes(reference))
+        Ok(self.bytes_of(reference))
     }
 
-    // The bytes of the part that the reference names. Read access is not asked. The condition: it is kept.
-    fn held_bytes(&self, reference: &RefInstance) -> Option<&[u8]>
+    /// The bytes that [`Store::read_bytes`] lends; read access is not asked. `None` in a cell that is no bytes. No
+    /// memory is taken. The condition: the reference is kept, as [`Store::holds`] tests.
+    /// It calls itself for each level of a value or type: keep to 4,095 within a stack of 8 MiB.
+    pub fn bytes_of(&self, reference: &RefInstance) -> Option<&[u8]>
         requires { IsKept self.now (reference_of reference.now) }
-        ensures { IsOkAnd (held self.now (reference_of reference.now)) (λ x. option_map (λ b. b.now) result ≡ held_bytes self.now (reference_of reference.now) x) }
+        ensures bytes { IsOkAnd (held self.now (reference_of reference.now)) (λ x. option_map (λ b. b.now) result ≡ held_bytes self.now (reference_of reference.now) x) }
+        ensures sound { IsSound self.now }
     {
         let cell = &self.cells[reference.cell()];
         cell.bytes_at(reference.view())
+    }
+
+    /// The bytes of its cell from the part on that the reference names, lent: they begin with those that
+    /// [`Store::read_bytes`] lends, and the length of the part is not found. `None` in a cell that is no bytes. Read
+    /// access is not asked, and no memory is taken. The condition: the reference is kept, as [`Store::holds`] tests.
+    /// It calls itself for each step of the view: keep to 4,095 within a stack of 8 MiB.
+    pub fn bytes_from(&self, reference: &RefInstance) -> Option<&[u8]>
+        requires { IsKept self.now (reference_of reference.now) }
+        ensures bytes { IsOkAnd (held self.now (reference_of reference.now)) (λ x. AreFrom (in_bytes self.now (reference_of reference.now)) x (option_map (λ b. b.now) result)) }
+        ensures sound { IsSound self.now }
+    {
+        let cell = &self.cells[reference.cell()];
+        cell.bytes_from(reference.view())
+    }
+
+    /// Puts the number in the place of that of the scalar or the atomic which begins so many bytes behind the first of
+    /// the part that the reference names, and says whether it did: whether the cell is bytes, as [`Store::bytes_from`]
+    /// tells. Else nothing is changed. No memory is taken. The conditions: the reference is kept, as [`Store::holds`]
+    /// tests, and may write, and in what it names a scalar or an atomic of numbers of the kind begins there.
+    /// It calls itself for each step of the view: keep to 4,095 within a stack of 8 MiB.
+    pub fn put_number(
+        &mut self,
+        reference: &RefInstance,
+        at: usize,
+        number: LiteralInstance,
+    ) -> bool
+        requires kept { IsKept self.old (reference_of reference.now) }
+        requires may_write { can_write (reference_of reference.now).access ≡ true }
+        requires there { IsOkAnd (held self.old (reference_of reference.now)) (λ x. HasNumberAt x at (literal_of number)) }
+        ensures bytes { result ≡ in_bytes self.old (reference_of reference.now) }
+        ensures put { OnTrue result ((path : List ℕ) → IsOkAnd (held self.old (reference_of reference.now)) (λ x. IsNumberAt x path at (literal_of number) → self.new ≡ put_cells self.old (reference_of reference.now) (number_put path (literal_of number) x))) }
+        ensures same { OnFalse result (self.new ≡ self.old) }
+        ensures sound { IsSound self.new }
+        ensures kept { (r : Reference) → IsKept self.old r → IsKept self.new r }
+        // Where the parts stand of what any other reference names stays as it was.
+        ensures layouts { KeepsLayouts self.old self.new }
+    {
+        attest(number);
+        let cell = &mut self.cells[reference.cell()];
+        cell.put_number(reference, at, number)
     }
 
     /// Whether the reference names a component of a vector: the last step of its view is taken from a

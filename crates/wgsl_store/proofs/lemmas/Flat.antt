@@ -28,7 +28,7 @@ use Rattle.wgsl_store.proofs.lemmas.Standing.{put-leaves, stands}
 use Rattle.wgsl_store.proofs.lemmas.Places.{fits-count, part-storable, put-type, put-count}
 use Rattle.wgsl_store.proofs.lemmas.Overwritten.{put-overwritten}
 use Rattle.wgsl_store.proofs.lemmas.ViewPaths.{path-in-is, layout-type}
-use Rattle.wgsl_store.proofs.lemmas.Held.{HasPath, has-path}
+use Rattle.wgsl_store.proofs.lemmas.Held.{has-path}
 
 -- ---- what bytes lay out
 
@@ -181,40 +181,41 @@ pub record IsPut (v new : Val) (bytes : List ℕ) : Type 0 where
   pub counted : runtime_count new ≡ runtime_count v
   pub its_bytes : bytes ≡ buffer new
 
--- the scalars of what fits the place that a view leads to, written there
+-- the scalars of what fits the place at a path, written there
+pub put-at-path : (v w x : Val) (path : List ℕ) (r : Range) (p : Plan) → IsStorable v → has_layout (type_of v) ≡ true → IsStorable w → value_at path v ≡ Some x → FitsPlace w x
+    → range_in path (layout_of v) ≡ Some r → p ≡ plan_of (type_of w) → IsPut v (put_tree path w v) (put w p r.start (buffer v))
+put-at-path v w x path r p s h t stands fit ranged planned =
+    let l = layout_of v in
+    let sx = part-storable path v x s stands in
+    let c = compose v x path s h stands in
+    let over = put-overwritten v w x path s h t stands fit in
+    let one : Some r ≡ Some over.range_of = sym ranged ∙ over.there in
+    let same_range : r ≡ over.range_of = cc in
+    let two : Some r ≡ Some c.1.range_of = sym ranged ∙ c.1.there in
+    let same_part : r ≡ c.1.range_of = cc in
+    let own : has_layout (type_of w) ≡ true = ap has_layout fit.0 ∙ c.0 in
+    let fit_layout : layout_of w ≡ layout_of x = ap (λ (k : ℕ). layout k (type_of w)) (fits-count w x t sx fit) ∙ ap (layout (runtime_count x)) fit.0 in
+    let alike : r.layout ≡ layout_of w = ap (λ (k : Range). k.layout) same_part ∙ c.1.its_layout ∙ sym fit_layout in
+    let at_path = range-is (number_at v) path l r (tidy (type_of v) (runtime_count v) h).0 ranged in
+    let whole = length-bytes (number_at v) l in
+    let same_length = ap length_in alike in
+    let zero_padding : IsPaddingZero (buffer v) r.start (layout_of w) = subst (λ (k : Layout). IsPaddingZero (buffer v) r.start k) alike (padding-zero v path r h ranged) in
+    let written : put w p r.start (buffer v) ≡ overwritten (buffer v) r.start (buffer w) =
+    ap (λ (k : Plan). put w k r.start (buffer v)) planned ∙ put-leaves w r.start (buffer v) t own
+    ∙ layout-bytes-over (number_at w) (layout_of w) r.start (buffer v) (tidy (type_of w) (runtime_count w) own).0 (omega (arith, at_path.inside, whole, same_length)) zero_padding in
+    record {
+      storable = (a_part_replaced path v w x s stands t fit.0).storable;
+      typed = put-type path w v x stands fit.0;
+      counted = put-count path w v x t sx stands fit;
+      its_bytes = written ∙ ap (λ (k : Range). overwritten (buffer v) k.start (buffer w)) same_range ∙ sym over.its_bytes;
+    }
+
+-- at the path of a view
 pub put-in-place : (v w x : Val) (steps : List Step) (r : Range) (p : Plan) → IsStorable v → has_layout (type_of v) ≡ true → IsStorable w → viewed steps v ≡ Ok x → fits w x ≡ true
     → view_range steps (layout_of v) ≡ Some r → p ≡ plan_of (type_of w) → IsPut v (put_viewed steps w v) (put w p r.start (buffer v))
 put-in-place v w x steps r p s h t e f there planned =
     let q = has-path steps v x e in
-    let fit : FitsPlace w x = (fits-Decides w x).0 f in
     let put_is : put_viewed steps w v ≡ put_tree q.path w v = ap (λ (o : Outcome (List ℕ)). elim o [ Ok q ↦ put_tree q w v | Err r ↦ v ]) q.there in
-    subst (λ (n : Val). IsPut v n (put w p r.start (buffer v))) (sym put_is) (at q fit)
-  where
-    at : (q : HasPath steps v x) → FitsPlace w x → IsPut v (put_tree q.path w v) (put w p r.start (buffer v))
-    at q fit =
-        let l = layout_of v in
-        let sx = part-storable q.path v x s q.stands in
-        let path_is = path-in-is steps l v q.path (refl, h) (follows v s h) q.there in
-        let ranged : range_in q.path l ≡ Some r = ap (λ (o : Option (List ℕ)). option_and_then (λ p. range_in p l) o) (sym path_is) ∙ there in
-        let c = compose v x q.path s h q.stands in
-        let over = put-overwritten v w x q.path s h t q.stands fit in
-        let one : Some r ≡ Some over.range_of = sym ranged ∙ over.there in
-        let same_range : r ≡ over.range_of = cc in
-        let two : Some r ≡ Some c.1.range_of = sym ranged ∙ c.1.there in
-        let same_part : r ≡ c.1.range_of = cc in
-        let own : has_layout (type_of w) ≡ true = ap has_layout fit.0 ∙ c.0 in
-        let fit_layout : layout_of w ≡ layout_of x = ap (λ (k : ℕ). layout k (type_of w)) (fits-count w x t sx fit) ∙ ap (layout (runtime_count x)) fit.0 in
-        let alike : r.layout ≡ layout_of w = ap (λ (k : Range). k.layout) same_part ∙ c.1.its_layout ∙ sym fit_layout in
-        let at_path = range-is (number_at v) q.path l r (tidy (type_of v) (runtime_count v) h).0 ranged in
-        let whole = length-bytes (number_at v) l in
-        let same_length = ap length_in alike in
-        let zero_padding : IsPaddingZero (buffer v) r.start (layout_of w) = subst (λ (k : Layout). IsPaddingZero (buffer v) r.start k) alike (padding-zero v q.path r h ranged) in
-        let written : put w p r.start (buffer v) ≡ overwritten (buffer v) r.start (buffer w) =
-        ap (λ (k : Plan). put w k r.start (buffer v)) planned ∙ put-leaves w r.start (buffer v) t own
-        ∙ layout-bytes-over (number_at w) (layout_of w) r.start (buffer v) (tidy (type_of w) (runtime_count w) own).0 (omega (arith, at_path.inside, whole, same_length)) zero_padding in
-        record {
-          storable = (a_part_replaced q.path v w x s q.stands t fit.0).storable;
-          typed = put-type q.path w v x q.stands fit.0;
-          counted = put-count q.path w v x t sx q.stands fit;
-          its_bytes = written ∙ ap (λ (k : Range). overwritten (buffer v) k.start (buffer w)) same_range ∙ sym over.its_bytes;
-        }
+    let path_is = path-in-is steps (layout_of v) v q.path (refl, h) (follows v s h) q.there in
+    let ranged : range_in q.path (layout_of v) ≡ Some r = ap (λ (o : Option (List ℕ)). option_and_then (λ p. range_in p (layout_of v)) o) (sym path_is) ∙ there in
+    subst (λ (n : Val). IsPut v n (put w p r.start (buffer v))) (sym put_is) (put-at-path v w x q.path r p s h t q.stands ((fits-Decides w x).0 f) ranged planned)

@@ -84,9 +84,10 @@ pub record LeadsAlike (steps : List Step) (w y : Val) : Type 0 where
   pub other : Val
   pub leads : viewed steps w ≡ Ok other
   pub typed : type_of y ≡ type_of other
+  pub alike : IsLike y other
 
 pub view-like : (steps : List Step) (v w y : Val) → IsLike v w → IsStorable w → viewed steps v ≡ Ok y → LeadsAlike steps w y
-view-like [] v w y h u e = let same : v ≡ y = cc in record { other = w; leads = refl; typed = ap type_of (sym same) ∙ (like-both v w h).0 }
+view-like [] v w y h u e = let same : v ≡ y = cc in record { other = w; leads = refl; typed = ap type_of (sym same) ∙ (like-both v w h).0; alike = subst (λ (u : Val). IsLike u w) same h }
 view-like (s ∷ steps) v w y h u e = by (stepped s v) refl e (λ a b k t d. view-like steps a b y k t d)
   where
     On : Type 0
@@ -100,7 +101,7 @@ view-like (s ∷ steps) v w y h u e = by (stepped s v) refl e (λ a b k t d. vie
         let z = item-like p.0 (parts v) (parts w) p.1 both.1 g.1 in
         let back = step-back s w p.0 z.0 u (ap (step_in s) (sym both.0) ∙ g.0) z.1 in
         let rest = on p.1 z.0 z.2 (item-storable p.0 (parts w) z.0 (parts-storable w u) z.1) e in
-        record { other = rest.other; leads = ap (λ (o : Outcome (ℕ × Val)). and_then o (λ p. viewed steps p.1)) back ∙ rest.leads; typed = rest.typed }
+        record { other = rest.other; leads = ap (λ (o : Outcome (ℕ × Val)). and_then o (λ p. viewed steps p.1)) back ∙ rest.leads; typed = rest.typed; alike = rest.alike }
 
 -- the path of a view is the same in both
 pub path-like : (steps : List Step) (v w : Val) (p : List ℕ) → IsLike v w → IsStorable w → path_of steps v ≡ Ok p → path_of steps w ≡ Ok p

@@ -67,7 +67,7 @@ new-cell-keeps cells v space access s h = (record { sound = append-sound cells v
 
 -- ---- a put
 
-at-there : (cells : List Val) (i j : ℕ) (g : Val → Val) (x : Val) → slice_get cells j ≡ Some x
+pub at-there : (cells : List Val) (i j : ℕ) (g : Val → Val) (x : Val) → slice_get cells j ≡ Some x
     → (slice_get (at_position i g cells) j ≡ Some x) ⊎ ((i ≡ j) × (slice_get (at_position i g cells) j ≡ Some (g x)))
 at-there [] i j g x e = absurd (cc)
 at-there (y ∷ ys) zero zero g x e = inr (refl, let same : y ≡ x = cc in ap (λ (z : Val). Some (g z)) same)
@@ -113,7 +113,7 @@ whole-kept cells i f (vector vs) h k = replaced-kept cells i f vs h k
 whole-kept cells i f (matrix vs) h k = replaced-kept cells i f vs h k
 whole-kept cells i f v h k = h
 
-put-kept : (cells : List Val) (p : List ℕ) (w v : Val) → AllKept cells (references v) → AllKept cells (references w) → AllKept cells (references (put_tree p w v))
+pub put-kept : (cells : List Val) (p : List ℕ) (w v : Val) → AllKept cells (references v) → AllKept cells (references w) → AllKept cells (references (put_tree p w v))
 put-kept cells [] w v h k = k
 put-kept cells (i ∷ p) w v h k = whole-kept cells i (put_tree p w) v h (λ y is. put-kept cells p w y (kept-item cells i (parts v) y (kept-parts cells v h) is) k)
 

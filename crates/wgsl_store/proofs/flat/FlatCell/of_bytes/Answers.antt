@@ -1,7 +1,7 @@
 use Rattle.std.proofs.Common.{◌≡◌, true, ◌^◌, ◌≤◌, ◌∙◌, Some, length, ap, sym, arith}
 use Rattle.std.specs.Vec.{with_items}
 use Rattle.std.proofs.Math.Seq.{take-append_seam}
-use Rattle.wgsl_rules.specs.Layout.{count_in, has_layout, layout, layout_len}
+use Rattle.wgsl_rules.specs.Layout.{has_layout, layout, layout_len}
 use Rattle.wgsl_rules.specs.View.{type_view}
 use Rattle.wgsl_store.specs.Buffers.{decoded}
 use Rattle.wgsl_store.specs.FlatCells.{Holds}
