@@ -2,9 +2,11 @@
 
 mod depth;
 mod growth;
+mod memory;
 mod numbers;
 mod refusals;
 mod samples;
 mod using;
 mod vectors;
+mod vectors_in_memory;
 mod without_memory;

@@ -1,5 +1,9 @@
 mod ComponentTypes
 mod Host
+mod MemoryCalls
+mod MemoryPlaces
+mod MemoryRows
+mod MemoryVectors
 mod Named
 mod Parts
 mod SideBySide

@@ -83,7 +83,7 @@ vector-is n t h =
       parts = λ m. ap (λ (l : Layout). repeated l (size t) 0 n) (k.1.laid_out m) ∙ ap (λ (far : ℕ). repeated (scalar t k.0) far 0 n) k.1.far;
     }
 
-one-or-none : (c : Bool) → is_from_2_to_4 (if c then 1 else 0) ≡ false
+pub one-or-none : (c : Bool) → is_from_2_to_4 (if c then 1 else 0) ≡ false
 one-or-none true = refl
 one-or-none false = refl
 

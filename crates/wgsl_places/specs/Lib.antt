@@ -1,7 +1,9 @@
 pub mod Components
 pub mod Laws
+pub mod Memory
 pub mod Numbers
 pub mod Places
+pub mod Rows
 pub mod Steps
 pub mod Tables
 pub mod Vectors

@@ -1,9 +1,13 @@
 -- Numbers in bytes by the kinds that the records of a table have, for the contracts of the code.
-use Rattle.std.specs.Prelude.{ℕ, zero, suc, ◌+◌, Option, Some, None, Bool, is_some, List, [], ◌∷◌, length, nat_le, ◌==◌, ◌||◌, if◌then◌else◌, option_and_then, option_map}
+use Rattle.std.specs.Prelude.{ℕ, zero, suc, ◌+◌, Option, Some, None, Bool, is_some, List, [], ◌∷◌, length, nat_le, ◌==◌, ◌&&◌, ◌||◌, if◌then◌else◌, option_and_then, option_map}
+use Rattle.std.specs.List.{list_all}
 use Rattle.wgsl_rules.specs.InCommon.{prepended}
 use Rattle.wgsl_rules.specs.Kinds as kinds
 use Rattle.wgsl_rules.specs.Kinds.{Kind, bytes_of}
+use Rattle.wgsl_rules.specs.Layout.{is_from_2_to_4}
 use Rattle.wgsl_rules.specs.Values.{Val, number}
+use Rattle.wgsl_scalar.specs.Literals.{literal_of}
+use Rattle.wgsl_scalar.specs.declared.literal.LiteralInstance.{LiteralInstance}
 use Rattle.wgsl_store.specs.Buffers.{number_from, read_number}
 use Rattle.wgsl_store.specs.Ranges.{overwritten}
 use Rattle.wgsl_store.specs.Walk.{number_bytes}
@@ -65,3 +69,7 @@ stored_far b o kind far (w ∷ ws) = option_and_then (λ c. stored_far c (o + fa
 
 abbrev pub stored_row : List ℕ → ℕ → ℕ → List Val → Option (List ℕ)
 stored_row b o kind ws = option_and_then (λ far. stored_far b o kind far ws) (width_of kind)
+
+-- how far apart these stand side by side, where they are of the kind and so many, as a vector has them
+abbrev pub row_width : ℕ → ℕ → List LiteralInstance → Option ℕ
+row_width kind n ls = if is_from_2_to_4 n && (length ls == n && list_all (λ l. is_of_kind kind (literal_of l)) ls) then width_of kind else None

@@ -4,6 +4,7 @@
 
 mod components;
 pub mod laws;
+mod memory;
 mod numbers;
 mod place;
 mod places;

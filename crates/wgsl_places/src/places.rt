@@ -1,14 +1,16 @@
 //! Where the parts of the values of a type stand.
 
-ghost use Rattle.std.specs.Prelude.{◌≡◌, false, IfOk, MatchOption, map, option_map};
+ghost use Rattle.std.specs.Prelude.{◌≡◌, false, IfOk, IfSome, List, MatchOption, map, option_map};
 ghost use Rattle.std.specs.Bool.{OnFalse};
 ghost use Rattle.std.specs.Option.{unwrap_or};
 ghost use Rattle.std.specs.Prelude.{is_some};
 ghost use Rattle.wgsl_places.specs.Components.{components_of};
+ghost use Rattle.wgsl_places.specs.Memory.{IsPlaceOf};
 ghost use Rattle.wgsl_places.specs.Places.{ArePlaces, IsPlace, IsPlaceAnswer, loaded, stored, whole_of};
 ghost use Rattle.wgsl_places.specs.Steps.{shape_ty};
 ghost use Rattle.wgsl_places.specs.Vectors.{loaded_vec, stored_vec};
 ghost use Rattle.wgsl_rules.specs.Layout.{HasLayout, count_in, has_layout, type_in};
+ghost use Rattle.wgsl_rules.specs.Values.{Reference, Val};
 ghost use Rattle.wgsl_rules.specs.View.{type_view};
 ghost use Rattle.wgsl_scalar.specs.Literals.{literal_of};
 ghost use Rattle.wgsl_store.specs.Layouts.{part_in};
@@ -94,7 +96,8 @@ impl Places {
     /// The place of the part of the position: a component, column, element or member of what stands there. `None` past
     /// the last, and of what has no parts. No memory is taken.
     pub fn part(&self, place: Place, i: usize) -> Option<Place>
-        ensures { (r : Range) → IsPlace self.now r place → ArePlaces self.now (option_map (further r.start) (part_at i (parts_in r.layout))) result }
+        ensures part { (r : Range) → IsPlace self.now r place → ArePlaces self.now (option_map (further r.start) (part_at i (parts_in r.layout))) result }
+        ensures of { (cells : List Val) (r : Reference) → IsPlaceOf self.now cells r place → IfSome result (IsPlaceOf self.now cells r) }
     {
         let elements = place.elements;
         let at = part_with(self.nodes.as_slice(), place.at, i as u64, elements as u64)?;

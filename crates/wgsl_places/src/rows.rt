@@ -63,7 +63,8 @@ pub(crate) fn store_row(bytes: &mut [u8], at: usize, kind: u32, numbers: &[Liter
     true
 }
 
-fn are_of_kind(kind: u32, numbers: &[LiteralInstance]) -> bool
+/// Whether each of the numbers is of the kind.
+pub(crate) fn are_of_kind(kind: u32, numbers: &[LiteralInstance]) -> bool
     ensures { result ≡ list_all (λ n. is_of_kind kind (literal_of n)) numbers.now }
 {
     numbers.iter().all(|number| is_of_kind(kind, *number))

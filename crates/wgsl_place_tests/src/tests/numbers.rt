@@ -21,7 +21,7 @@ fn reckoned(rt: &impl Abort, bytes: &[u8], row: &Row) -> LiteralInstance {
 }
 
 /// The literal of the kind with these bits, the lower ones where it has fewer.
-fn literal(rt: &impl Abort, kind: &str, bits: u64) -> LiteralInstance {
+pub(super) fn literal(rt: &impl Abort, kind: &str, bits: u64) -> LiteralInstance {
     let word = (bits % 0x1_0000_0000) as u32;
     match kind {
         "i32" => LiteralInstance::I32(word.cast_signed()),

@@ -1,9 +1,13 @@
 //! The snippets of `docs/USING.md` on places.
 
+use std::process::Abort;
 use std::test::Fail;
 use wgsl_places::{Components, Places};
+use wgsl_rules::AccessMode::ReadWrite;
+use wgsl_rules::AddressSpace::Storage;
 use wgsl_rules::Type;
 use wgsl_scalar::LiteralInstance::U32;
+use wgsl_store::Store;
 use wgsl_values::MemView;
 
 #[test]
@@ -39,5 +43,30 @@ fn a_vector_is_turned_round_in_bytes_of_the_callers(rt: HostRuntime) -> Result<(
         assert!(rt; places.store_vec(&mut bytes, first, &[z, y, x]));
     }
     assert_eq!(rt; bytes, [3, 0, 0, 0, 2, 0, 0, 0, 1, 0, 0, 0, 9, 9, 9, 9]);
+    Ok(())
+}
+
+#[test]
+fn a_number_is_doubled_in_a_shaders_memory(rt: HostRuntime) -> Result<(), Fail> {
+    let alloc = rt.alloc();
+    let words = Type::Array(Box::new(alloc, Type::U32)?, None);
+    let places = Places::of(alloc, &words)?.ok_or("a type without a layout")?;
+    let mut store = Store::new(alloc);
+    let bytes = [1, 0, 0, 0, 2, 0, 0, 0, 3, 0, 0, 0];
+    let made = store.new_from_bytes(alloc, words, &bytes, Storage, ReadWrite)?;
+    let cell = made.ok_or("bytes of no value")?;
+    assert!(rt; store.holds(&cell));
+    assert!(rt; places.are_of(&cell));
+    let Some(whole) = places.place_in(&store, &cell, &MemView::Whole) else {
+        rt.abort()
+    };
+    let Some(last) = places.part(whole, 2) else {
+        rt.abort()
+    };
+    if let Some(U32(n)) = places.load_in(&store, &cell, last) {
+        assert!(rt; places.store_in(&mut store, &cell, last, U32(n.wrapping_mul(2))));
+    }
+    assert!(rt; store.holds(&cell));
+    assert_eq!(rt; places.load_in(&store, &cell, last), Some(U32(6)));
     Ok(())
 }

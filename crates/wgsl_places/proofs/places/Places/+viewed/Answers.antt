@@ -19,7 +19,7 @@ returns-in_err-part-in-Member t c = λ r place own.
     let rest = steps_of c.in-Member.rest.value in
     let all : steps_of c.args.view.now ≡ s ∷ rest = rw (c.in-Member.is, steps_of-Member, c.as_str.ensures.value) refl in
     rw c.from_residual-in_err-part-in-Member.ensures (led-by c.args.self.now r s rest (steps_of c.args.view.now) None all
-    (past-led c.args.self.now r c.args.place s rest (shape_ty c.args.shape) (shape_ty c.in_ok-i-in-Member.member) c.in_ok-i-in-Member.i place own c.in_ok-i-in-Member.ensures (c.in_err-part-in-Member.ensures r place)))
+    (past-led c.args.self.now r c.args.place s rest (shape_ty c.args.shape) (shape_ty c.in_ok-i-in-Member.member) c.in_ok-i-in-Member.i place own c.in_ok-i-in-Member.ensures (c.in_err-part-in-Member.ensures.part r place)))
 
 pub returns-in_ok-part-in-Member : goal.returns-in_ok-part-in-Member
 returns-in_ok-part-in-Member t c = λ r place own.
@@ -28,7 +28,7 @@ returns-in_ok-part-in-Member t c = λ r place own.
     let all : steps_of c.args.view.now ≡ s ∷ rest = rw (c.in-Member.is, steps_of-Member, c.as_str.ensures.value, c.deref.ensures) refl in
     led-by c.args.self.now r s rest (steps_of c.args.view.now) c.viewed.result all
     (on-led c.args.self.now r c.args.place s rest (shape_ty c.args.shape) (shape_ty c.in_ok-i-in-Member.member) c.in_ok-i-in-Member.i c.in_ok-part-in-Member.field-0 c.viewed.result place own c.in_ok-i-in-Member.ensures
-    (c.in_ok-part-in-Member.ensures r place) c.viewed.ensures)
+    (c.in_ok-part-in-Member.ensures.part r place) c.viewed.ensures)
 
 pub returns-in_ok-part-in-Index : goal.returns-in_ok-part-in-Index
 returns-in_ok-part-in-Index t c = λ r place own.
@@ -37,4 +37,4 @@ returns-in_ok-part-in-Index t c = λ r place own.
     let all : steps_of c.args.view.now ≡ s ∷ rest = rw (c.in-Index.is, steps_of-Index, c.deref-in-Index.ensures) refl in
     led-by c.args.self.now r s rest (steps_of c.args.view.now) c.viewed-in-Index.result all
     (on-led c.args.self.now r c.args.place s rest (shape_ty c.args.shape) (shape_ty c.in_ok-element-in-Index.element) c.in-Index.i c.in_ok-part-in-Index.field-0 c.viewed-in-Index.result place own
-    (c.in_ok-element-in-Index.ensures c.in-Index.i) (c.in_ok-part-in-Index.ensures r place) c.viewed-in-Index.ensures)
+    (c.in_ok-element-in-Index.ensures c.in-Index.i) (c.in_ok-part-in-Index.ensures.part r place) c.viewed-in-Index.ensures)
