@@ -1,6 +1,7 @@
 #!/bin/bash
-# Times numbers that are read and put by places, and by views: copies the repository to a scratch folder, adds a small
-# program there, and prints nanoseconds and growths of memory a call, as LLVM builds it.
+# Times numbers and vectors that are read and put by places, in bytes and in a cell of a store, and by views: copies the
+# repository to a scratch folder, adds a small program there, and prints nanoseconds and growths of memory a call, as LLVM
+# builds it.
 set -euo pipefail
 . "$(dirname "$0")/calls.sh"
 
@@ -9,8 +10,10 @@ cat > "$crate/src/main.rt" <<'RUST'
 //! Reads and puts the numbers of an array of structures again and again: the way and how often are the arguments.
 #![tactic(auto)]
 
+ghost use Rattle.wgsl_places.specs.Memory.{IsPlaceOf};
 ghost use Rattle.wgsl_rules.specs.Values.{IsStorable};
-ghost use Rattle.wgsl_values.specs.View.{value_of};
+ghost use Rattle.wgsl_store.specs.Memory.{IsKept};
+ghost use Rattle.wgsl_values.specs.View.{reference_of, value_of};
 
 use std::alloc::{AllocError, Global};
 use std::env;
@@ -18,10 +21,12 @@ use std::io;
 use std::process::Abort;
 use std::time::Instant;
 use wgsl_places::{Place, Places};
+use wgsl_rules::AccessMode::ReadWrite;
+use wgsl_rules::AddressSpace::Storage;
 use wgsl_rules::{StructMemberType, StructType, Type};
 use wgsl_scalar::LiteralInstance;
-use wgsl_store::Layout;
-use wgsl_values::{Instance, MemView};
+use wgsl_store::{Layout, Store};
+use wgsl_values::{Instance, MemView, RefInstance};
 
 /// How many bytes the array has, of structures of 32 bytes.
 const LEN: usize = 131072;
@@ -47,11 +52,17 @@ fn particles(alloc: Global) -> Result<Type, AllocError> {
     Ok(Type::Array(Box::new(alloc, particle)?, None))
 }
 
-/// [4000].speed[1]
-fn speed(alloc: Global) -> Result<MemView, AllocError> {
+/// [4000].speed
+fn velocity(alloc: Global) -> Result<MemView, AllocError> {
     let mut view = MemView::Whole;
     view.append_index(alloc, 4000)?;
     view.append_member(alloc, String::from_str(alloc, "speed")?)?;
+    Ok(view)
+}
+
+/// [4000].speed[1]
+fn speed(alloc: Global) -> Result<MemView, AllocError> {
+    let mut view = velocity(alloc)?;
     view.append_index(alloc, 1)?;
     Ok(view)
 }
@@ -137,6 +148,102 @@ fn writes(count: u32, layout: &Layout, view: &MemView, bytes: &mut [u8], value: 
 }
 
 #[inline(never)]
+fn cell_loads(count: u32, places: &Places, store: &Store, cell: &RefInstance, place: Place) -> u32
+    requires { IsKept store.now (reference_of cell.now) }
+{
+    let mut sum: u32 = 0;
+    for _ in 0..count {
+        if let Some(LiteralInstance::U32(n)) = places.load_in(store, cell, place) {
+            sum = sum.wrapping_add(n);
+        }
+    }
+    sum
+}
+
+#[inline(never)]
+fn cell_stores(
+    count: u32,
+    places: &Places,
+    store: &mut Store,
+    cell: &RefInstance,
+    place: Place,
+) -> u32
+    requires kept { IsKept store.old (reference_of cell.now) }
+    requires of { IsPlaceOf places.now store.old (reference_of cell.now) place }
+{
+    let mut sum: u32 = 0;
+    'calls: for i in 0..count {
+        let number = LiteralInstance::U32(i);
+        sum = sum.wrapping_add(u32::from(places.store_in(store, cell, place, number)));
+    }
+    sum
+}
+
+#[inline(never)]
+fn cell_vec_loads(
+    count: u32,
+    places: &Places,
+    store: &Store,
+    cell: &RefInstance,
+    place: Place,
+) -> u32
+    requires { IsKept store.now (reference_of cell.now) }
+{
+    let mut sum: u32 = 0;
+    for i in 0..count {
+        if let Some(vector) = places.load_vec_in(store, cell, place) {
+            if let Some(LiteralInstance::U32(n)) = vector.as_slice().get((i % 3) as usize) {
+                sum = sum.wrapping_add(*n);
+            }
+        }
+    }
+    sum
+}
+
+#[inline(never)]
+fn cell_vec_stores(
+    count: u32,
+    places: &Places,
+    store: &mut Store,
+    cell: &RefInstance,
+    place: Place,
+) -> u32
+    requires kept { IsKept store.old (reference_of cell.now) }
+    requires of { IsPlaceOf places.now store.old (reference_of cell.now) place }
+{
+    let mut sum: u32 = 0;
+    'calls: for i in 0..count {
+        let vector = [LiteralInstance::U32(i); 3];
+        sum = sum.wrapping_add(u32::from(places.store_vec_in(store, cell, place, &vector)));
+    }
+    sum
+}
+
+fn cell_answer(
+    rt: &impl Abort,
+    alloc: Global,
+    way: &str,
+    count: u32,
+    places: &Places,
+) -> Result<u32, AllocError> {
+    let mut store = Store::new(alloc);
+    let bytes = vec![in alloc; 7u8; LEN]?;
+    let ty = places.ty().clone(alloc)?;
+    let made = store.new_from_bytes(alloc, ty, bytes.as_slice(), Storage, ReadWrite)?;
+    let cell = made.expect(rt, "bytes of a value");
+    assert!(rt; store.holds(&cell));
+    assert!(rt; places.are_of(&cell));
+    let view = if way == "load_in" || way == "store_in" { speed(alloc)? } else { velocity(alloc)? };
+    let place = places.place_in(&store, &cell, &view).expect(rt, "a place");
+    Ok(match way {
+        "load_in" => cell_loads(count, places, &store, &cell, place),
+        "store_in" => cell_stores(count, places, &mut store, &cell, place),
+        "load_vec_in" => cell_vec_loads(count, places, &store, &cell, place),
+        _ => cell_vec_stores(count, places, &mut store, &cell, place),
+    })
+}
+
+#[inline(never)]
 fn makes(count: u32, alloc: Global, ty: &Type) -> Result<u32, AllocError> {
     let mut sum: u32 = 0;
     for _ in 0..count {
@@ -164,6 +271,9 @@ fn answer(rt: &impl Abort, alloc: Global, way: &str, count: u32) -> Result<u32, 
         return Ok(writes(count, &layout, &view, bytes.as_mut_slice(), &value));
     }
     let places = Places::of(alloc, &ty)?.expect(rt, "a layout");
+    if way.ends_with("_in") {
+        return cell_answer(rt, alloc, way, count, &places);
+    }
     let ids = ids(rt, &places);
     let whole = places.place(LEN, &MemView::Whole).expect(rt, "the whole");
     match way {
@@ -191,12 +301,33 @@ fn main(rt: HostRuntime) -> io::Result<()> {
 }
 RUST
 
+# Over the loop that stores, the reference is kept, and the place is one.
+for stores in cell_stores cell_vec_stores; do
+    mkdir -p "$crate/proofs/$stores"
+    cat > "$crate/proofs/$stores/Invariants.antt" <<ANTT
+use Rattle.wgsl_places.specs.Memory.{IsPlaceOf}
+use Rattle.wgsl_store.specs.Memory.{IsKept}
+use Rattle.wgsl_values.specs.View.{reference_of}
+use Rattle.wgsl_bench.proofs.$stores.Given as goal
+
+abbrev pub invariant-calls : goal.invariant-calls
+invariant-calls l = record {
+  kept : IsKept l.store (reference_of l.fn.cell);
+  of : IsPlaceOf l.fn.places l.store (reference_of l.fn.cell) l.fn.place;
+}
+ANTT
+done
+
 build
 while read -r way count; do
     report "$count" "$way"
 done <<'CASES'
 load 1000000
 store 1000000
+load_in 1000000
+store_in 1000000
+load_vec_in 1000000
+store_vec_in 1000000
 part 1000000
 find 100000
 read 100000
