@@ -23,9 +23,10 @@ use crate::structs::Structs;
 use std::alloc::{AllocError, Global};
 use std::io::{Read, Write};
 use std::str;
+use std::sync::Arc;
 use wgsl_rules::{AccessMode, AddressSpace, Type};
 use wgsl_session::{Call, Fault, Reply, Session};
-use wgsl_store::{Buffers, References, Store};
+use wgsl_store::{Buffers, Layout, References, Store};
 use wgsl_values::RefInstance;
 
 /// Runs the script that the reader gives, and writes a line for each line that has a word. All of
@@ -108,8 +109,12 @@ impl Script {
         let space = space_of(space).ok_or(Stop::BadLine)?;
         let access = access_of(access).ok_or(Stop::BadLine)?;
         let bytes = bytes_of(self.alloc, bytes)?.ok_or(Stop::BadLine)?;
-        let ty = self.structs.type_of(ty)?;
-        let reply = new_of_bytes(&mut self.session, ty, bytes.as_slice(), space, access)?;
+        let name = self.structs.type_name(ty)?;
+        let ty = self.structs.type_of(&name)?;
+        let layout = self.structs.layout(&name, &ty);
+        let bytes = bytes.as_slice();
+        let reply = new_of_bytes(&mut self.session, ty, layout, bytes, space, access)?;
+        self.structs.has_cell(&name);
         Ok(reply.into())
     }
 
@@ -173,10 +178,11 @@ fn bytes_read<'a>(
 }
 
 /// Makes a cell with the value of the type that the bytes lay out; `NoValue`, and nothing is changed, where they lay
-/// out none.
+/// out none. The cell shares the layout where it is that of the type.
 fn new_of_bytes(
     session: &mut Session,
     ty: Type,
+    layout: Option<&Arc<Layout>>,
     bytes: &[u8],
     space: AddressSpace,
     access: AccessMode,
@@ -184,7 +190,7 @@ fn new_of_bytes(
     ensures value { IfOk result (λ reply. IsSomeAnd (decode bytes.now (type_view ty)) (λ v. IsStep session.old (model.new v space access) session.new (Some (reply_of reply)))) }
     ensures none { result ≡ Err Stop.NoValue → (decode bytes.now (type_view ty) ≡ None) × (session.new ≡ session.old) }
 {
-    match session.new_from_bytes(ty, bytes, space, access)? {
+    match session.new_sharing(ty, layout, bytes, space, access)? {
         Some(reply) => Ok(reply),
         None => Err(Stop::NoValue),
     }

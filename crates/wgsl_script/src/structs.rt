@@ -10,14 +10,16 @@ use crate::stop::Stop;
 use crate::type_words::{Plain, array_parts, is_nested_little, plain_of};
 use std::alloc::{AllocError, Global};
 use std::collections::BTreeMap;
+use std::sync::Arc;
 use wgsl_rules::{StructMemberType, StructType, Type};
+use wgsl_store::Layout;
 
 /// The most nodes of a type: one for each type in it, those of members included.
 const NODES: usize = 4096;
 
 /// What a word for a type names: arrays, one inside the other, of a type that is none.
 #[derive(Debug, Drop)]
-struct TypeName {
+pub(crate) struct TypeName {
     /// How many elements each has, the outermost first; `None` is a runtime-sized array's.
     arrays: Vec<Option<u32>>,
     element: Element,
@@ -45,6 +47,16 @@ struct Declaration {
     name: String,
     members: Vec<Member>,
     nodes: usize,
+    sharing: Sharing,
+}
+
+/// The layout that the cells of a structure share: there is none before its second cell, so that a structure takes
+/// memory for one only beside that of a cell.
+#[derive(Debug, Drop)]
+enum Sharing {
+    NoCell,
+    OneCell,
+    Layout(Arc<Layout>),
 }
 
 /// The structures defined so far, numbered from 0 in the order of their lines.
@@ -83,11 +95,46 @@ impl Structs {
         Ok(())
     }
 
-    /// The type that a word names.
-    pub(crate) fn type_of(&self, word: &str) -> Result<Type, Stop> {
-        let name = self.type_name(word)?;
-        let ty = type_in(self.alloc, self.declared.as_slice(), &name)?;
+    /// The type of the name.
+    pub(crate) fn type_of(&self, name: &TypeName) -> Result<Type, Stop> {
+        let ty = type_in(self.alloc, self.declared.as_slice(), name)?;
         ty.ok_or(Stop::BadLine)
+    }
+
+    /// The layout that the cells of the type share, where the name is that of a structure with a cell. Where memory is
+    /// wanting for it there is none yet.
+    pub(crate) fn layout(&mut self, name: &TypeName, ty: &Type) -> Option<&Arc<Layout>> {
+        let alloc = self.alloc;
+        let declaration = self.declaration_of(name)?;
+        if matches!(declaration.sharing, Sharing::OneCell) {
+            if let Ok(Some(layout)) = shared_layout(alloc, ty) {
+                declaration.sharing = Sharing::Layout(layout);
+            }
+        }
+        match &declaration.sharing {
+            Sharing::Layout(layout) => Some(layout),
+            Sharing::NoCell | Sharing::OneCell => None,
+        }
+    }
+
+    /// A cell of the type is made.
+    pub(crate) fn has_cell(&mut self, name: &TypeName) {
+        if let Some(declaration) = self.declaration_of(name) {
+            if matches!(declaration.sharing, Sharing::NoCell) {
+                declaration.sharing = Sharing::OneCell;
+            }
+        }
+    }
+
+    // The structure that the name is.
+    fn declaration_of(&mut self, name: &TypeName) -> Option<&mut Declaration> {
+        if !name.arrays.is_empty() {
+            return None;
+        }
+        match name.element {
+            Element::Plain(_) => None,
+            Element::Struct(n) => self.declared.get_mut(n),
+        }
     }
 
     // Whether a structure may be given the name.
@@ -113,6 +160,7 @@ impl Structs {
             name,
             members,
             nodes,
+            sharing: Sharing::NoCell,
         })
     }
 
@@ -129,8 +177,8 @@ impl Structs {
         })
     }
 
-    // What a word for a type names.
-    fn type_name(&self, word: &str) -> Result<TypeName, Stop> {
+    /// What a word for a type names.
+    pub(crate) fn type_name(&self, word: &str) -> Result<TypeName, Stop> {
         if !is_nested_little(word) {
             return Err(Stop::BadLine);
         }
@@ -168,6 +216,14 @@ impl Structs {
                 .map_or(0, |declaration| declaration.nodes),
         };
         nodes.saturating_add(name.arrays.len())
+    }
+}
+
+/// The layout of the type, to be shared; `None` where it has none.
+fn shared_layout(alloc: Global, ty: &Type) -> Result<Option<Arc<Layout>>, AllocError> {
+    match Layout::of(alloc, ty)? {
+        Some(layout) => Ok(Some(Arc::new(alloc, layout)?)),
+        None => Ok(None),
     }
 }
 

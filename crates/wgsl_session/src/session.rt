@@ -3,8 +3,9 @@
 use crate::call::{Call, Fault, Reply};
 use std::alloc::{AllocError, Global};
 use std::marker::Model;
+use std::sync::Arc;
 use wgsl_rules::{AccessMode, AddressSpace, Type};
-use wgsl_store::{Loads, References, Store};
+use wgsl_store::{Layout, Loads, References, Store};
 use wgsl_values::{Instance, RefInstance};
 
 /// A shader's memory: a store, and the references that handles name. A handle is a number, counted from 0.
@@ -152,8 +153,27 @@ impl Session {
         ensures bytes { IsStepOf IsFlatStep (λ v. model.new v space access) (decode bytes.now (type_view ty)) (flat_of self.old) (flat_of self.new) result }
         ensures good { IsGood self.new }
     {
+        self.new_sharing(ty, None, bytes, space, access)
+    }
+
+    /// As [`Session::new_from_bytes`]; where the layout is that of the type, the cell shares it with all that have it, and
+    /// takes no memory for one of its own. Any other layout is passed over.
+    /// It calls itself for each level of the type: keep to 4,095 within a stack of 8 MiB.
+    pub fn new_sharing(
+        &mut self,
+        ty: Type,
+        layout: Option<&Arc<Layout>>,
+        bytes: &[u8],
+        space: AddressSpace,
+        access: AccessMode,
+    ) -> Result<Option<Reply>, Fault>
+        ensures step { IsStepOf IsStep (λ v. model.new v space access) (decode bytes.now (type_view ty)) self.old self.new result }
+        // The same in the memory of bytes that the cells stand for.
+        ensures bytes { IsStepOf IsFlatStep (λ v. model.new v space access) (decode bytes.now (type_view ty)) (flat_of self.old) (flat_of self.new) result }
+        ensures good { IsGood self.new }
+    {
         self.attest();
-        self.make_from_bytes(ty, bytes, space, access)
+        self.make_from_bytes(ty, layout, bytes, space, access)
     }
 
     /// Makes the call [`Call::Write`] with the value that the bytes lay out in the type of what the handle names, as
@@ -230,6 +250,7 @@ impl Session {
     fn make_from_bytes(
         &mut self,
         ty: Type,
+        layout: Option<&Arc<Layout>>,
         bytes: &[u8],
         space: AddressSpace,
         access: AccessMode,
@@ -240,7 +261,7 @@ impl Session {
         self.handles.reserve(1)?;
         let made = self
             .store
-            .new_from_bytes(self.alloc, ty, bytes, space, access)?;
+            .new_sharing(self.alloc, ty, layout, bytes, space, access)?;
         let Some(reference) = made else {
             return Ok(None);
         };

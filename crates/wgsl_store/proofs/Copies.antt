@@ -1,23 +1,22 @@
 -- Parts of cells of bytes that are copied: the bytes of one part, in the place of another that is laid out alike.
-use Rattle.std.proofs.Common.{Global, Vec, ◌≡◌, ℕ, ◌+◌, ◌≤◌, List, [], ◌++◌, length, take, drop, Option, Some, option_map, vec_len, option_and_then, Ok, Err, true, refl, sym, ap, ◌∙◌, subst, arith, length-drop}
+use Rattle.std.proofs.Common.{Global, Vec, ◌≡◌, ℕ, ◌+◌, ◌≤◌, List, [], ◌++◌, length, take, drop, Option, Some, option_and_then, Ok, Err, true, refl, sym, ap, ◌∙◌, subst, arith, length-drop}
 use Rattle.std.proofs.lemmas.List.{length-take-le, drop-drop}
 use Rattle.std.specs.Prelude.{◌↔◌, IsOkAnd}
-use Rattle.wgsl_rules.specs.Layout.{has_layout, layout, layout_of, length_in, type_in}
+use Rattle.wgsl_rules.specs.Layout.{has_layout, layout_of, length_in, type_in}
 use Rattle.wgsl_rules.specs.Paths.{fits, put_tree, put_viewed, viewed, FitsPlace}
 use Rattle.wgsl_rules.specs.Refusals.{Outcome}
 use Rattle.wgsl_rules.specs.Values.{Step, Val, type_of, IsStorable}
-use Rattle.wgsl_rules.specs.View.{type_view}
 use Rattle.wgsl_rules.proofs.lemmas.Paths.{fits-Decides}
 use Rattle.wgsl_values.proofs.lemmas.Replaced.{a_part_replaced}
 use Rattle.wgsl_store.specs.Buffers.{buffer, decoded}
 use Rattle.wgsl_store.specs.Copies.{IsCopied}
 use Rattle.wgsl_store.specs.FlatCells.{Holds, IsPartAt, flat_value}
 use Rattle.wgsl_store.specs.Located.{IsLocated, part_range, shape_plan, shape_ty}
-use Rattle.wgsl_store.specs.Ranges.{Range, bytes_in, further, overwritten, range_in, view_range}
+use Rattle.wgsl_store.specs.Ranges.{Range, bytes_in, overwritten, range_in, view_range}
 use Rattle.wgsl_store.specs.declared.flat.FlatCell.TheInside.{Inside}
 use Rattle.wgsl_store.specs.declared.in_place.InPlace.TheVariants as in_place
 use Rattle.wgsl_store.specs.declared.located.Located.{Located}
-use Rattle.wgsl_store.proofs.FlatPuts.{at-part, found-at, held-layout, held-value, holds-own, laid-at, place-told}
+use Rattle.wgsl_store.proofs.FlatPuts.{at-part, held-value, holds-own, laid-at, place-told}
 use Rattle.wgsl_store.proofs.HeldBytes.{part-bytes}
 use Rattle.wgsl_store.proofs.LayoutParts.{alike-by-length}
 use Rattle.wgsl_store.proofs.lemmas.Flat.{IsLaid, IsPut, there-laid}
@@ -75,18 +74,6 @@ has-bytes c v h = record { storable = h.storable; laid = ap has_layout h.typed �
 abbrev part_of : Val → Located → Val
 part_of v l = decoded (buffer v) l.start (part_range l).layout
 
--- the bytes of a cell are as many as those of its buffer
-pub bytes-long : (c : Inside) (v : Val) (n : ℕ) → Holds c v → n ≡ vec_len c.bytes → n ≡ length (buffer v)
-bytes-long c v n h e = let same = ap length h.bytes in omega (arith, e, c.bytes.ok.0, same)
-
--- where a part stands that is located from the start of the whole
-pub part-is : (c : Inside) (v : Val) (steps : List Step) (part : Located) (n : ℕ) → Holds c v → IsLocated part → part.len ≡ n → n ≡ length (buffer v) → Some (part_range part) ≡ option_map (further 0) (view_range steps (layout c.count (type_view c.ty))) → IsPartAt v steps part
-part-is c v steps part n h there len long range = record {
-  there = there;
-  found = found-at v steps c.count (type_view c.ty) (Some (part_range part)) (held-layout c v h) range;
-  whole = len ∙ long;
-}
-
 led : (v : Val) (steps : List Step) (l : Located) → HasBytes v → IsPartAt v steps l → viewed steps v ≡ Ok (part_of v l)
 led v steps l h p = at-part v steps (part_range l) h.storable h.laid p.found
 
@@ -131,7 +118,7 @@ pub record IsCopiedCell (after : Inside) (u v : Val) (from to : List Step) : Typ
   pub copied : IsOkAnd (viewed from u) (IsCopied in_place.Done true v (flat_value after) to)
 
 pub copied-cell : (c : Inside) (bytes : Vec ℕ Global) (u v : Val) (from to : List Step) (s t : Located) → Holds c v → HasBytes u → IsPartAt u from s → IsPartAt v to t → (part_range s).layout ≡ (part_range t).layout
-    → bytes.items ≡ overwritten (buffer v) t.start (bytes_in (buffer u) (part_range s)) → IsCopiedCell (record { ty = c.ty; plan = c.plan; count = c.count; bytes = bytes }) u v from to
+    → bytes.items ≡ overwritten (buffer v) t.start (bytes_in (buffer u) (part_range s)) → IsCopiedCell (record { owner = c.owner; count = c.count; bytes = bytes }) u v from to
 copied-cell c bytes u v from to s t h hu ps pt alike is =
     let hv = has-bytes c v h in
     let w = part_of u s in
@@ -142,11 +129,10 @@ copied-cell c bytes u v from to s t h hu ps pt alike is =
     let at_place = led v to t hv pt in
     let fit_there = subst (λ (o : Outcome Val). IsOkAnd o (λ x. fits w x ≡ true)) at_place fit in
     let put = copied-in-place v w (part_of v t) to (part_range t) hv.storable hv.laid own.storable at_place fit_there pt.found in
-    let after : Inside = record { ty = c.ty; plan = c.plan; count = c.count; bytes = bytes } in
+    let after : Inside = record { owner = c.owner; count = c.count; bytes = bytes } in
     let holds : Holds after (put_viewed to w v) = record {
       typed = put.typed ∙ h.typed;
       laid = h.laid;
-      planned = h.planned;
       counted = h.counted ∙ sym put.counted;
       storable = put.storable;
       bytes = is ∙ ap (overwritten (buffer v) t.start) its_bytes ∙ put.its_bytes;

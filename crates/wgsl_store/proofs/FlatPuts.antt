@@ -1,46 +1,52 @@
 -- Cells that hold values as bytes: what they hold, and what a write in the place of a part makes of them.
-use Rattle.std.proofs.Common.{Global, Vec, ◌≡◌, ℕ, ◌+◌, List, Option, Some, None, Ok, Err, option_map, true, sym, ap, ◌∙◌, subst, arith}
-use Rattle.std.specs.Prelude.{◌↔◌, IsOk, IsOkAnd}
+use Rattle.std.proofs.Common.{Global, Vec, ◌≡◌, ℕ, ◌+◌, List, length, vec_len, refl, Option, Some, None, Ok, Err, option_map, true, sym, ap, ◌∙◌, subst, arith}
+use Rattle.std.specs.Prelude.{◌↔◌, IsOk, IsOkAnd, IsSome}
 use Rattle.std.specs.Result.{result_ok}
 use Rattle.wgsl_rules.specs.Layout.{has_layout, layout, layout_of, runtime_count}
 use Rattle.wgsl_rules.specs.Paths.{fits, put_viewed, viewed}
 use Rattle.wgsl_rules.specs.Refusals.{Outcome}
-use Rattle.wgsl_rules.specs.Types.{Ty}
 use Rattle.wgsl_rules.specs.Values.{Step, Val, type_of, IsStorable}
-use Rattle.wgsl_rules.specs.View.{type_view}
 use Rattle.wgsl_store.specs.Buffers.{buffer, decoded}
-use Rattle.wgsl_store.specs.FlatCells.{Holds, flat_value}
+use Rattle.wgsl_store.specs.FlatCells.{Holds, IsPartAt, flat_value, owned_type}
+use Rattle.wgsl_store.specs.Layouts.{HasRoom}
 use Rattle.wgsl_store.specs.Located.{IsLocated, part_range, shape_plan, shape_ty}
 use Rattle.wgsl_store.specs.Plan.{plan_of}
-use Rattle.wgsl_store.specs.Ranges.{Range, further, view_range}
+use Rattle.wgsl_store.specs.Ranges.{Range, view_range}
 use Rattle.wgsl_store.specs.Walk.{put}
 use Rattle.wgsl_store.specs.declared.flat.FlatCell.TheInside.{Inside}
 use Rattle.wgsl_store.specs.declared.located.Located.{Located}
-use Rattle.wgsl_store.proofs.lemmas.Flat.{IsLaid, IsPut, buffer-decodes, fits-laid, put-in-place, there-laid, type-alike}
+use Rattle.wgsl_store.proofs.lemmas.Flat.{IsLaid, IsPut, buffer-decodes, fits-laid, put-in-place, there-laid, type-alike, whole-there}
 use Rattle.wgsl_store.proofs.lemmas.Parts.{decoded-viewed}
-use Rattle.wgsl_store.proofs.lemmas.PathRanges.{from-start}
 
 -- ---- what a cell holds
 
 -- the value that a cell holds is the one that its bytes lay out
 pub held-value : (c : Inside) (v : Val) → Holds c v → flat_value c ≡ v
 held-value c v h =
-    let own : layout c.count (type_view c.ty) ≡ layout_of v = ap (λ (n : ℕ). layout n (type_view c.ty)) h.counted ∙ ap (layout (runtime_count v)) (sym h.typed) in
-    ap (λ (b : List ℕ). decoded b 0 (layout c.count (type_view c.ty))) h.bytes ∙ ap (decoded (buffer v) 0) own
+    let own : layout c.count (owned_type c.owner) ≡ layout_of v = ap (λ (n : ℕ). layout n (owned_type c.owner)) h.counted ∙ ap (layout (runtime_count v)) (sym h.typed) in
+    ap (λ (b : List ℕ). decoded b 0 (layout c.count (owned_type c.owner))) h.bytes ∙ ap (decoded (buffer v) 0) own
     ∙ buffer-decodes v h.storable (ap has_layout h.typed ∙ h.laid)
 
 pub holds-own : (c : Inside) (v : Val) → Holds c v → Holds c (flat_value c)
 holds-own c v h = subst (Holds c) (sym (held-value c v h)) h
 
 -- the layout of the value is that of its type, for the count that the cell keeps
-pub held-layout : (c : Inside) (v : Val) → Holds c v → layout_of v ≡ layout c.count (type_view c.ty)
-held-layout c v h = ap (layout (runtime_count v)) h.typed ∙ ap (λ (n : ℕ). layout n (type_view c.ty)) (sym h.counted)
+pub held-layout : (c : Inside) (v : Val) → Holds c v → layout_of v ≡ layout c.count (owned_type c.owner)
+held-layout c v h = ap (layout (runtime_count v)) h.typed ∙ ap (λ (n : ℕ). layout n (owned_type c.owner)) (sym h.counted)
+
+-- its bytes are as many as those of the buffer
+pub bytes-long : (c : Inside) (v : Val) (n : ℕ) → Holds c v → n ≡ vec_len c.bytes → n ≡ length (buffer v)
+bytes-long c v n h e = let same = ap length h.bytes in omega (arith, e, c.bytes.ok.0, same)
+
+-- and the value finds room in them
+pub has-room : (c : Inside) (v : Val) (n : ℕ) → Holds c v → n ≡ vec_len c.bytes → HasRoom c.count (owned_type c.owner) n
+has-room c v n h e =
+    let t = owned_type c.owner in
+    let there = whole-there v c.count t (plan_of t) n h.storable h.laid h.typed h.counted refl (bytes-long c v n h e) in
+    let within = there.inside in
+    record { counted = there.counted; inside = omega (arith, within) }
 
 -- ---- the part that a view leads to
-
--- a part that is located from the start of the whole
-pub found-at : (v : Val) (steps : List Step) (n : ℕ) (t : Ty) (o : Option Range) → layout_of v ≡ layout n t → o ≡ option_map (further 0) (view_range steps (layout n t)) → view_range steps (layout_of v) ≡ o
-found-at v steps n t o own e = ap (view_range steps) own ∙ sym (from-start (view_range steps (layout n t))) ∙ sym e
 
 result-viewed : (v : Val) (steps : List Step) (o : Option Range) → IsStorable v → has_layout (type_of v) ≡ true → view_range steps (layout_of v) ≡ o → result_ok (viewed steps v) ≡ option_map (λ r. decoded (buffer v) (0 + r.start) r.layout) o
 result-viewed v steps o s h e =
@@ -54,6 +60,23 @@ nowhere v steps s h e ok = by (viewed steps v) (result-viewed v steps None s h e
     by : (o : Outcome Val) → result_ok o ≡ None → IsOk o → ⊥
     by (Ok x) e ok = cc
     by (Err f) e ok = cc
+
+-- it leads to a range in the layout that a cell has
+pub leads-there : (c : Inside) (v : Val) (steps : List Step) → Holds c v → IsOk (viewed steps v) → IsSome (view_range steps (layout c.count (owned_type c.owner)))
+leads-there c v steps h ok = by (view_range steps (layout c.count (owned_type c.owner))) refl
+  where
+    by : (o : Option Range) → view_range steps (layout c.count (owned_type c.owner)) ≡ o → IsSome o
+    by None e = absurd (nowhere v steps h.storable (ap has_layout h.typed ∙ h.laid) (ap (view_range steps) (held-layout c v h) ∙ e) ok)
+    by (Some r) e = refl
+
+-- the part that is located there
+pub part-is : (c : Inside) (v : Val) (steps : List Step) (part : Located) (n : ℕ) → Holds c v → n ≡ vec_len c.bytes → IsLocated part → part.len ≡ n
+    → view_range steps (layout c.count (owned_type c.owner)) ≡ Some (part_range part) → IsPartAt v steps part
+part-is c v steps part n h e there len found = record {
+  there = there;
+  found = ap (view_range steps) (held-layout c v h) ∙ found;
+  whole = len ∙ bytes-long c v n h e;
+}
 
 pub at-part : (v : Val) (steps : List Step) (r : Range) → IsStorable v → has_layout (type_of v) ≡ true → view_range steps (layout_of v) ≡ Some r → viewed steps v ≡ Ok (decoded (buffer v) r.start r.layout)
 at-part v steps r s h e = by (viewed steps v) (result-viewed v steps (Some r) s h e)
@@ -91,13 +114,12 @@ place-put v w steps l s h t located e alike =
 -- the cell with these bytes holds the value after the put
 pub put-holds : (c : Inside) (bytes : Vec ℕ Global) (v w : Val) (steps : List Step) (l : Located) → Holds c v → IsStorable w → IsLocated l → view_range steps (layout_of v) ≡ Some (part_range l)
     → layout_of w ≡ (part_range l).layout → bytes.items ≡ put w (shape_plan l.shape) l.start (buffer v)
-    → Holds (record { ty = c.ty; plan = c.plan; count = c.count; bytes = bytes }) (put_viewed steps w v)
+    → Holds (record { owner = c.owner; count = c.count; bytes = bytes }) (put_viewed steps w v)
 put-holds c bytes v w steps l h t located there alike is =
     let after = place-put v w steps l h.storable (ap has_layout h.typed ∙ h.laid) t located there alike in
     record {
       typed = after.typed ∙ h.typed;
       laid = h.laid;
-      planned = h.planned;
       counted = h.counted ∙ sym after.counted;
       storable = after.storable;
       bytes = is ∙ after.its_bytes;

@@ -1,8 +1,9 @@
 -- What bytes lay out in a type: which value it is, and that it may be stored in any cell, since it holds no reference or
 -- pointer: neither has a layout, and each part of a value whose type has a layout has one.
 use mathlib.Core.Logic.{inl, inr}
-use Rattle.std.proofs.Common.{◌≡◌, ◌⊎◌, ℕ, List, length, Option, Some, None, option_map, Bool, true, false, if◌then◌else◌, sym, ap, ◌∙◌, subst}
+use Rattle.std.proofs.Common.{◌≡◌, ◌⊎◌, ℕ, List, length, Option, Some, None, option_map, Bool, true, false, if◌then◌else◌, refl, sym, ap, ◌∙◌, subst}
 use Rattle.std.proofs.lemmas.Bool.{false≢true}
+use Rattle.std.specs.Prelude.{not}
 use Rattle.wgsl_rules.specs.Layout.{HasLayout, count_in, has_layout, layout, runtime_count}
 use Rattle.wgsl_rules.specs.Paths.{value_at}
 use Rattle.wgsl_rules.specs.Types.{Ty}
@@ -12,6 +13,11 @@ use Rattle.wgsl_store.specs.Memory.{IsContent, IsKept}
 use Rattle.wgsl_store.proofs.lemmas.Compose.{compose}
 use Rattle.wgsl_store.proofs.lemmas.Decoded.{decoded-lays, decoding-is-reading}
 use Rattle.wgsl_store.proofs.lemmas.HeldPaths.{held-by-paths}
+
+-- a test that did not fail
+pub not-false : (b : Bool) → not b ≡ false → b ≡ true
+not-false true h = refl
+not-false false h = sym h
 
 -- ---- the value
 
@@ -24,6 +30,14 @@ decode-told b t o h e =
 -- a type without a layout lays out none
 pub decode-without : (b : List ℕ) (t : Ty) → has_layout t ≡ false → decode b t ≡ None
 decode-without b t h = ap (λ (c : Bool). if c then option_map (λ n. decoded b 0 (layout n t)) (count_in (length b) t) else None) h
+
+-- of bytes that tell no count
+pub decode-uncounted : (b : List ℕ) (t : Ty) → count_in (length b) t ≡ None → decode b t ≡ None
+decode-uncounted b t e = by (has_layout t) refl
+  where
+    by : (c : Bool) → has_layout t ≡ c → decode b t ≡ None
+    by true h = decode-told b t None h e
+    by false h = decode-without b t h
 
 pub decode-lays : (b : List ℕ) (t : Ty) (v : Val) → decode b t ≡ Some v → Lays b t v
 decode-lays b t v e = (subst (IsReadOf b t) e (decoding-is-reading b t)).0

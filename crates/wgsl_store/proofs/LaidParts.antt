@@ -7,21 +7,20 @@ use Rattle.wgsl_rules.specs.Paths.{put_viewed, viewed}
 use Rattle.wgsl_rules.specs.Refusals.{Outcome}
 use Rattle.wgsl_rules.specs.Types.{Ty}
 use Rattle.wgsl_rules.specs.Values.{Reference, Step, Val, type_of}
-use Rattle.wgsl_rules.specs.View.{type_view}
 use Rattle.wgsl_store.specs.Buffers.{buffer, decode, decoded}
 use Rattle.wgsl_store.specs.Cells.{LeadsIn}
 use Rattle.wgsl_store.specs.Fitting.{FitsAt}
-use Rattle.wgsl_store.specs.FlatCells.{Holds, IsPartAt, flat_value}
+use Rattle.wgsl_store.specs.FlatCells.{Holds, IsPartAt, flat_value, owned_type}
 use Rattle.wgsl_store.specs.LaidOut.{CameTo}
 use Rattle.wgsl_store.specs.Located.{IsLocated, part_range, shape_plan, shape_ty}
-use Rattle.wgsl_store.specs.Plan.{Plan, plan_of, plan_view}
-use Rattle.wgsl_store.specs.Ranges.{further, view_range}
+use Rattle.wgsl_store.specs.Plan.{Plan, plan_of}
+use Rattle.wgsl_store.specs.Ranges.{view_range}
 use Rattle.wgsl_store.specs.Walk.{put}
 use Rattle.wgsl_store.specs.declared.flat.FlatCell.TheInside.{Inside}
 use Rattle.wgsl_store.specs.declared.in_place.BytesWrite.TheVariants as bytes_write
 use Rattle.wgsl_store.specs.declared.located.Located.{Located}
-use Rattle.wgsl_store.proofs.Copies.{HasBytes, bytes-long, has-bytes, part-is}
-use Rattle.wgsl_store.proofs.FlatPuts.{at-part, held-value, holds-own, laid-at, place-told, put-holds}
+use Rattle.wgsl_store.proofs.Copies.{HasBytes, has-bytes}
+use Rattle.wgsl_store.proofs.FlatPuts.{at-part, held-value, holds-own, laid-at, part-is, place-told, put-holds}
 use Rattle.wgsl_store.proofs.LaidOut.{decode-told, told-count}
 use Rattle.wgsl_store.proofs.Reading.{counted-there}
 use Rattle.wgsl_store.proofs.lemmas.Decoded.{decoded-lays}
@@ -32,33 +31,23 @@ use Rattle.wgsl_store.proofs.lemmas.Written.{whole-written}
 -- ---- a whole cell
 
 -- a cell of zeros into which the numbers are put
-own-holds : (c : Inside) (b zeros : List ℕ) (len : ℕ) → has_layout (type_view c.ty) ≡ true → plan_view c.plan ≡ plan_of (type_view c.ty) → count_in (length b) (type_view c.ty) ≡ Some c.count
-    → len ≡ layout_len c.count (type_view c.ty) → zeros ≡ replicate len 0 → c.bytes.items ≡ put (decoded b 0 (layout c.count (type_view c.ty))) (plan_view c.plan) 0 zeros → Holds c (decoded b 0 (layout c.count (type_view c.ty)))
-own-holds c b zeros len h planned e long zero is =
-    let t = type_view c.ty in
+pub whole-holds : (c : Inside) (b zeros : List ℕ) (len : ℕ) → has_layout (owned_type c.owner) ≡ true → count_in (length b) (owned_type c.owner) ≡ Some c.count → len ≡ layout_len c.count (owned_type c.owner)
+    → zeros ≡ replicate len 0 → c.bytes.items ≡ put (decoded b 0 (layout c.count (owned_type c.owner))) (plan_of (owned_type c.owner)) 0 zeros → Holds c (decoded b 0 (layout c.count (owned_type c.owner)))
+whole-holds c b zeros len h e long zero is =
+    let t = owned_type c.owner in
     let v = decoded b 0 (layout c.count t) in
     let lays = decoded-lays b t c.count h e in
     let counted = told-count b t c.count h e in
     let own : has_layout (type_of v) ≡ true = ap has_layout lays.typed ∙ h in
     let same : layout c.count t ≡ layout_of v = ap (λ (n : ℕ). layout n t) counted ∙ ap (layout (runtime_count v)) (sym lays.typed) in
-    let plan : plan_view c.plan ≡ plan_of (type_of v) = planned ∙ ap plan_of (sym lays.typed) in
+    let plan : plan_of t ≡ plan_of (type_of v) = ap plan_of (sym lays.typed) in
     record {
       typed = lays.typed;
       laid = h;
-      planned = planned;
       counted = counted;
       storable = lays.storable;
       bytes = whole-written v len zeros c.bytes.items lays.storable own (long ∙ sym (tidy t c.count h).1 ∙ ap length_in same) zero (is ∙ ap (λ (p : Plan). put v p 0 zeros) plan);
     }
-
--- and of a type that is that of the cell
-pub whole-holds : (c : Inside) (t : Ty) (b zeros : List ℕ) (len : ℕ) → type_view c.ty ≡ t → has_layout t ≡ true → plan_view c.plan ≡ plan_of t → count_in (length b) t ≡ Some c.count → len ≡ layout_len c.count t
-    → zeros ≡ replicate len 0 → c.bytes.items ≡ put (decoded b 0 (layout c.count t)) (plan_view c.plan) 0 zeros → Holds c (decoded b 0 (layout c.count t))
-whole-holds c t b zeros len typed =
-    let P : Ty → Type 0 = λ u.
-    has_layout u ≡ true → plan_view c.plan ≡ plan_of u → count_in (length b) u ≡ Some c.count → len ≡ layout_len c.count u → zeros ≡ replicate len 0
-    → c.bytes.items ≡ put (decoded b 0 (layout c.count u)) (plan_view c.plan) 0 zeros → Holds c (decoded b 0 (layout c.count u)) in
-    subst P typed (own-holds c b zeros len)
 
 -- bytes are no fewer than those of what they lay out
 pub laid-length : (t : Ty) (len n : ℕ) → has_layout t ≡ true → count_in len t ≡ Some n → layout_len n t ≤ len
@@ -86,13 +75,12 @@ target v r l h p leads =
     let own = subst (λ (o : Outcome Val). IsOkAnd o (λ x. type_of x ≡ r.ty)) there leads in
     record { held = h; part = p; typed = sym (laid-at v l p.there).typed ∙ own }
 
--- that is located from the start of the whole
-pub target-at : (c : Inside) (r : Reference) (l : Located) (n : ℕ) (steps : List Step) → Holds c (flat_value c) → IsLocated l → l.len ≡ n → n ≡ vec_len c.bytes → steps ≡ r.view
-    → Some (part_range l) ≡ option_map (further 0) (view_range steps (layout c.count (type_view c.ty))) → LeadsIn (flat_value c) r → IsTarget (flat_value c) r l
-target-at c r l n steps h there len long along range leads =
+-- that is located in a cell
+pub target-at : (c : Inside) (r : Reference) (l : Located) (n : ℕ) (steps : List Step) → Holds c (flat_value c) → n ≡ vec_len c.bytes → IsLocated l → l.len ≡ n → steps ≡ r.view
+    → view_range steps (layout c.count (owned_type c.owner)) ≡ Some (part_range l) → LeadsIn (flat_value c) r → IsTarget (flat_value c) r l
+target-at c r l n steps h long there len along found leads =
     let v = flat_value c in
-    target v r l (has-bytes c v h)
-    (part-is c v r.view l n h there len (bytes-long c v n h long) (range ∙ ap (λ (ss : List Step). option_map (further 0) (view_range ss (layout c.count (type_view c.ty)))) along)) leads
+    target v r l (has-bytes c v h) (part-is c v r.view l n h long there len (ap (λ (ss : List Step). view_range ss (layout c.count (owned_type c.owner))) (sym along) ∙ found)) leads
 
 -- the value that bytes lay out in the type of the part
 abbrev pub laid_in : List ℕ → Located → ℕ → Val
@@ -152,9 +140,9 @@ pub record IsWrittenCell (after : Inside) (v : Val) (r : Reference) (laid : Opti
   pub came : CameTo bytes_write.Done true (can_write r.access) (viewed r.view v) (λ w. put_viewed r.view w v) v (flat_value after) laid
 
 pub done : (c : Inside) (bytes : Vec ℕ Global) (v : Val) (r : Reference) (l : Located) (b : List ℕ) (n : ℕ) → Holds c v → IsTarget v r l → count_in (length b) (shape_ty l.shape) ≡ Some n → can_write r.access ≡ true → (n ≡ 0) ⊎ (n ≡ l.count)
-    → bytes.items ≡ put (decoded b 0 (part_range l).layout) (shape_plan l.shape) l.start (buffer v) → IsWrittenCell (record { ty = c.ty; plan = c.plan; count = c.count; bytes = bytes }) v r (decode b r.ty)
+    → bytes.items ≡ put (decoded b 0 (part_range l).layout) (shape_plan l.shape) l.start (buffer v) → IsWrittenCell (record { owner = c.owner; count = c.count; bytes = bytes }) v r (decode b r.ty)
 done c bytes v r l b n holds h e may k is =
-    let after : Inside = record { ty = c.ty; plan = c.plan; count = c.count; bytes = bytes } in
+    let after : Inside = record { owner = c.owner; count = c.count; bytes = bytes } in
     let w = laid_in b l n in
     let alike = target-alike v r l b n h e k in
     let lays = decoded-lays b (shape_ty l.shape) n h.part.there.laid e in

@@ -212,13 +212,12 @@ number-stands-in v w from l at s h lit sw part n =
 -- the cell with these bytes holds the value after the put
 pub number-holds : (c : Inside) (bytes : Vec ℕ Global) (v w x : Val) (from : List Step) (path : List ℕ) (l : Located) (at : ℕ) → Holds c v → IsLiteral w → IsStorable w → IsPartAt v from l
     → viewed from v ≡ Ok x → IsNumberAt x path at w → bytes.items ≡ put w scalar (l.start + at) (buffer v)
-    → Holds (record { ty = c.ty; plan = c.plan; count = c.count; bytes = bytes }) (put_viewed from (number_put path w x) v)
+    → Holds (record { owner = c.owner; count = c.count; bytes = bytes }) (put_viewed from (number_put path w x) v)
 number-holds c bytes v w x from path l at h lit sw part e n is =
     let after = (number-put-in v w x from path (part_range l) at h.storable (ap has_layout h.typed ∙ h.laid) lit sw e part.found n).put_there in
     record {
       typed = after.typed ∙ h.typed;
       laid = h.laid;
-      planned = h.planned;
       counted = h.counted ∙ sym after.counted;
       storable = after.storable;
       bytes = is ∙ after.its_bytes;

@@ -1,28 +1,34 @@
 -- Cells that hold their values as bytes, and parts of them (WGSL: memory locations; internal layout of values).
 use Rattle.std.specs.Prelude.{◌≡◌, List, Some, length}
+use Rattle.std.specs.Arc.{arc_value}
 use Rattle.wgsl_rules.specs.Layout.{HasLayout, layout, layout_of, runtime_count}
 use Rattle.wgsl_rules.specs.Values.{Step, Val, type_of, IsStorable}
-use Rattle.wgsl_rules.specs.View.{type_view}
+use Rattle.wgsl_rules.specs.Types.{Ty}
 use Rattle.wgsl_store.specs.Buffers.{buffer, decoded}
 use Rattle.wgsl_store.specs.Located.{IsLocated, part_range, shape_ty}
-use Rattle.wgsl_store.specs.Plan.{plan_of, plan_view}
 use Rattle.wgsl_store.specs.Ranges.{view_range}
 use Rattle.wgsl_store.specs.declared.flat.FlatCell.TheInside.{Inside}
+use Rattle.wgsl_store.specs.declared.flat.Owner.{Owner}
+use Rattle.wgsl_store.specs.declared.flat.Owner.TheVariants as owners
 use Rattle.wgsl_store.specs.declared.flat.FlatPart.{FlatPart}
 use Rattle.wgsl_store.specs.declared.located.Located.{Located}
 
 -- ---- cells
 
+-- the type of which a cell has the layout, alone or with others
+abbrev pub owned_type : Owner → Ty
+owned_type (owners.Own l) = l
+owned_type (owners.Shared l) = arc_value l
+
 -- the value that the bytes lay out
 abbrev pub flat_value : Inside → Val
-flat_value c = decoded c.bytes.items 0 (layout c.count (type_view c.ty))
+flat_value c = decoded c.bytes.items 0 (layout c.count (owned_type c.owner))
 
--- the cell holds the value, which may be stored: as its buffer, with its type, the plan of the type and the count of
--- its elements
+-- the cell holds the value, which may be stored: as its buffer, with the layout of its type and the count of its
+-- elements
 pub record Holds (c : Inside) (v : Val) : Type 0 where
-  pub typed : type_of v ≡ type_view c.ty
-  pub laid : HasLayout (type_view c.ty)
-  pub planned : plan_view c.plan ≡ plan_of (type_view c.ty)
+  pub typed : type_of v ≡ owned_type c.owner
+  pub laid : HasLayout (owned_type c.owner)
   pub counted : c.count ≡ runtime_count v
   pub storable : IsStorable v
   pub bytes : c.bytes.items ≡ buffer v

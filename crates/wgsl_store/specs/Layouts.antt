@@ -1,7 +1,7 @@
 -- What a layout tells of bytes that hold a value of its type: where the part stands that a view leads to, and what a
 -- write in its place makes of the bytes (WGSL: internal layout of values; memory views).
-use Rattle.std.specs.Prelude.{ℕ, ◌+◌, List, length, Option, Some, None, Ok, Err, Result, ◌==◌, if◌then◌else◌}
-use Rattle.wgsl_rules.specs.Layout.{HasLayout, count_in, layout, layout_of, length_in, type_in}
+use Rattle.std.specs.Prelude.{◌≡◌, ◌≤◌, false, ℕ, ◌+◌, List, length, Option, Some, None, Ok, Err, Result, ◌==◌, if◌then◌else◌}
+use Rattle.wgsl_rules.specs.Layout.{HasLayout, count_in, has_fixed_layout, layout, layout_of, length_in, type_in}
 use Rattle.wgsl_rules.specs.Same.{same}
 use Rattle.wgsl_rules.specs.Types.{Ty}
 use Rattle.wgsl_rules.specs.Values.{Step, Val, type_of}
@@ -22,6 +22,14 @@ type_inside l = type_view l.ty
 pub record IsLayout (l : Inside) : Type 0 where
   pub laid : HasLayout (type_view l.ty)
   pub planned : IsPlanOf (type_view l.ty) l.of_type
+
+-- ---- room
+
+-- a value of the type, with n elements in the runtime-sized array that the type is or ends in, finds room in so many
+-- bytes
+pub record HasRoom (n : ℕ) (t : Ty) (len : ℕ) : Type 0 where
+  pub counted : has_fixed_layout t ≡ false → 1 ≤ n
+  pub inside : length_in (layout n t) ≤ len
 
 -- ---- answers
 

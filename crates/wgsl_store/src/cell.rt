@@ -44,10 +44,12 @@ ghost use Rattle.wgsl_values.specs.View.{reference_of, steps_of, value_of};
 
 use crate::flat::{FlatCell, FlatPart};
 use crate::in_place::{BytesWrite, InPlace};
+use crate::layout::Layout;
 use crate::parts::{
     atomic_number, element_count, fits_place, indexed, member, no_part, part_viewed, with_number,
 };
 use std::alloc::{AllocError, Global};
+use std::sync::Arc;
 use wgsl_rules::{Convert, Ty, Type};
 use wgsl_scalar::{Error, LiteralInstance};
 use wgsl_values::{Instance, MemView, RefInstance};
@@ -84,16 +86,18 @@ impl Cell {
         }
     }
 
-    /// A cell that holds the value of the type that the bytes lay out, as bytes; `None` where they lay out none.
+    /// A cell that holds the value of the type that the bytes lay out, as bytes; `None` where they lay out none. The
+    /// layout is shared where it is that of the type.
     pub(crate) fn of_bytes(
         alloc: Global,
         ty: &Type,
+        layout: Option<&Arc<Layout>>,
         bytes: &[u8],
     ) -> Result<Option<Cell>, AllocError>
         ensures value { IfOk result (λ o. option_map cell_value o ≡ decode bytes.now (type_view ty.now)) }
         ensures cell { IfOk result (λ o. IfSome o IsCell) }
     {
-        let Some(cell) = FlatCell::of_bytes(alloc, ty, bytes)? else {
+        let Some(cell) = FlatCell::of_bytes(alloc, ty, layout, bytes)? else {
             return Ok(None);
         };
         Ok(Some(Cell::Flat(cell)))

@@ -1,20 +1,26 @@
 //! Cells that hold their values as bytes (WGSL: memory locations; internal layout of values).
 
-ghost use Rattle.std.specs.Prelude.{◌≡◌};
+ghost use Rattle.std.specs.Prelude.{◌≡◌, IfSome, IsSome, Some};
 ghost use Rattle.wgsl_rules.specs.Access.{can_write};
+ghost use Rattle.wgsl_rules.specs.Layout.{layout};
 ghost use Rattle.wgsl_rules.specs.Values.{IsStorable};
+ghost use Rattle.wgsl_rules.specs.View.{type_view};
 ghost use Rattle.wgsl_scalar.specs.Literals.{literal_of};
-ghost use Rattle.wgsl_values.specs.View.{reference_of};
+ghost use Rattle.wgsl_store.specs.FlatCells.{owned_type};
+ghost use Rattle.wgsl_store.specs.Layouts.{HasRoom};
+ghost use Rattle.wgsl_store.specs.Located.{IsLocated, part_range};
+ghost use Rattle.wgsl_store.specs.Ranges.{view_range};
+ghost use Rattle.wgsl_values.specs.View.{reference_of, steps_of};
 
-use crate::copier::copy_numbers;
 use crate::in_place::{BytesWrite, InPlace};
+use crate::layout::Layout;
 use crate::located::Located;
 use crate::make::TypePlan;
-use crate::plan::Plan;
 use crate::reader::read_literal;
-use crate::writer::{runtime_count, write_literal, write_whole};
+use crate::writer::{runtime_count, write_literal};
 use std::alloc::{AllocError, Global};
 use std::marker::Model;
+use std::sync::Arc;
 use wgsl_rules::{Ty, Type};
 use wgsl_scalar::{Error, LiteralInstance};
 use wgsl_values::{Instance, MemView, RefInstance};
@@ -23,10 +29,18 @@ use wgsl_values::{Instance, MemView, RefInstance};
 /// the value.
 #[derive(Drop)]
 pub(crate) struct FlatCell {
-    ty: Type,
-    plan: Plan,
+    owner: Owner,
     count: usize,
     bytes: Vec<u8>,
+}
+
+/// Who has the layout of a cell.
+#[derive(Drop)]
+pub(crate) enum Owner {
+    /// The cell alone.
+    Own(Layout),
+    /// All that share it.
+    Shared(Arc<Layout>),
 }
 
 impl Model for FlatCell {
@@ -80,7 +94,7 @@ impl FlatCell {
     ghost use Rattle.wgsl_store.specs.Cells.{LeadsIn};
     ghost use Rattle.wgsl_store.specs.Copies.{IsCopied};
     ghost use Rattle.wgsl_store.specs.Fitting.{FitsAt};
-    ghost use Rattle.wgsl_store.specs.FlatCells.{IsFlatPart, IsPartAt, part_value};
+    ghost use Rattle.wgsl_store.specs.FlatCells.{IsFlatPart, IsPartAt, owned_type, part_value};
     ghost use Rattle.wgsl_store.specs.LaidOut.{CameTo};
     ghost use Rattle.wgsl_store.specs.NumbersIn.{HasNumberAt, IsNumberAt, number_put};
     ghost use Rattle.wgsl_values.specs.View.{reference_of, value_of, steps_of};
@@ -95,41 +109,57 @@ impl FlatCell {
         if !of_type.has_layout {
             return Ok(None);
         }
-        let bytes = write_whole(alloc, value, &of_type)?;
+        let layout = Layout::from_plan(ty, of_type);
+        let bytes = layout.write_whole(alloc, value)?;
         Ok(Some(FlatCell {
-            ty,
-            plan: of_type.plan,
+            owner: Owner::Own(layout),
             count: runtime_count(value),
             bytes,
         }))
     }
 
     /// The bytes of the value of the type that the bytes lay out, of which the numbers are copied; `None` where they
-    /// lay out none.
+    /// lay out none. The layout is shared where it is that of the type; else the cell has one of its own.
     pub(crate) fn of_bytes(
         alloc: Global,
         ty: &Type,
+        layout: Option<&Arc<Layout>>,
         bytes: &[u8],
     ) -> Result<Option<FlatCell>, AllocError>
         ensures { IfOk result (λ o. o ≡ decode bytes.now (type_view ty.now)) }
     {
+        if let Some(owner) = sharing(ty, layout) {
+            return FlatCell::of_layout(alloc, owner, bytes);
+        }
         let of_type = TypePlan::of_type(alloc, ty)?;
         if !of_type.has_layout {
             return Ok(None);
         }
-        let Some(count) = of_type.count_in(bytes.len()) else {
+        if of_type.count_in(bytes.len()).is_none() {
+            return Ok(None);
+        }
+        let own_ty = ty.clone(alloc)?;
+        let layout = Layout::from_plan(own_ty, of_type);
+        FlatCell::of_layout(alloc, Owner::Own(layout), bytes)
+    }
+
+    // As `FlatCell::of_bytes`, of the type of the layout, which the cell has.
+    fn of_layout(alloc: Global, owner: Owner, bytes: &[u8]) -> Result<Option<FlatCell>, AllocError>
+        ensures { IfOk result (λ o. o ≡ decode bytes.now (owned_type owner)) }
+    {
+        let layout = owner.layout();
+        layout.attest();
+        let Some(count) = layout.count_in(bytes.len()) else {
             return Ok(None);
         };
         // They are no more than the bytes, which are counted.
-        let Some(len) = of_type.length(count) else {
+        let Some(len) = layout.size_with(count) else {
             unreachable!()
         };
-        let own_ty = ty.clone(alloc)?;
         let mut out = vec![in alloc; 0u8; len]?;
-        copy_numbers(out.as_mut_slice(), 0, bytes, 0, count, ty, &of_type.plan);
+        layout.copy_whole(out.as_mut_slice(), bytes, count);
         Ok(Some(FlatCell {
-            ty: own_ty,
-            plan: of_type.plan,
+            owner,
             count,
             bytes: out,
         }))
@@ -142,7 +172,7 @@ impl FlatCell {
     {
         FlatPart {
             bytes: self.bytes.as_slice(),
-            located: Located::of_whole(&self.ty, &self.plan, self.count, self.bytes.len()),
+            located: self.owner.layout().whole(self.count, self.bytes.len()),
         }
     }
 
@@ -172,11 +202,7 @@ impl FlatCell {
         ensures laid { has_layout (type_of self.now) ≡ true }
         ensures storable { IsStorable self.now }
     {
-        let whole = Located::of_whole(&self.ty, &self.plan, self.count, self.bytes.len());
-        match whole.viewed(view) {
-            Some(part) => part,
-            None => unreachable!(),
-        }
+        part_of(&self.owner, self.count, self.bytes.len(), view)
     }
 
     /// Puts the value in the place of the part that the view leads to, where it fits there, and says whether
@@ -188,10 +214,7 @@ impl FlatCell {
         ensures put { OnTrue result (self.new ≡ put_viewed (steps_of view.now) (value_of value.now) self.old) }
         ensures same { OnFalse result (self.new ≡ self.old) }
     {
-        let whole = Located::of_whole(&self.ty, &self.plan, self.count, self.bytes.len());
-        let Some(part) = whole.viewed(view) else {
-            unreachable!()
-        };
+        let part = part_of(&self.owner, self.count, self.bytes.len(), view);
         if !part.fits(value) {
             return false;
         }
@@ -207,10 +230,7 @@ impl FlatCell {
         ensures put { let r = reference_of reference.now in CameTo result true (can_write r.access) (viewed r.view self.old) (λ w. put_viewed r.view w self.old) self.old self.new (decode bytes.now r.ty) }
         ensures laid { has_layout (type_of self.old) ≡ true }
     {
-        let whole = Located::of_whole(&self.ty, &self.plan, self.count, self.bytes.len());
-        let Some(part) = whole.viewed(reference.view()) else {
-            unreachable!()
-        };
+        let part = part_of(&self.owner, self.count, self.bytes.len(), reference.view());
         let Some(count) = part.count_in(bytes.len()) else {
             return BytesWrite::NoValue;
         };
@@ -233,13 +253,8 @@ impl FlatCell {
         ensures copied { IsOkAnd (viewed (steps_of from.now) self.old) (IsCopied result true self.old self.new (steps_of to.now)) }
         ensures laid { has_layout (type_of self.old) ≡ true }
     {
-        let whole = Located::of_whole(&self.ty, &self.plan, self.count, self.bytes.len());
-        let Some(source) = whole.viewed(from) else {
-            unreachable!()
-        };
-        let Some(target) = whole.viewed(to) else {
-            unreachable!()
-        };
+        let source = part_of(&self.owner, self.count, self.bytes.len(), from);
+        let target = part_of(&self.owner, self.count, self.bytes.len(), to);
         if !target.is_like(source) {
             return InPlace::Misfit;
         }
@@ -258,10 +273,7 @@ impl FlatCell {
         ensures other { has_layout (type_of other.now) ≡ true }
     {
         let source = other.part_at(from);
-        let whole = Located::of_whole(&self.ty, &self.plan, self.count, self.bytes.len());
-        let Some(target) = whole.viewed(to) else {
-            unreachable!()
-        };
+        let target = part_of(&self.owner, self.count, self.bytes.len(), to);
         if !target.is_like(source) {
             return InPlace::Misfit;
         }
@@ -277,10 +289,7 @@ impl FlatCell {
         requires storable { IsStorable (atomic_of (literal_of number)) }
         ensures { self.new ≡ put_viewed (steps_of view.now) (atomic_of (literal_of number)) self.old }
     {
-        let whole = Located::of_whole(&self.ty, &self.plan, self.count, self.bytes.len());
-        let Some(part) = whole.viewed(view) else {
-            unreachable!()
-        };
+        let part = part_of(&self.owner, self.count, self.bytes.len(), view);
         part.write_atomic_number(self.bytes.as_mut_slice(), number);
     }
 
@@ -295,6 +304,50 @@ impl FlatCell {
         attest(number);
         let start = self.part_at(view).start;
         write_literal(self.bytes.as_mut_slice(), start + at, number);
+    }
+}
+
+impl Owner {
+    ghost use Rattle.std.specs.Prelude.{◌≡◌};
+    ghost use Rattle.wgsl_store.specs.FlatCells.{owned_type};
+
+    /// The layout.
+    fn layout(&self) -> &Layout
+        ensures { result.now ≡ owned_type self.now }
+    {
+        match self {
+            Owner::Own(layout) => layout,
+            Owner::Shared(layout) => layout,
+        }
+    }
+}
+
+// The layout for one more that shares it, where it is that of the type and its owners can be counted.
+fn sharing(ty: &Type, layout: Option<&Arc<Layout>>) -> Option<Owner>
+    ensures { IfSome result (λ o. owned_type o ≡ type_view ty.now) }
+{
+    let layout = layout?;
+    if *layout.ty() == *ty {
+        return match Arc::try_clone(layout) {
+            Ok(layout) => Some(Owner::Shared(layout)),
+            Err(_) => None,
+        };
+    }
+    None
+}
+
+// Where the part stands that the view leads to, in so many bytes of a value with so many elements. The condition: the
+// view leads to a part.
+fn part_of<'a>(owner: &'a Owner, count: usize, len: usize, view: &MemView) -> Located<'a>
+    requires room { HasRoom count (owned_type owner.now) len }
+    requires there { IsSome (view_range (steps_of view.now) (layout count (owned_type owner.now))) }
+    ensures there { IsLocated result }
+    ensures found { view_range (steps_of view.now) (layout count (owned_type owner.now)) ≡ Some (part_range result) }
+    ensures whole { result.len ≡ len }
+{
+    match owner.layout().viewed(count, len, view) {
+        Some(part) => part,
+        None => unreachable!(),
     }
 }
 

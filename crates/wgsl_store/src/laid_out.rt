@@ -1,10 +1,12 @@
 //! Cells and writes of the values that bytes lay out (WGSL: internal layout of values; assignment statement).
 
 use crate::in_place::BytesWrite;
+use crate::layout::Layout;
 use crate::reader::read_buffer;
 use crate::references::{References, misfit_of_part};
 use crate::store::Store;
 use std::alloc::{AllocError, Global};
+use std::sync::Arc;
 use wgsl_rules::{AccessMode, AddressSpace, Type};
 use wgsl_scalar::Error;
 use wgsl_values::{MemView, RefInstance};
@@ -38,8 +40,29 @@ impl Store {
         ensures own_kept { IfOk result (λ o. IfSome o (λ r. IsKept self.new (reference_of r))) }
         ensures kept { (r : Reference) → IsKept self.old r → IsKept self.new r }
     {
+        self.new_sharing(alloc, ty, None, bytes, space, access)
+    }
+
+    /// As [`Store::new_from_bytes`]; where the layout is that of the type, the cell shares it with all that have it, and
+    /// takes no memory for one of its own. Any other layout is passed over.
+    /// It calls itself for each level of the type: keep to 4,095 within a stack of 8 MiB.
+    pub fn new_sharing(
+        &mut self,
+        alloc: Global,
+        ty: Type,
+        layout: Option<&Arc<Layout>>,
+        bytes: &[u8],
+        space: AddressSpace,
+        access: AccessMode,
+    ) -> Result<Option<RefInstance>, AllocError>
+        ensures made { IfOk result (λ o. IsNewOf (decode bytes.now (type_view ty)) space access self.old self.new (option_map reference_of o)) }
+        ensures err { OnErr result (self.new ≡ self.old) }
+        ensures sound { IsSound self.new }
+        ensures own_kept { IfOk result (λ o. IfSome o (λ r. IsKept self.new (reference_of r))) }
+        ensures kept { (r : Reference) → IsKept self.old r → IsKept self.new r }
+    {
         let cell = self.len();
-        if !self.add_bytes(alloc, &ty, bytes)? {
+        if !self.add_bytes(alloc, &ty, layout, bytes)? {
             return Ok(None);
         }
         Ok(Some(RefInstance::from_parts(cell, MemView::Whole, ty, space, access)))

@@ -10,6 +10,7 @@ ghost use Rattle.std.specs.Prelude.{
   IfOk,
   MatchOption,
   OnErr,
+  IfSome,
   false,
   length,
   option_and_then,
@@ -32,8 +33,10 @@ ghost use Rattle.wgsl_store.specs.Buffers.{decode};
 ghost use Rattle.wgsl_store.specs.Ranges.{bytes_in};
 ghost use Rattle.wgsl_values.specs.View.{steps_of, value_of};
 
+use crate::copier::copy_numbers;
 use crate::located::Located;
 use crate::make::TypePlan;
+use crate::writer::write_whole;
 use std::alloc::{AllocError, Global};
 use std::fmt;
 use std::marker::Model;
@@ -86,7 +89,15 @@ impl Layout {
       span_of,
       written,
     };
+    ghost use Rattle.wgsl_rules.specs.Layout.{layout};
+    ghost use Rattle.wgsl_rules.specs.Values.{type_of};
+    ghost use Rattle.wgsl_store.specs.Buffers.{buffer, decoded};
+    ghost use Rattle.wgsl_store.specs.Layouts.{HasRoom};
     ghost use Rattle.wgsl_store.specs.Located.{IsLocated, part_range};
+    ghost use Rattle.wgsl_store.specs.Plan.{plan_of};
+    ghost use Rattle.wgsl_store.specs.Ranges.{view_range};
+    ghost use Rattle.wgsl_store.specs.TypePlan.{IsPlanOf};
+    ghost use Rattle.wgsl_store.specs.Walk.{put};
 
     /// The layout of the type; `None` exactly where the type has none ([`Type::has_layout`]).
     /// It calls itself for each level of the type: keep to 4,095 within a stack of 8 MiB.
@@ -99,6 +110,15 @@ impl Layout {
         }
         let ty = ty.clone(alloc)?;
         Ok(Some(Layout { ty, of_type }))
+    }
+
+    /// The layout of the type, of which this is the plan. The condition: the type has a layout.
+    pub(crate) fn from_plan(ty: Type, of_type: TypePlan) -> Layout
+        requires laid { HasLayout (type_view ty) }
+        requires planned { IsPlanOf (type_view ty) of_type }
+        ensures { result ≡ type_view ty }
+    {
+        Layout { ty, of_type }
     }
 
     /// A copy of the layout, in memory of its own.
@@ -222,21 +242,66 @@ impl Layout {
         Ok(())
     }
 
+    /// Does nothing: its contract says what holds of every layout.
+    pub(crate) fn attest(&self)
+        ensures { HasLayout self.now }
+    {
+        let _ = &self.ty;
+    }
+
     // Where the part stands that the view leads to, in so many bytes.
     fn part(&self, len: usize, view: &MemView) -> Result<Located<'_>, LayoutRefusal>
         ensures range { answer_map part_range result ≡ part_in len (steps_of view.now) self.now }
         ensures there { IfOk result (λ p. IsLocated p × (p.len ≡ len)) }
         ensures laid { HasLayout self.now }
     {
-        let ty = &self.ty;
+        self.attest();
         let Some(count) = self.count_in(len) else {
             return Err(LayoutRefusal::TooFewBytes);
         };
-        let whole = Located::of_whole(ty, &self.of_type.plan, count, len);
-        match whole.viewed(view) {
+        match self.viewed(count, len, view) {
             Some(part) => Ok(part),
             None => Err(LayoutRefusal::NoPart),
         }
+    }
+
+    /// The whole of a value with so many elements in the runtime-sized array that the type is or ends in, in so many
+    /// bytes, in which it finds room.
+    pub(crate) fn whole(&self, count: usize, len: usize) -> Located<'_>
+        requires { HasRoom count self.now len }
+        ensures range { part_range result ≡ record { start = 0; layout = layout count self.now } }
+        ensures there { IsLocated result }
+        ensures len { result.len ≡ len }
+    {
+        Located::of_whole(&self.ty, &self.of_type.plan, count, len)
+    }
+
+    /// The part that the view leads to in such a whole; `None` where it leads nowhere.
+    pub(crate) fn viewed(&self, count: usize, len: usize, view: &MemView) -> Option<Located<'_>>
+        requires { HasRoom count self.now len }
+        ensures range { option_map part_range result ≡ view_range (steps_of view.now) (layout count self.now) }
+        ensures there { IfSome result (λ p. IsLocated p × (p.len ≡ len)) }
+    {
+        self.whole(count, len).viewed(view)
+    }
+
+    /// The bytes of the value, which is of the type. The condition: it may be stored.
+    pub(crate) fn write_whole(&self, alloc: Global, value: &Instance) -> Result<Vec<u8>, AllocError>
+        requires storable { IsStorable (value_of value.now) }
+        requires typed { type_of (value_of value.now) ≡ self.now }
+        ensures { IfOk result (λ b. b.items ≡ buffer (value_of value.now)) }
+    {
+        write_whole(alloc, value, &self.of_type)
+    }
+
+    /// Copies the numbers of the value that the bytes lay out, with so many elements, as [`Layout::count_in`] tells, to
+    /// where they stand in the others, which are as many as the value takes.
+    pub(crate) fn copy_whole(&self, out: &mut [u8], bytes: &[u8], count: usize)
+        requires from { HasRoom count self.now (length bytes.now) }
+        requires to { HasRoom count self.now (length out.old) }
+        ensures { out.new ≡ put (decoded bytes.now 0 (layout count self.now)) (plan_of self.now) 0 out.old }
+    {
+        copy_numbers(out, 0, bytes, 0, count, &self.ty, &self.of_type.plan);
     }
 }
 

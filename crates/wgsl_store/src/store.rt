@@ -3,9 +3,11 @@
 use crate::cell::{Cell, Part};
 use crate::flat::attest;
 use crate::in_place::{BytesWrite, InPlace};
+use crate::layout::Layout;
 use crate::parts::{part, part_count};
 use std::alloc::{AllocError, Global};
 use std::marker::Model;
+use std::sync::Arc;
 use wgsl_rules::Type;
 use wgsl_scalar::{Error, LiteralInstance};
 use wgsl_values::{Instance, RefInstance};
@@ -324,12 +326,13 @@ impl Store {
     }
 
     /// Makes a last cell of bytes that holds the value of the type that the bytes lay out, and says whether they lay
-    /// out one; where they lay out none, nothing is changed. The condition: the store is sound, as [`Store::len`] tells of
-    /// each.
+    /// out one; where they lay out none, nothing is changed. The layout is shared where it is that of the type. The
+    /// condition: the store is sound, as [`Store::len`] tells of each.
     pub(crate) fn add_bytes(
         &mut self,
         alloc: Global,
         ty: &Type,
+        layout: Option<&Arc<Layout>>,
         bytes: &[u8],
     ) -> Result<bool, AllocError>
         requires { IsSound self.old }
@@ -338,7 +341,7 @@ impl Store {
         ensures sound { IsSound self.new }
         ensures kept { (r : Reference) → IsKept self.old r → IsKept self.new r }
     {
-        let Some(cell) = Cell::of_bytes(alloc, ty, bytes)? else {
+        let Some(cell) = Cell::of_bytes(alloc, ty, layout, bytes)? else {
             return Ok(false);
         };
         self.cells.push(cell)?;

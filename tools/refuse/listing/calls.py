@@ -5,8 +5,9 @@ from typing import NamedTuple, Optional
 
 from listing.text import bracketed, documented, functions, has_body, without_comments
 
-# What the docs of a call say that takes no memory. The first is that of new docs: "It takes no memory."
-TAKES_NONE = re.compile(r"\btakes no memory\b|\bno memory is taken\b|\bwithout the memory that\b", re.IGNORECASE)
+# What the docs of a call say that takes no memory. The first is that of new docs: "It takes no memory." One that takes no
+# memory for something takes some for all else.
+TAKES_NONE = re.compile(r"\btakes no memory\b(?! for )|\bno memory is taken\b|\bwithout the memory that\b", re.IGNORECASE)
 
 # The same of one type alone, in the docs of a trait's call.
 OF_ONE_TYPE = {"a vector takes none": "VecInstance"}

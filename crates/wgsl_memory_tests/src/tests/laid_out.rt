@@ -8,13 +8,14 @@ use crate::tests::lent::assert_lends;
 use crate::tests::{calls, sessions};
 use std::alloc::Global;
 use std::process::Abort;
+use std::sync::Arc;
 use wgsl_rules::AccessMode::{Read, ReadWrite};
 use wgsl_rules::AddressSpace::Storage;
 use wgsl_rules::{AccessMode, Type};
 use wgsl_samples::types;
 use wgsl_scalar::Error;
 use wgsl_session::{Fault, Reply, Session};
-use wgsl_store::Store;
+use wgsl_store::{Layout, Store};
 use wgsl_values::RefInstance;
 
 /// The words of Pair(1u, vec3(2u, 3u, 4u)), with a 9 in each word of padding.
@@ -57,6 +58,68 @@ fn a_cell_is_made_of_the_bytes_of_a_value(rt: HostRuntime) {
     assert_none(&rt, truth);
     assert_eq!(rt; store.len(), 2);
     drop((store, whole, three));
+}
+
+/// The layout of the type, to be shared.
+fn shared(rt: &impl Abort, alloc: Global, ty: Type) -> Arc<Layout> {
+    let layout = Layout::of(alloc, &ty).expect(rt, "memory");
+    drop(ty);
+    Arc::new(alloc, layout.expect(rt, "a layout")).expect(rt, "memory")
+}
+
+/// The reference to a new cell, as `cell_of` makes it, by a layout that is shared where it is that of the type.
+fn cell_like(
+    rt: &impl Abort,
+    alloc: Global,
+    store: &mut Store,
+    ty: Type,
+    layout: &Arc<Layout>,
+    words: &[u32],
+) -> RefInstance {
+    let bytes = bytes_of(rt, alloc, words);
+    let made = store.new_sharing(alloc, ty, Some(layout), &bytes, Storage, ReadWrite);
+    drop(bytes);
+    made.expect(rt, "memory").expect(rt, "a value")
+}
+
+#[test]
+fn cells_share_the_layout_of_their_type_alone(rt: HostRuntime) {
+    let alloc = rt.alloc();
+    let mut store = Store::new(alloc);
+    let layout = shared(&rt, alloc, pair(&rt, alloc));
+    let whole = cell_like(&rt, alloc, &mut store, pair(&rt, alloc), &layout, &PADDED);
+    let next = [5, 9, 9, 9, 6, 7, 8, 9];
+    let again = cell_like(&rt, alloc, &mut store, pair(&rt, alloc), &layout, &next);
+    let own = array(&rt, alloc, Type::U32, None);
+    let three = cell_like(&rt, alloc, &mut store, own, &layout, &[10, 11, 12]);
+    drop(layout);
+    assert_reads(&rt, alloc, &store, &whole, "Pair(1u, vec3(2u, 3u, 4u))");
+    assert_reads(&rt, alloc, &store, &again, "Pair(5u, vec3(6u, 7u, 8u))");
+    assert_reads(&rt, alloc, &store, &three, "array(10u, 11u, 12u)");
+    assert_lends(&rt, alloc, &store, &again, &[5, 0, 0, 0, 6, 7, 8, 0]);
+    drop((store, whole, again, three));
+}
+
+#[test]
+fn a_session_shares_the_layout_of_a_type(rt: HostRuntime) {
+    let alloc = rt.alloc();
+    let mut session = Session::new(alloc);
+    let layout = shared(&rt, alloc, pair(&rt, alloc));
+    let bytes = bytes_of(&rt, alloc, &PADDED);
+    let own = pair(&rt, alloc);
+    let made = session.new_sharing(own, Some(&layout), &bytes, Storage, ReadWrite);
+    assert_same(&rt, made, Ok(Some(Reply::Handle(0))));
+    let own = array(&rt, alloc, Type::U32, None);
+    let made = session.new_sharing(own, Some(&layout), &bytes, Storage, ReadWrite);
+    assert_same(&rt, made, Ok(Some(Reply::Handle(1))));
+    let few = session.new_sharing(pair(&rt, alloc), Some(&layout), &[0; 31], Storage, Read);
+    assert_same(&rt, few, Ok(None));
+    drop((layout, bytes));
+    let read = "Pair(1u, vec3(2u, 3u, 4u))";
+    sessions::assert_reads(&rt, alloc, &mut session, 0, read);
+    let read = "array(1u, 9u, 9u, 9u, 2u, 3u, 4u, 9u)";
+    sessions::assert_reads(&rt, alloc, &mut session, 1, read);
+    drop(session);
 }
 
 /// Asserts what a write of the words to what the reference names is answered.

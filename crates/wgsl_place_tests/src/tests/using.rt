@@ -1,13 +1,14 @@
 //! The snippets of `docs/USING.md` on places.
 
 use std::process::Abort;
+use std::sync::Arc;
 use std::test::Fail;
 use wgsl_places::{Components, Places};
 use wgsl_rules::AccessMode::ReadWrite;
 use wgsl_rules::AddressSpace::Storage;
 use wgsl_rules::Type;
 use wgsl_scalar::LiteralInstance::U32;
-use wgsl_store::Store;
+use wgsl_store::{Layout, Store};
 use wgsl_values::MemView;
 
 #[test]
@@ -68,5 +69,23 @@ fn a_number_is_doubled_in_a_shaders_memory(rt: HostRuntime) -> Result<(), Fail> 
     }
     assert!(rt; store.holds(&cell));
     assert_eq!(rt; places.load_in(&store, &cell, last), Some(U32(6)));
+    Ok(())
+}
+
+#[test]
+fn cells_of_one_type_share_its_layout(rt: HostRuntime) -> Result<(), Fail> {
+    let alloc = rt.alloc();
+    let words = Type::Array(Box::new(alloc, Type::U32)?, None);
+    let layout = Layout::of(alloc, &words)?.ok_or("a type without a layout")?;
+    let layout = Arc::new(alloc, layout)?;
+    let mut store = Store::new(alloc);
+    for bytes in [[1, 0, 0, 0], [2, 0, 0, 0]] {
+        let ty = words.clone(alloc)?;
+        let made = store.new_sharing(alloc, ty, Some(&layout), &bytes, Storage, ReadWrite)?;
+        let cell = made.ok_or("bytes of no value")?;
+        assert!(rt; store.holds(&cell));
+        assert_eq!(rt; store.bytes_of(&cell), Some(bytes.as_slice()));
+    }
+    assert_eq!(rt; store.len(), 2);
     Ok(())
 }

@@ -147,6 +147,25 @@ read &0
 }
 
 #[test]
+fn cells_of_one_structure_want_memory_or_are_made(rt: HostRuntime) -> Result<(), Fail> {
+    let script = b"struct S a:u32
+new S storage read 01000000
+new S storage read 02000000
+new S storage read 03000000
+read &2
+";
+    let Ok((lines, outcome)) = lines_of(rt.alloc(), script) else {
+        return Ok(());
+    };
+    if is_line(&lines, 3, b"&2") {
+        assert!(rt; is_or_refused(&lines, 4, b"S(3u)"));
+    }
+    let wanted: [&[u8]; 5] = [b"done", b"&0", b"&1", b"&2", b"S(3u)"];
+    assert_whole_in_the_end(&rt, rt.alloc(), script, &lines, outcome, &wanted);
+    Ok(())
+}
+
+#[test]
 fn an_element_of_wide_vectors_is_read_or_refused_memory(rt: HostRuntime) -> Result<(), Fail> {
     let script =
         b"new array<vec3<i64>> storage read_write 01000000000000000200000000000000030000000000000000000000000000000400000000000000050000000000000006000000000000000000000000000000

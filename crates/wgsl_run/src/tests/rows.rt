@@ -77,6 +77,41 @@ fn padding_and_bytes_past_the_size_are_not_kept(rt: HostRuntime) {
 }
 
 #[test]
+fn cells_of_one_structure_are_apart(rt: HostRuntime) {
+    let lines = [
+        ("struct S a:u32 b:vec2<u32>", "done"),
+        ("struct T a:u32 b:vec2<i32>", "done"),
+        ("new S storage read 01000000", "refused NoValue"),
+        (
+            "new S storage read_write 01000000000000000200000003000000",
+            "&0",
+        ),
+        ("new S storage read 01000000", "refused NoValue"),
+        (
+            "new S storage read_write 04000000000000000500000006000000",
+            "&1",
+        ),
+        (
+            "new S storage read_write 07000000000000000800000009000000",
+            "&2",
+        ),
+        ("new T storage read 0700000000000000f8fffffff7ffffff", "&3"),
+        (
+            "new array<S> storage read 01000000000000000200000003000000",
+            "&4",
+        ),
+        ("member &1 b", "&5"),
+        ("write &5 0a0000000b000000", "done"),
+        ("read &0", "S(1u, vec2(2u, 3u))"),
+        ("read &1", "S(4u, vec2(10u, 11u))"),
+        ("read &2", "S(7u, vec2(8u, 9u))"),
+        ("read &3", "T(7u, vec2(-8i, -9i))"),
+        ("read &4", "array(S(1u, vec2(2u, 3u)))"),
+    ];
+    assert_answers(&rt, rt.alloc(), &lines);
+}
+
+#[test]
 fn an_odd_number_of_digits_is_a_bad_line(rt: HostRuntime) {
     let lines = [
         ("new u32 storage read_write 00000000", "&0"),

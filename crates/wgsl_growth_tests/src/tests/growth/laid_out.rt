@@ -5,6 +5,7 @@ use crate::tests::growth::sessions::held;
 use crate::tests::samples::{array, array_of, pair, pair_with, text};
 use std::alloc::Global;
 use std::process::Abort;
+use std::sync::Arc;
 use wgsl_rules::AccessMode::ReadWrite;
 use wgsl_rules::AddressSpace::Storage;
 use wgsl_rules::Type;
@@ -12,7 +13,7 @@ use wgsl_samples::atomics::flagged;
 use wgsl_scalar::Error;
 use wgsl_scalar::LiteralInstance::U32;
 use wgsl_session::{Fault, Reply, Session};
-use wgsl_store::{References, Store};
+use wgsl_store::{Layout, References, Store};
 use wgsl_values::{Instance, RefInstance};
 
 /// The bytes of Pair(1u, vec3(2u, 3u, 4u)).
@@ -55,6 +56,59 @@ fn a_cell_of_bytes_wants_memory_or_is_made(rt: HostRuntime) {
     assert_same(&rt, read(&rt, alloc, &store, &whole), wanted);
     assert_eq!(rt; store.len(), 1);
     drop((store, whole));
+}
+
+/// The layout of a Pair, to be shared.
+fn shared(rt: &impl Abort, alloc: Global) -> Arc<Layout> {
+    let ty = pair(rt, alloc);
+    let layout = made!(rt; Layout::of(alloc, &ty)).expect(rt, "a layout");
+    drop(ty);
+    made!(rt; Arc::new(alloc, layout))
+}
+
+#[test]
+fn a_cell_that_shares_its_layout_wants_memory_or_is_made(rt: HostRuntime) {
+    let alloc = rt.alloc();
+    let mut store = Store::new(alloc);
+    let layout = shared(&rt, alloc);
+    let (ty, again) = (pair(&rt, alloc), pair(&rt, alloc));
+    let made = match store.new_sharing(alloc, ty, Some(&layout), &PAIR, Storage, ReadWrite) {
+        Ok(made) => {
+            drop(again);
+            made
+        }
+        Err(error) => {
+            assert_memory(&rt, error);
+            assert_eq!(rt; store.len(), 0);
+            let made = store.new_sharing(alloc, again, Some(&layout), &PAIR, Storage, ReadWrite);
+            made.expect(&rt, "memory")
+        }
+    };
+    let whole = made.expect(&rt, "a value");
+    let wanted = Instance::from(pair_with(&rt, alloc, 1));
+    assert_same(&rt, read(&rt, alloc, &store, &whole), wanted);
+    drop((store, whole, layout));
+}
+
+#[test]
+fn a_session_wants_memory_or_shares_a_layout(rt: HostRuntime) {
+    let alloc = rt.alloc();
+    let mut session = Session::new(alloc);
+    let layout = shared(&rt, alloc);
+    let (ty, again) = (pair(&rt, alloc), pair(&rt, alloc));
+    let before = held(&rt, alloc, &session);
+    match session.new_sharing(ty, Some(&layout), &PAIR, Storage, ReadWrite) {
+        Err(Fault::Of(Error::Memory)) => {
+            assert_same(&rt, held(&rt, alloc, &session), before);
+            let made = session.new_sharing(again, Some(&layout), &PAIR, Storage, ReadWrite);
+            assert_same(&rt, made, Ok(Some(Reply::Handle(0))));
+        }
+        made => {
+            assert_same(&rt, made, Ok(Some(Reply::Handle(0))));
+            drop((before, again));
+        }
+    }
+    drop((session, layout));
 }
 
 /// Asserts what a write of the bytes is answered. One that wants memory says so, and is made again.

@@ -18,19 +18,19 @@ returns-in_err-reserve c =
 pub returns-in_err-made : goal.returns-in_err-made
 returns-in_err-made c =
     memory-step (λ (v : Val). model.new v c.args.space c.args.access) (decode c.args.bytes.now (type_view c.args.ty)) c.args.self.now _ c.from_residual-in_err-made.result
-    (same-session reference_of c.args.self.now c.self.inside.store c.new_from_bytes.new.self c.self.inside.handles.items c.reserve.new.self.items c.self.view_is c.in_err-made.ensures.err c.in_ok-reserve.ensures.items) c.from_residual-in_err-made.ensures.1
+    (same-session reference_of c.args.self.now c.self.inside.store c.new_sharing.new.self c.self.inside.handles.items c.reserve.new.self.items c.self.view_is c.in_err-made.ensures.err c.in_ok-reserve.ensures.items) c.from_residual-in_err-made.ensures.1
 
 pub invariant_of-self-in_default : goal.invariant_of-self-in_default
-invariant_of-self-in_default c = rw c.in_ok-reserve.ensures.items (all-keep c.self.inside.store c.new_from_bytes.new.self (map reference_of c.self.inside.handles.items) c.in_ok-made.ensures.kept c.self.invariant)
+invariant_of-self-in_default c = rw c.in_ok-reserve.ensures.items (all-keep c.self.inside.store c.new_sharing.new.self (map reference_of c.self.inside.handles.items) c.in_ok-made.ensures.kept c.self.invariant)
 
 pub returns-in_default : goal.returns-in_default
 returns-in_default c =
-    none-made reference_of (decode c.args.bytes.now (type_view c.args.ty)) c.args.space c.args.access c.args.self.now c.self.inside.store c.new_from_bytes.new.self c.self.inside.handles.items c.reserve.new.self.items c.in_ok-made.made
+    none-made reference_of (decode c.args.bytes.now (type_view c.args.ty)) c.args.space c.args.access c.args.self.now c.self.inside.store c.new_sharing.new.self c.self.inside.handles.items c.reserve.new.self.items c.in_ok-made.made
     c.self.view_is c.in_ok-reserve.ensures.items c.in_ok-made.ensures.made c.in_default.is
 
 pub invariant_of-self-2 : goal.invariant_of-self-2
 invariant_of-self-2 c =
-    let new = c.new_from_bytes.new.self in
+    let new = c.new_sharing.new.self in
     let handles = map reference_of c.self.inside.handles.items in
     let items = rw c.unwrap.ensures at c.push.ensures.items in
     let others = all-keep c.self.inside.store new handles c.in_ok-made.ensures.kept c.self.invariant in
@@ -39,5 +39,5 @@ invariant_of-self-2 c =
 pub returns : goal.returns
 returns c =
     let items = rw c.unwrap.ensures at c.push.ensures.items in
-    one-made reference_of (decode c.args.bytes.now (type_view c.args.ty)) c.args.space c.args.access c.args.self.now c.self.inside.store c.new_from_bytes.new.self c.self.inside.handles.items c.push.new.self.items c.in_ok-made.made
+    one-made reference_of (decode c.args.bytes.now (type_view c.args.ty)) c.args.space c.args.access c.args.self.now c.self.inside.store c.new_sharing.new.self c.self.inside.handles.items c.push.new.self.items c.in_ok-made.made
     c.in-Some.reference c.len-handle.result c.self.view_is (rw c.in_ok-reserve.ensures.items at items) (omega (arith, c.len-handle.ensures, c.self.inside.handles.ok.0)) c.in_ok-made.ensures.made c.in-Some.is

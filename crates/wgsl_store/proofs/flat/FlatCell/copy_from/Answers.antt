@@ -1,45 +1,29 @@
-use Rattle.std.proofs.Common.{◌≡◌, ◌∙◌, ◌+◌, ◌≤◌, List, ℕ, None, length, ap, sym, arith, refl}
+use Rattle.std.proofs.Common.{◌≡◌, ◌∙◌, ◌+◌, ◌≤◌, List, ℕ, length, ap, sym, arith, refl}
 use Rattle.std.specs.Vec.{with_items}
 use Rattle.std.proofs.lemmas.Bool.{false≢true}
 use Rattle.std.proofs.Math.Seq.{take-append_seam}
-use Rattle.wgsl_rules.specs.Layout.{has_layout, layout_of, length_in}
-use Rattle.wgsl_rules.specs.View.{type_view}
+use Rattle.wgsl_rules.specs.Layout.{length_in}
 use Rattle.wgsl_values.specs.View.{steps_of}
 use Rattle.wgsl_store.specs.Buffers.{buffer}
 use Rattle.wgsl_store.specs.FlatCells.{IsPartAt, flat_value}
 use Rattle.wgsl_store.specs.Located.{part_range}
-use Rattle.wgsl_store.specs.Plan.{plan_view}
-use Rattle.wgsl_store.specs.Ranges.{bytes_in, overwritten, view_range}
-use Rattle.wgsl_store.specs.declared.located.Located.{Located}
-use Rattle.wgsl_store.proofs.Copies.{IsCopiedCell, bytes-long, copied-cell, has-bytes, not-copied, part-is, range-long}
-use Rattle.wgsl_store.proofs.FlatPuts.{found-at, held-layout, nowhere}
-use Rattle.wgsl_store.proofs.lemmas.Flat.{whole-there}
+use Rattle.wgsl_store.specs.Ranges.{bytes_in, overwritten}
+use Rattle.wgsl_store.proofs.Copies.{IsCopiedCell, copied-cell, has-bytes, not-copied, range-long}
+use Rattle.wgsl_store.proofs.FlatPuts.{has-room, leads-there, part-is}
 use Rattle.wgsl_store.proofs.flat.FlatCell.copy_from.Goals as goal
 
-pub viewed-requires : goal.viewed-requires
-viewed-requires c =
-    let own = c.self.inside in
-    let v = flat_value own in
-    let h = c.self.invariant in
-    let same = ap length h.bytes in
-    let len : c.len.result ≡ length (buffer v) = omega (arith, c.len.ensures, own.bytes.ok.0, same) in
-    rw c.of_whole-whole.ensures (whole-there v own.count (type_view own.ty) (plan_view own.plan) c.len.result h.storable h.laid h.typed h.counted h.planned len)
+pub part_of-target-requires-clause-room : goal.part_of-target-requires-clause-room
+part_of-target-requires-clause-room c = has-room c.self.inside (flat_value c.self.inside) c.len.result c.self.invariant c.len.ensures
 
-pub unreachable-requires : goal.unreachable-requires
-unreachable-requires c =
-    let own = c.self.inside in
-    let v = flat_value own in
-    let h = c.self.invariant in
-    let steps = steps_of c.args.to.now in
-    let none : view_range steps (layout_of v) ≡ None = found-at v steps own.count (type_view own.ty) None (held-layout own v h) (rw c.of_whole-whole.ensures at c.in_default.ensures.range) in
-    nowhere v steps h.storable (ap has_layout h.typed ∙ h.laid) none (rw (← c.self.view_is) at c.requires.to)
+pub part_of-target-requires-clause-there : goal.part_of-target-requires-clause-there
+part_of-target-requires-clause-there c = leads-there c.self.inside (flat_value c.self.inside) (steps_of c.args.to.now) c.self.invariant (rw (← c.self.view_is) at c.requires.to)
 
 pub returns-then-not-is_like-clause-copied : goal.returns-then-not-is_like-clause-copied
 returns-then-not-is_like-clause-copied c =
     let v = flat_value c.self.inside in
     let u = c.args.other.now in
-    rw (← c.self.view_is) (not-copied u v v (steps_of c.args.from.now) (steps_of c.args.to.now) c.part_at-source.result c.in-Some.target
-    (record { storable = c.part_at-source.ensures.storable; laid = c.part_at-source.ensures.laid }) (has-bytes c.self.inside v c.self.invariant) c.part_at-source.ensures.part (part-is c.self.inside (flat_value c.self.inside) (steps_of c.args.to.now) c.in-Some.target c.len.result c.self.invariant c.in-Some.ensures.there.there (c.in-Some.ensures.there.len ∙ ap (λ (l : Located). l.len) c.of_whole-whole.ensures) (bytes-long c.self.inside (flat_value c.self.inside) c.len.result c.self.invariant c.len.ensures) (rw c.of_whole-whole.ensures at c.in-Some.ensures.range))
+    rw (← c.self.view_is) (not-copied u v v (steps_of c.args.from.now) (steps_of c.args.to.now) c.part_at-source.result c.part_of-target.result
+    (record { storable = c.part_at-source.ensures.storable; laid = c.part_at-source.ensures.laid }) (has-bytes c.self.inside v c.self.invariant) c.part_at-source.ensures.part (part-is c.self.inside (flat_value c.self.inside) (steps_of c.args.to.now) c.part_of-target.result c.len.result c.self.invariant c.len.ensures c.part_of-target.ensures.there c.part_of-target.ensures.whole c.part_of-target.ensures.found)
     (λ e. false≢true (sym c.if-not-is_like.true ∙ c.is_like.ensures.1 e)) refl)
 
 pub slice-part-requires-clause-whole : goal.slice-part-requires-clause-whole
@@ -56,7 +40,7 @@ copy_from-requires-clause-long c =
     ap length c.slice-part.ensures ∙ range-long c.as_slice.result.now (part_range s) inside ∙ ap length_in (c.is_like.ensures.0 c.if-not-is_like.false)
 
 -- what the cell holds after the copy
-copied : (c : goal.After-self-1) → IsCopiedCell (record { ty = c.self.inside.ty; plan = c.self.inside.plan; count = c.self.inside.count; bytes = with_items c.self.inside.bytes c.copy_from.new.bytes })
+copied : (c : goal.After-self-1) → IsCopiedCell (record { owner = c.self.inside.owner; count = c.self.inside.count; bytes = with_items c.self.inside.bytes c.copy_from.new.bytes })
     c.args.other.now (flat_value c.self.inside) (steps_of c.args.from.now) (steps_of c.args.to.now)
 copied c =
     let own = c.self.inside in
@@ -64,7 +48,7 @@ copied c =
     let u = c.args.other.now in
     let h = c.self.invariant in
     let s = c.part_at-source.result in
-    let t = c.in-Some.target in
+    let t = c.part_of-target.result in
     let new = c.copy_from.new.bytes in
     let other_bytes : c.as_slice.result.now ≡ buffer u = rw (← c.other.view_is) (c.as_slice.ensures.value ∙ c.other.invariant.bytes) in
     let part : c.slice-part.result.now ≡ bytes_in (buffer u) (part_range s) = c.slice-part.ensures ∙ ap (λ (b : List ℕ). bytes_in b (part_range s)) other_bytes in
@@ -73,7 +57,7 @@ copied c =
     let moved : new ≡ overwritten (buffer v) t.start (bytes_in (buffer u) (part_range s)) =
     c.copy_from.ensures ∙ ap (λ (b : List ℕ). overwritten b t.start c.slice-part.result.now) (c.as_mut_slice.ensures.value ∙ h.bytes) ∙ ap (overwritten (buffer v) t.start) part in
     copied-cell own (with_items own.bytes new) u v (steps_of c.args.from.now) (steps_of c.args.to.now) s t h (record { storable = c.part_at-source.ensures.storable; laid = c.part_at-source.ensures.laid })
-    c.part_at-source.ensures.part (part-is c.self.inside (flat_value c.self.inside) (steps_of c.args.to.now) c.in-Some.target c.len.result c.self.invariant c.in-Some.ensures.there.there (c.in-Some.ensures.there.len ∙ ap (λ (l : Located). l.len) c.of_whole-whole.ensures) (bytes-long c.self.inside (flat_value c.self.inside) c.len.result c.self.invariant c.len.ensures) (rw c.of_whole-whole.ensures at c.in-Some.ensures.range)) (c.is_like.ensures.0 c.if-not-is_like.false) (kept ∙ moved)
+    c.part_at-source.ensures.part (part-is c.self.inside (flat_value c.self.inside) (steps_of c.args.to.now) c.part_of-target.result c.len.result c.self.invariant c.len.ensures c.part_of-target.ensures.there c.part_of-target.ensures.whole c.part_of-target.ensures.found) (c.is_like.ensures.0 c.if-not-is_like.false) (kept ∙ moved)
 
 pub invariant_of-self : goal.invariant_of-self
 invariant_of-self c = (copied c).holds

@@ -1,17 +1,25 @@
-use Rattle.std.proofs.Common.{sym, ◌∙◌}
+use Rattle.std.proofs.Common.{sym, ap, ◌∙◌}
+use Rattle.wgsl_rules.specs.Layout.{has_layout}
 use Rattle.wgsl_values.specs.View.{value_of}
 use Rattle.wgsl_store.specs.FlatCells.{Holds}
 use Rattle.wgsl_store.specs.declared.flat.FlatCell.TheInside.{Inside}
+use Rattle.wgsl_store.specs.declared.flat.Owner.TheVariants as owners
 use Rattle.wgsl_store.proofs.FlatPuts.{held-value, holds-own}
+use Rattle.wgsl_store.proofs.LaidOut.{not-false}
 use Rattle.wgsl_store.proofs.flat.FlatCell.new.Goals as goal
+
+pub from_plan-layout-requires-clause-laid : goal.from_plan-layout-requires-clause-laid
+from_plan-layout-requires-clause-laid c = sym c.in_ok-of_type.ensures.layout ∙ not-false c.in_ok-of_type.of_type.has_layout c.if-not-of_type.false
+
+pub write_whole-requires-clause-typed : goal.write_whole-requires-clause-typed
+write_whole-requires-clause-typed c = sym (c.from_plan-layout.ensures ∙ c.in_ok-ty.ensures)
 
 pub invariant_of-result : goal.invariant_of-result
 invariant_of-result c =
-    let made : Inside = record { ty = c.in_ok-ty.ty; plan = c.in_ok-of_type.of_type.plan; count = c.runtime_count.result; bytes = c.in_ok-bytes.bytes } in
+    let made : Inside = record { owner = owners.Own c.from_plan-layout.result; count = c.runtime_count.result; bytes = c.in_ok-bytes.bytes } in
     let h : Holds made (value_of c.args.value.now) = record {
-      typed = sym c.in_ok-ty.ensures;
-      laid = sym c.in_ok-of_type.ensures.layout ∙ c.if-not-of_type.false;
-      planned = c.in_ok-of_type.ensures.plan;
+      typed = sym (c.from_plan-layout.ensures ∙ c.in_ok-ty.ensures);
+      laid = ap has_layout c.from_plan-layout.ensures ∙ (sym c.in_ok-of_type.ensures.layout ∙ not-false c.in_ok-of_type.of_type.has_layout c.if-not-of_type.false);
       counted = c.runtime_count.ensures;
       storable = c.requires;
       bytes = c.in_ok-bytes.ensures;
@@ -20,11 +28,10 @@ invariant_of-result c =
 
 pub returns : goal.returns
 returns c =
-    let made : Inside = record { ty = c.in_ok-ty.ty; plan = c.in_ok-of_type.of_type.plan; count = c.runtime_count.result; bytes = c.in_ok-bytes.bytes } in
+    let made : Inside = record { owner = owners.Own c.from_plan-layout.result; count = c.runtime_count.result; bytes = c.in_ok-bytes.bytes } in
     let h : Holds made (value_of c.args.value.now) = record {
-      typed = sym c.in_ok-ty.ensures;
-      laid = sym c.in_ok-of_type.ensures.layout ∙ c.if-not-of_type.false;
-      planned = c.in_ok-of_type.ensures.plan;
+      typed = sym (c.from_plan-layout.ensures ∙ c.in_ok-ty.ensures);
+      laid = ap has_layout c.from_plan-layout.ensures ∙ (sym c.in_ok-of_type.ensures.layout ∙ not-false c.in_ok-of_type.of_type.has_layout c.if-not-of_type.false);
       counted = c.runtime_count.ensures;
       storable = c.requires;
       bytes = c.in_ok-bytes.ensures;

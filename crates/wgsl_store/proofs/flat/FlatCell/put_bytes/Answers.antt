@@ -1,61 +1,48 @@
-use Rattle.std.proofs.Common.{◌≡◌, ◌∙◌, None, length, ap, sym, arith}
+use Rattle.std.proofs.Common.{◌≡◌, ◌∙◌, length, ap, sym, arith}
 use Rattle.std.proofs.lemmas.Bool.{false≢true}
 use Rattle.std.specs.Vec.{with_items}
 use Rattle.std.proofs.Math.Seq.{take-append_seam}
-use Rattle.wgsl_rules.specs.Layout.{has_layout, layout_of}
 use Rattle.wgsl_rules.specs.Paths.{viewed}
 use Rattle.wgsl_rules.specs.Values.{type_of}
-use Rattle.wgsl_rules.specs.View.{type_view}
 use Rattle.wgsl_values.specs.View.{reference_of, steps_of}
 use Rattle.wgsl_store.specs.Buffers.{buffer, decode, decoded}
 use Rattle.wgsl_store.specs.Cells.{LeadsIn}
 use Rattle.wgsl_store.specs.FlatCells.{flat_value}
 use Rattle.wgsl_store.specs.Located.{part_range, shape_plan}
-use Rattle.wgsl_store.specs.Plan.{plan_view}
-use Rattle.wgsl_store.specs.Ranges.{view_range}
 use Rattle.wgsl_store.specs.Walk.{put}
-use Rattle.wgsl_store.specs.declared.located.Located.{Located}
-use Rattle.wgsl_store.proofs.Copies.{bytes-long}
-use Rattle.wgsl_store.proofs.FlatPuts.{found-at, held-layout, nowhere}
+use Rattle.wgsl_store.proofs.FlatPuts.{has-room, leads-there}
 use Rattle.wgsl_store.proofs.LaidParts.{IsTarget, IsWrittenCell, done, leads-ok, misfit, no-value, not-write, target-at, target-long}
-use Rattle.wgsl_store.proofs.lemmas.Flat.{whole-there}
 use Rattle.wgsl_store.proofs.flat.FlatCell.put_bytes.Goals as goal
 
-pub viewed-requires : goal.viewed-requires
-viewed-requires c =
-    let own = c.self.inside in
-    let h = c.self.invariant in
-    rw c.of_whole-whole.ensures (whole-there (flat_value own) own.count (type_view own.ty) (plan_view own.plan) c.len.result h.storable h.laid h.typed h.counted h.planned (bytes-long own (flat_value own) c.len.result h c.len.ensures))
+pub part_of-part-requires-clause-room : goal.part_of-part-requires-clause-room
+part_of-part-requires-clause-room c = has-room c.self.inside (flat_value c.self.inside) c.len.result c.self.invariant c.len.ensures
 
-pub unreachable-requires : goal.unreachable-requires
-unreachable-requires c =
-    let own = c.self.inside in
-    let v = flat_value own in
-    let h = c.self.invariant in
-    let steps = steps_of c.view.result.now in
-    let none : view_range steps (layout_of v) ≡ None = found-at v steps own.count (type_view own.ty) None (held-layout own v h) (rw c.of_whole-whole.ensures at c.in_default.ensures.range) in
-    let leads : LeadsIn v (reference_of c.args.reference.now) = rw (← c.self.view_is) at c.requires in
-    nowhere v steps h.storable (ap has_layout h.typed ∙ h.laid) none (rw c.view.ensures (leads-ok (viewed (reference_of c.args.reference.now).view v) (λ x. type_of x ≡ (reference_of c.args.reference.now).ty) leads))
+pub part_of-part-requires-clause-there : goal.part_of-part-requires-clause-there
+part_of-part-requires-clause-there c =
+    let v = flat_value c.self.inside in
+    let r = reference_of c.args.reference.now in
+    let leads : LeadsIn v r = rw (← c.self.view_is) at c.requires in
+    leads-there c.self.inside v (steps_of c.view.result.now) c.self.invariant (rw c.view.ensures (leads-ok (viewed r.view v) (λ x. type_of x ≡ r.ty) leads))
 
-pub returns-in_default-count_in-clause-put : goal.returns-in_default-count_in-clause-put
-returns-in_default-count_in-clause-put c =
+pub returns-in_default-clause-put : goal.returns-in_default-clause-put
+returns-in_default-clause-put c =
     let v = flat_value c.self.inside in
     let r = reference_of c.args.reference.now in
     let b = c.args.bytes.now in
-    let part = c.in-Some.part in
+    let part = c.part_of-part.result in
     let at : IsTarget v r part =
-    target-at c.self.inside (reference_of c.args.reference.now) c.in-Some.part c.len.result (steps_of c.view.result.now) c.self.invariant c.in-Some.ensures.there.there (c.in-Some.ensures.there.len ∙ ap (λ (l : Located). l.len) c.of_whole-whole.ensures) c.len.ensures c.view.ensures (rw c.of_whole-whole.ensures at c.in-Some.ensures.range) (rw (← c.self.view_is) at c.requires) in
-    rw (← c.self.view_is) (no-value v r part b at (sym c.count_in.ensures ∙ c.in_default-count_in.is))
+    target-at c.self.inside r part c.len.result (steps_of c.view.result.now) c.self.invariant c.len.ensures c.part_of-part.ensures.there c.part_of-part.ensures.whole c.view.ensures c.part_of-part.ensures.found (rw (← c.self.view_is) at c.requires) in
+    rw (← c.self.view_is) (no-value v r part b at (sym c.count_in.ensures ∙ c.in_default.is))
 
 pub returns-then-not-may_write-clause-put : goal.returns-then-not-may_write-clause-put
 returns-then-not-may_write-clause-put c =
     let v = flat_value c.self.inside in
     let r = reference_of c.args.reference.now in
     let b = c.args.bytes.now in
-    let part = c.in-Some.part in
+    let part = c.part_of-part.result in
     let at : IsTarget v r part =
-    target-at c.self.inside (reference_of c.args.reference.now) c.in-Some.part c.len.result (steps_of c.view.result.now) c.self.invariant c.in-Some.ensures.there.there (c.in-Some.ensures.there.len ∙ ap (λ (l : Located). l.len) c.of_whole-whole.ensures) c.len.ensures c.view.ensures (rw c.of_whole-whole.ensures at c.in-Some.ensures.range) (rw (← c.self.view_is) at c.requires) in
-    rw (← c.self.view_is) (not-write v r part b c.in-Some-count_in.count at (sym c.count_in.ensures ∙ c.in-Some-count_in.is)
+    target-at c.self.inside r part c.len.result (steps_of c.view.result.now) c.self.invariant c.len.ensures c.part_of-part.ensures.there c.part_of-part.ensures.whole c.view.ensures c.part_of-part.ensures.found (rw (← c.self.view_is) at c.requires) in
+    rw (← c.self.view_is) (not-write v r part b c.in-Some.count at (sym c.count_in.ensures ∙ c.in-Some.is)
     (sym c.may_write.ensures ∙ c.if-not-may_write.true))
 
 pub returns-then-not-has_count-clause-put : goal.returns-then-not-has_count-clause-put
@@ -63,10 +50,10 @@ returns-then-not-has_count-clause-put c =
     let v = flat_value c.self.inside in
     let r = reference_of c.args.reference.now in
     let b = c.args.bytes.now in
-    let part = c.in-Some.part in
+    let part = c.part_of-part.result in
     let at : IsTarget v r part =
-    target-at c.self.inside (reference_of c.args.reference.now) c.in-Some.part c.len.result (steps_of c.view.result.now) c.self.invariant c.in-Some.ensures.there.there (c.in-Some.ensures.there.len ∙ ap (λ (l : Located). l.len) c.of_whole-whole.ensures) c.len.ensures c.view.ensures (rw c.of_whole-whole.ensures at c.in-Some.ensures.range) (rw (← c.self.view_is) at c.requires) in
-    rw (← c.self.view_is) (misfit v r part b c.in-Some-count_in.count at (sym c.count_in.ensures ∙ c.in-Some-count_in.is)
+    target-at c.self.inside r part c.len.result (steps_of c.view.result.now) c.self.invariant c.len.ensures c.part_of-part.ensures.there c.part_of-part.ensures.whole c.view.ensures c.part_of-part.ensures.found (rw (← c.self.view_is) at c.requires) in
+    rw (← c.self.view_is) (misfit v r part b c.in-Some.count at (sym c.count_in.ensures ∙ c.in-Some.is)
     (sym c.may_write.ensures ∙ c.if-not-may_write.false)
     (λ k. false≢true (sym c.if-not-has_count.true ∙ c.has_count.ensures.1 k)))
 
@@ -75,21 +62,21 @@ copy_numbers-requires-clause-long c =
     let v = flat_value c.self.inside in
     let r = reference_of c.args.reference.now in
     let b = c.args.bytes.now in
-    let part = c.in-Some.part in
+    let part = c.part_of-part.result in
     let at : IsTarget v r part =
-    target-at c.self.inside (reference_of c.args.reference.now) c.in-Some.part c.len.result (steps_of c.view.result.now) c.self.invariant c.in-Some.ensures.there.there (c.in-Some.ensures.there.len ∙ ap (λ (l : Located). l.len) c.of_whole-whole.ensures) c.len.ensures c.view.ensures (rw c.of_whole-whole.ensures at c.in-Some.ensures.range) (rw (← c.self.view_is) at c.requires) in
-    target-long v r part b c.in-Some-count_in.count at (sym c.count_in.ensures ∙ c.in-Some-count_in.is) (c.has_count.ensures.0 c.if-not-has_count.false)
+    target-at c.self.inside r part c.len.result (steps_of c.view.result.now) c.self.invariant c.len.ensures c.part_of-part.ensures.there c.part_of-part.ensures.whole c.view.ensures c.part_of-part.ensures.found (rw (← c.self.view_is) at c.requires) in
+    target-long v r part b c.in-Some.count at (sym c.count_in.ensures ∙ c.in-Some.is) (c.has_count.ensures.0 c.if-not-has_count.false)
 
 -- what the cell holds after the copy
-written : (c : goal.After-self-1) → IsWrittenCell (record { ty = c.self.inside.ty; plan = c.self.inside.plan; count = c.self.inside.count; bytes = with_items c.self.inside.bytes c.copy_numbers.new.out })
+written : (c : goal.After-self-1) → IsWrittenCell (record { owner = c.self.inside.owner; count = c.self.inside.count; bytes = with_items c.self.inside.bytes c.copy_numbers.new.out })
     (flat_value c.self.inside) (reference_of c.args.reference.now) (decode c.args.bytes.now (reference_of c.args.reference.now).ty)
 written c =
     let v = flat_value c.self.inside in
     let r = reference_of c.args.reference.now in
     let b = c.args.bytes.now in
-    let part = c.in-Some.part in
+    let part = c.part_of-part.result in
     let at : IsTarget v r part =
-    target-at c.self.inside (reference_of c.args.reference.now) c.in-Some.part c.len.result (steps_of c.view.result.now) c.self.invariant c.in-Some.ensures.there.there (c.in-Some.ensures.there.len ∙ ap (λ (l : Located). l.len) c.of_whole-whole.ensures) c.len.ensures c.view.ensures (rw c.of_whole-whole.ensures at c.in-Some.ensures.range) (rw (← c.self.view_is) at c.requires) in
+    target-at c.self.inside r part c.len.result (steps_of c.view.result.now) c.self.invariant c.len.ensures c.part_of-part.ensures.there c.part_of-part.ensures.whole c.view.ensures c.part_of-part.ensures.found (rw (← c.self.view_is) at c.requires) in
     let own = c.self.inside in
     let new = c.copy_numbers.new.out in
     let long : own.bytes.len ≡ length new = omega (arith, c.copy_numbers.auto.out, c.as_mut_slice.ensures.len) in
@@ -97,7 +84,7 @@ written c =
     let w = decoded b 0 (part_range part).layout in
     let copied : new ≡ put w (shape_plan part.shape) part.start (buffer v) =
     c.copy_numbers.ensures ∙ ap (put w (shape_plan part.shape) part.start) (c.as_mut_slice.ensures.value ∙ c.self.invariant.bytes) in
-    done own (with_items own.bytes new) v r part b c.in-Some-count_in.count c.self.invariant at (sym c.count_in.ensures ∙ c.in-Some-count_in.is)
+    done own (with_items own.bytes new) v r part b c.in-Some.count c.self.invariant at (sym c.count_in.ensures ∙ c.in-Some.is)
     (sym c.may_write.ensures ∙ c.if-not-may_write.false)
     (c.has_count.ensures.0 c.if-not-has_count.false) (kept ∙ copied)
 

@@ -45,7 +45,7 @@ write_literal-requires c =
 
 -- what the cell holds after the write, by the path of the number
 after-holds : (c : goal.After-self-1) (x : Val) (path : List ℕ) → viewed (steps_of c.args.view.now) (flat_value c.self.inside) ≡ Ok x → IsNumberAt x path c.args.at (literal_of c.args.number)
-    → Holds (record { ty = c.self.inside.ty; plan = c.self.inside.plan; count = c.self.inside.count; bytes = with_items c.self.inside.bytes c.write_literal.new.out })
+    → Holds (record { owner = c.self.inside.owner; count = c.self.inside.count; bytes = with_items c.self.inside.bytes c.write_literal.new.out })
     (put_viewed (steps_of c.args.view.now) (number_put path (literal_of c.args.number) x) (flat_value c.self.inside))
 after-holds c x path e n =
     let own = c.self.inside in
@@ -73,7 +73,7 @@ returns-clause-put c path =
     let v = flat_value own in
     let steps = steps_of c.args.view.now in
     let w = literal_of c.args.number in
-    let made : Inside = record { ty = own.ty; plan = own.plan; count = own.count; bytes = with_items own.bytes c.write_literal.new.out } in
+    let made : Inside = record { owner = own.owner; count = own.count; bytes = with_items own.bytes c.write_literal.new.out } in
     let a = answered (viewed steps v) (λ x. HasNumberAt x c.args.at w) there in
     rw (← c.self.view_is)
     (led-is (λ x. IsNumberAt x path c.args.at w → flat_value made ≡ put_viewed steps (number_put path w x) v) (viewed steps v) a.answer a.is

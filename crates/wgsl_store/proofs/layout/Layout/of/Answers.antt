@@ -1,14 +1,10 @@
-use Rattle.std.proofs.Common.{◌≡◌, Bool, true, false, refl, sym, ap, ◌∙◌, subst}
-use Rattle.std.specs.Prelude.{not}
+use Rattle.std.proofs.Common.{◌≡◌, true, sym, ap, ◌∙◌, subst}
 use Rattle.wgsl_rules.specs.Layout.{has_layout}
 use Rattle.wgsl_rules.specs.Types.{Ty}
 use Rattle.wgsl_rules.specs.View.{type_view}
 use Rattle.wgsl_store.specs.TypePlan.{IsPlanOf}
+use Rattle.wgsl_store.proofs.LaidOut.{not-false}
 use Rattle.wgsl_store.proofs.layout.Layout.of.Goals as goal
-
-not-false : (b : Bool) → not b ≡ false → b ≡ true
-not-false true h = refl
-not-false false h = sym h
 
 pub invariant_of-result : goal.invariant_of-result
 invariant_of-result c =

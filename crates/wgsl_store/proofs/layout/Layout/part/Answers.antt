@@ -1,12 +1,11 @@
-use Rattle.std.proofs.Common.{sym}
-use Rattle.wgsl_rules.specs.View.{type_view}
-use Rattle.wgsl_store.specs.Plan.{plan_view}
+use Rattle.std.proofs.Common.{◌∙◌, refl, sym, arith}
+use Rattle.wgsl_store.specs.Plan.{plan_of}
 use Rattle.wgsl_store.proofs.Reading.{counted-there}
 use Rattle.wgsl_store.proofs.layout.Layout.part.Goals as goal
 
 pub viewed-requires : goal.viewed-requires
 viewed-requires c =
-    let own = c.self.inside in
-    let h = c.self.invariant in
-    let counted = rw (← c.self.view_is) at c.in-Some.ensures in
-    rw c.of_whole-whole.ensures (counted-there (type_view own.ty) (plan_view own.of_type.plan) c.args.len c.in-Some.count h.laid h.planned.plan (sym counted))
+    let t = c.args.self.now in
+    let there = counted-there t (plan_of t) c.args.len c.in-Some.count c.attest.ensures refl (sym c.count_in.ensures ∙ c.in-Some.is) in
+    let within = there.inside in
+    record { counted = there.counted; inside = omega (arith, within) }

@@ -3,7 +3,7 @@ use Rattle.wgsl_rules.specs.View.{type_view}
 use Rattle.wgsl_values.specs.View.{steps_of, reference_of}
 use Rattle.wgsl_values.specs.declared.view.MemView.{Whole, the_lemmas}
 use Rattle.wgsl_store.proofs.LaidCells.{new-made, none-made}
-use Rattle.wgsl_store.proofs.store.Store.new_from_bytes.Goals as goal
+use Rattle.wgsl_store.proofs.store.Store.new_sharing.Goals as goal
 
 pub returns-then-not-branch-clause-made : goal.returns-then-not-branch-clause-made
 returns-then-not-branch-clause-made c =
