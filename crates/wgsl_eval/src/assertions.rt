@@ -54,14 +54,22 @@ impl Evaluator<'_> {
         ensures { IfOk result (λ found. IsAssertion (setting_of self.old) answer found (setting_of self.new)) }
     {
         match answer {
-            Answer::Value(value) => self.held(token, &value.instance),
+            Answer::Value(value) => {
+                let found = self.held(token, &value.instance);
+                drop(value);
+                found
+            }
             Answer::Skipped(skip) => Ok(Assertion::Skipped(skip)),
             Answer::Wrong(message, _) => {
                 self.tell(message)?;
                 Ok(Assertion::Faulty)
             }
             Answer::Faulty => Ok(Assertion::Faulty),
-            Answer::Type(_) | Answer::Bitcast(_) | Answer::Variable(_) | Answer::Named(_) => {
+            other @ (Answer::Type(_)
+            | Answer::Bitcast(_)
+            | Answer::Variable(_)
+            | Answer::Named(_)) => {
+                drop(other);
                 self.refuted(token, "a type stands where a value belongs")
             }
         }

@@ -49,7 +49,11 @@ impl Evaluator<'_> {
         };
         let answer = self.expression(span)?;
         match answer {
-            Answer::Value(value) => self.number_for(span.token, &value.instance, of),
+            Answer::Value(value) => {
+                let number = self.number_for(span.token, &value.instance, of);
+                drop(value);
+                number
+            }
             other => Ok(Attribute::Other(self.no_number(span, other)?)),
         }
     }
@@ -98,8 +102,12 @@ impl Evaluator<'_> {
     {
         match answer {
             Answer::Skipped(skip) => self.skipped_number(span, skip),
-            Answer::Variable(_) => self.wrong_text(span.token, "an attribute is a constant"),
-            Answer::Type(_) | Answer::Bitcast(_) => {
+            Answer::Variable(variable) => {
+                drop(variable);
+                self.wrong_text(span.token, "an attribute is a constant")
+            }
+            Answer::Type(of) | Answer::Bitcast(of) => {
+                drop(of);
                 self.wrong_text(span.token, "a type stands where a value belongs")
             }
             other => Ok(other),

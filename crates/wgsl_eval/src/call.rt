@@ -1,6 +1,6 @@
 //! Names with template lists, and calls (WGSL: template lists; function call expression).
 
-ghost use Rattle.std.specs.Prelude.{[], ◌∷◌, ◌≡◌, IfOk, IfSome, Some, map};
+ghost use Rattle.std.specs.Prelude.{[], ◌∷◌, ◌≡◌, IfOk, IfSome, List, Some, map};
 ghost use Rattle.std.specs.Result.{result_ok};
 ghost use Rattle.wgsl_apply.specs.Literals.{natural_of};
 ghost use Rattle.wgsl_functions.specs.Functions.{bitcast_to, of_values};
@@ -43,12 +43,12 @@ use crate::evaluator::Evaluator;
 use crate::opaque::is_opaque;
 use crate::sized::SizedType;
 use crate::types::generated;
-use std::alloc::AllocError;
+use std::alloc::{AllocError, Global};
 use std::slice;
 use wgsl_apply::{Asked, literal_of, natural};
 use wgsl_functions::{Builtin, against_function, bitcast, bitcast_argument};
 use wgsl_source::{Generator, Predeclared, language_name};
-use wgsl_types::{Error, Instance, Type};
+use wgsl_types::{Error, Instance, LiteralInstance, Type};
 
 /// What is told of matrices of integers.
 pub(crate) const INTEGRAL: &str = "WGSL has no matrices of integers";
@@ -74,7 +74,10 @@ impl Evaluator<'_> {
     {
         let reading = self.reading;
         match reading.number_of(reading.word(token)) {
-            Some(_) => self.wrong_text(token, "this takes no template list"),
+            Some(_) => {
+                drop(arguments);
+                self.wrong_text(token, "this takes no template list")
+            }
             None => self.language_template(token, arguments),
         }
     }
@@ -96,8 +99,27 @@ impl Evaluator<'_> {
         }
         match language_name(word) {
             Some(Predeclared::Generator(generator)) => self.generated(token, generator, arguments),
+            named => {
+                drop(arguments);
+                self.no_template(token, named)
+            }
+        }
+    }
+
+    // What a name of the language leaves that takes no template list.
+    fn no_template(
+        &mut self,
+        token: usize,
+        named: Option<Predeclared>,
+    ) -> Result<Answer, AllocError>
+        ensures keeps { setting_of self.new ≡ setting_of self.old }
+        ensures template { (given : List Answer) → IfOk result (IsTemplateOf (word_at self.old.reading.now token) given) }
+        ensures answer { IfOk result IsAnswer }
+    {
+        let reading = self.reading;
+        match named {
             Some(_) => self.wrong_text(token, "this takes no template list"),
-            None if is_opaque(word) => Ok(self.skipped(token, Need::Opaque)),
+            None if is_opaque(reading.word(token)) => Ok(self.skipped(token, Need::Opaque)),
             None => self.nothing_named(token),
         }
     }
@@ -107,9 +129,14 @@ impl Evaluator<'_> {
         ensures answer { IfOk result IsAnswer }
     {
         let count = arguments.len();
-        match arguments.pop() {
+        let last = arguments.pop();
+        drop(arguments);
+        match last {
             Some(Answer::Type(of)) if count == 1 => Ok(Answer::Bitcast(of)),
-            _ => self.wrong_text(token, "bitcast takes a type"),
+            other => {
+                drop(other);
+                self.wrong_text(token, "bitcast takes a type")
+            }
         }
     }
 
@@ -127,12 +154,20 @@ impl Evaluator<'_> {
         let count = arguments.len();
         let last = arguments.pop().unwrap_or(Answer::Faulty);
         match (generator, count) {
-            (_, 1) => self.generated_of(token, generator, last, None),
+            (_, 1) => {
+                drop(arguments);
+                self.generated_of(token, generator, last, None)
+            }
             (Generator::Array, 2) => {
                 let inner = arguments.pop().unwrap_or(Answer::Faulty);
+                drop(arguments);
                 self.counted(token, inner, last)
             }
-            _ => self.wrong_text(token, "this type takes other arguments"),
+            _ => {
+                drop(last);
+                drop(arguments);
+                self.wrong_text(token, "this type takes other arguments")
+            }
         }
     }
 
@@ -146,13 +181,21 @@ impl Evaluator<'_> {
     {
         let value = match count {
             Answer::Value(value) => value,
-            other => return self.not_counted(token, other),
+            other => {
+                drop(inner);
+                return self.not_counted(token, other);
+            }
         };
-        match natural_in(&value.instance) {
+        let natural = natural_in(&value.instance);
+        drop(value);
+        match natural {
             Some(count) if count > 0 => {
                 self.generated_of(token, Generator::Array, inner, Some(count))
             }
-            _ => self.wrong_text(token, "a count is from 1 to 4294967295"),
+            _ => {
+                drop(inner);
+                self.wrong_text(token, "a count is from 1 to 4294967295")
+            }
         }
     }
 
@@ -183,6 +226,7 @@ impl Evaluator<'_> {
         match inner {
             Answer::Type(inner) => {
                 if !generator.takes(&inner.ty) {
+                    drop(inner);
                     return self.wrong_text(token, "this is no type of a component here");
                 }
                 self.type_of(token, generator, inner, count)
@@ -247,8 +291,14 @@ impl Evaluator<'_> {
         }
         match language_name(word) {
             Some(named) => self.call_type(token, named, arguments),
-            None if is_opaque(word) => self.wrong_text(token, "no value is made of this"),
-            None => self.nothing_named(token),
+            None if is_opaque(word) => {
+                drop(arguments);
+                self.wrong_text(token, "no value is made of this")
+            }
+            None => {
+                drop(arguments);
+                self.nothing_named(token)
+            }
         }
     }
 
@@ -302,10 +352,25 @@ impl Evaluator<'_> {
         ensures answer { IfOk result IsAnswer }
     {
         match callee {
-            Answer::Type(of) => self.called(token, &of, arguments),
-            Answer::Bitcast(of) => self.bitcast_called(token, &of, arguments),
-            Answer::Value(_) => self.wrong_text(token, "this is no type and no function"),
-            other => Ok(other),
+            Answer::Type(of) => {
+                let answer = self.called(token, &of, arguments);
+                drop(of);
+                answer
+            }
+            Answer::Bitcast(of) => {
+                let answer = self.bitcast_called(token, &of, arguments);
+                drop(of);
+                answer
+            }
+            Answer::Value(value) => {
+                drop(value);
+                drop(arguments);
+                self.wrong_text(token, "this is no type and no function")
+            }
+            other => {
+                drop(arguments);
+                Ok(other)
+            }
         }
     }
 
@@ -364,7 +429,10 @@ impl Evaluator<'_> {
                     size = size.with(value.size);
                     values.push(value.instance)?;
                 }
-                other => return Ok(Arguments::Other(self.unready(token, other)?)),
+                other => {
+                    drop(values);
+                    return self.unready(token, other).map(Arguments::Other);
+                }
             }
         }
         Ok(Arguments::Values(values, size))
@@ -422,11 +490,20 @@ impl Evaluator<'_> {
         ensures answer { IfOk result IsAnswer }
     {
         if !self.spend(size.parts) {
+            drop(values);
             return self.too_large(token);
         }
         match function.arguments(self.alloc, self.dialect, values)? {
-            Ok(values) => self.answered_to(token, function, values.as_slice(), size),
-            Err(unfit) => self.not_converted(token, &unfit.value, &unfit.ty),
+            Ok(values) => {
+                let answer = self.answered_to(token, function, values.as_slice(), size);
+                drop(values);
+                answer
+            }
+            Err(unfit) => {
+                let answer = self.not_converted(token, &unfit.value, &unfit.ty);
+                drop(unfit);
+                answer
+            }
         }
     }
 
@@ -447,7 +524,11 @@ impl Evaluator<'_> {
                 let against = against_function(function, self.stage, values);
                 self.judged(token, Value::answered(answer, size), against)
             }
-            Err(error) => self.refused_call(token, &error, values),
+            Err(error) => {
+                let answer = self.refused_call(token, &error, values);
+                drop(error);
+                answer
+            }
         }
     }
 
@@ -474,9 +555,14 @@ impl Evaluator<'_> {
         ensures answer { IfOk result IsAnswer }
     {
         let count = values.len();
-        match values.pop() {
+        let last = values.pop();
+        drop(values);
+        match last {
             Some(value) if count == 1 => self.bitcast_of_one(token, ty, value),
-            _ => self.wrong_count(token, 1, count),
+            other => {
+                drop(other);
+                self.wrong_count(token, 1, count)
+            }
         }
     }
 
@@ -486,8 +572,16 @@ impl Evaluator<'_> {
         ensures answer { IfOk result IsAnswer }
     {
         match bitcast_argument(self.alloc, self.dialect, value)? {
-            Ok(value) => self.bitcast_to(token, ty, &value),
-            Err(unfit) => self.not_converted(token, &unfit.value, &unfit.ty),
+            Ok(value) => {
+                let answer = self.bitcast_to(token, ty, &value);
+                drop(value);
+                answer
+            }
+            Err(unfit) => {
+                let answer = self.not_converted(token, &unfit.value, &unfit.ty);
+                drop(unfit);
+                answer
+            }
         }
     }
 
@@ -498,7 +592,11 @@ impl Evaluator<'_> {
     {
         match bitcast(self.alloc, ty, value) {
             Ok(answer) => Ok(Answer::Value(Value::answered(answer, Size::ONE))),
-            Err(error) => self.refused_bitcast(token, &error, slice::from_ref(value)),
+            Err(error) => {
+                let answer = self.refused_bitcast(token, &error, slice::from_ref(value));
+                drop(error);
+                answer
+            }
         }
     }
 
@@ -513,10 +611,7 @@ impl Evaluator<'_> {
     {
         match error {
             Error::ConvOverflow(number, Type::U32) => {
-                let number = *number;
-                let mut text = String::new(self.alloc);
-                write!(text, "{number} is no u32: bitcast<u32>({number}); ")?;
-                text.push_str("the standard takes it as an i32 first (WGSL: bitcast)")?;
+                let text = no_u32(self.alloc, *number)?;
                 Ok(self.wrong(token, Guard::Guarded, text))
             }
             _ => self.refused_call(token, error, values),
@@ -537,6 +632,14 @@ impl Evaluator<'_> {
         write!(text, "{word} takes {wanted} values, and {given} are given")?;
         Ok(self.wrong(token, Guard::Never, text))
     }
+}
+
+// What is told of a number whose bits are asked for as those of a u32.
+fn no_u32(alloc: Global, number: LiteralInstance) -> Result<String, AllocError> {
+    let mut text = String::new(alloc);
+    write!(text, "{number} is no u32: bitcast<u32>({number}); ")?;
+    text.push_str("the standard takes it as an i32 first (WGSL: bitcast)")?;
+    Ok(text)
 }
 
 // What a function needs that is none of integers.

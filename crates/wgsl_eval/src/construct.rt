@@ -1,7 +1,7 @@
 //! Values that are made of others (WGSL: value constructor built-in functions; zero value built-in
 //! functions).
 
-ghost use Rattle.std.specs.Prelude.{◌≡◌, ◌*◌, IfOk, IfSome, Some, length, map, option_map};
+ghost use Rattle.std.specs.Prelude.{◌≡◌, ◌*◌, [], None, IfOk, IfSome, Some, length, map, option_map};
 ghost use Rattle.wgsl_apply.specs.Zeros.{zero_of};
 ghost use Rattle.wgsl_eval.specs.Answers.{AreAnswers, AreSound, IsAnswer, IsFault, IsMade};
 ghost use Rattle.wgsl_eval.specs.Calls.{AreConverted, IsForValues};
@@ -27,6 +27,7 @@ ghost use Rattle.wgsl_eval.specs.Constructors.{
   scalars_of,
   structure_made,
   vector_made,
+  vector_of,
 };
 ghost use Rattle.wgsl_eval.specs.Evaluators.{setting_of};
 ghost use Rattle.wgsl_eval.specs.Lists.{each_of};
@@ -170,13 +171,22 @@ impl Evaluator<'_> {
             Scalars::Other(answer) => return Ok(answer),
         };
         let conversion = Conversion::of(values);
-        match self.converted_scalars(token, components.as_slice(), scalar, conversion)? {
-            Scalars::Of(converted) => {
-                let vector = vector_of(self.alloc, converted.as_slice())?;
-                self.made_answer(token, vector, Size::ONE)
-            }
+        let converted = self.converted_scalars(token, components.as_slice(), scalar, conversion);
+        drop(components);
+        match converted? {
+            Scalars::Of(converted) => self.vector_of(token, converted.as_slice()),
             Scalars::Other(answer) => Ok(answer),
         }
+    }
+
+    // The vector of the scalars.
+    #[tactic(auto, using(crate::proofs::Answered::answered_steps))]
+    fn vector_of(&self, token: usize, scalars: &[LiteralInstance]) -> Result<Answer, AllocError>
+        ensures value { IfOk result (MayBe (Some (vector_of (map value_of_literal scalars.now)))) }
+        ensures answer { IfOk result IsAnswer }
+    {
+        let vector = vector_of(self.alloc, scalars)?;
+        self.made_answer(token, vector, Size::ONE)
     }
 
     // As many components as the vector has.
@@ -185,8 +195,7 @@ impl Evaluator<'_> {
     {
         let n = usize::from(n);
         let Some(components) = components_of(self.alloc, n, values)? else {
-            let answer = self.wrong_text(token, "a vector is made of scalars and vectors")?;
-            return Ok(Scalars::Other(answer));
+            return self.no_scalars(token, "a vector is made of scalars and vectors");
         };
         if components.len() == n {
             Ok(Scalars::Of(components))
@@ -213,7 +222,9 @@ impl Evaluator<'_> {
             Scalars::Other(answer) => return Ok(answer),
         };
         let conversion = Conversion::Automatic;
-        match self.converted_scalars(token, scalars.as_slice(), scalar, conversion)? {
+        let converted = self.converted_scalars(token, scalars.as_slice(), scalar, conversion);
+        drop(scalars);
+        match converted? {
             Scalars::Of(converted) => self.matrix_of(token, columns, rows, converted.as_slice()),
             Scalars::Other(answer) => Ok(answer),
         }
@@ -235,11 +246,19 @@ impl Evaluator<'_> {
             Some(scalars) if is_made_of && scalars.len() == columns * rows => {
                 Ok(Scalars::Of(scalars))
             }
-            _ => {
-                let text = "a matrix is made of its columns or of its scalars";
-                Ok(Scalars::Other(self.wrong_text(token, text)?))
+            other => {
+                drop(other);
+                self.no_scalars(token, "a matrix is made of its columns or of its scalars")
             }
         }
+    }
+
+    // A fault in the place of scalars.
+    fn no_scalars(&self, token: usize, text: &str) -> Result<Scalars, AllocError>
+        ensures { IfOk result (AreScalars None) }
+    {
+        let answer = self.wrong_text(token, text)?;
+        Ok(Scalars::Other(answer))
     }
 
     // The matrix of the scalars of its columns, one after the other.
@@ -298,12 +317,25 @@ impl Evaluator<'_> {
             match automatic(self.alloc, value, ty)? {
                 Some(element) => converted.push(element)?,
                 None => {
-                    let answer = self.not_converted(token, value, ty)?;
-                    return Ok(Arguments::Other(answer));
+                    drop(converted);
+                    return self.unconverted(token, value, ty);
                 }
             }
         }
         Ok(Arguments::Values(converted, Size::ONE))
+    }
+
+    // What a value that is none of the type leaves.
+    fn unconverted(
+        &self,
+        token: usize,
+        value: &Instance,
+        ty: &Type,
+    ) -> Result<Arguments, AllocError>
+        ensures { IfOk result (AreConverted None) }
+    {
+        let answer = self.not_converted(token, value, ty)?;
+        Ok(Arguments::Other(answer))
     }
 
     #[tactic(auto, using(crate::proofs::Answered::answered_steps))]
@@ -346,8 +378,8 @@ impl Evaluator<'_> {
             match automatic(self.alloc, value, ty)? {
                 Some(member) => converted.push(member)?,
                 None => {
-                    let answer = self.not_converted(token, value, ty)?;
-                    return Ok(Arguments::Other(answer));
+                    drop(converted);
+                    return self.unconverted(token, value, ty);
                 }
             }
         }
@@ -411,20 +443,30 @@ impl Evaluator<'_> {
         ensures answer { IfOk result IsAnswer }
     {
         if values.is_empty() {
-            let ty = Type::Vec(n, Box::new(self.alloc, Type::AbstractInt)?);
-            return self.made_answer(token, zero(self.alloc, &ty)?, Size::ONE);
+            return self.zero_vector(token, n);
         }
         let components = match self.components(token, n, values)? {
             Scalars::Of(components) => components,
             Scalars::Other(answer) => return Ok(answer),
         };
-        match convert_all(self.alloc, components.as_slice())? {
-            Some(components) => {
-                let vector = vector_of(self.alloc, components.as_slice())?;
-                self.made_answer(token, vector, Size::ONE)
-            }
+        let common = convert_all(self.alloc, components.as_slice());
+        drop(components);
+        match common? {
+            Some(common) => self.vector_of(token, common.as_slice()),
             None => self.no_common(token),
         }
+    }
+
+    // The vector of so many zeros, which are abstract.
+    #[tactic(auto, using(crate::proofs::Answered::answered_steps))]
+    fn zero_vector(&self, token: usize, n: u8) -> Result<Answer, AllocError>
+        ensures value { IfOk result (MayBe (common_vector n [])) }
+        ensures answer { IfOk result IsAnswer }
+    {
+        let ty = Type::Vec(n, Box::new(self.alloc, Type::AbstractInt)?);
+        let vector = zero(self.alloc, &ty);
+        drop(ty);
+        self.made_answer(token, vector?, Size::ONE)
     }
 
     #[tactic(auto, using(crate::proofs::Answered::answered_steps))]
@@ -444,8 +486,10 @@ impl Evaluator<'_> {
             Scalars::Of(scalars) => scalars,
             Scalars::Other(answer) => return Ok(answer),
         };
-        match convert_all(self.alloc, scalars.as_slice())? {
-            Some(scalars) => self.common_matrix(token, columns, rows, scalars.as_slice()),
+        let common = convert_all(self.alloc, scalars.as_slice());
+        drop(scalars);
+        match common? {
+            Some(common) => self.common_matrix(token, columns, rows, common.as_slice()),
             None => self.no_common(token),
         }
     }

@@ -27,6 +27,23 @@ impl Evaluator<'_> {
         ensures converted { IfOk result (IsConverted (val_of value.instance) (type_view of.now.ty)) }
         ensures answer { IfOk result IsAnswer }
     {
+        let answer = self.converted_of(token, &value, of);
+        drop(value);
+        answer
+    }
+
+    // A copy of the value in a type to which it converts by itself.
+    fn converted_of(
+        &mut self,
+        token: usize,
+        value: &Value,
+        of: &SizedType,
+    ) -> Result<Answer, AllocError>
+        requires { IsSoundValue value.now }
+        ensures keeps { setting_of self.new ≡ setting_of self.old }
+        ensures converted { IfOk result (IsConverted (val_of value.now.instance) (type_view of.now.ty)) }
+        ensures answer { IfOk result IsAnswer }
+    {
         if of.has_float {
             return Ok(self.skipped(token, Need::Float));
         }

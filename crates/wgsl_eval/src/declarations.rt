@@ -140,12 +140,18 @@ fn item_of(
 {
     let token = reading.name(number);
     let Extent { start, end } = reading.extent(token);
-    Ok(Item {
-        name: String::from_str(alloc, reading.word(token))?,
-        start,
-        end,
-        kind: kind_of(reading.declared(number), meaning),
-    })
+    match String::from_str(alloc, reading.word(token)) {
+        Ok(name) => Ok(Item {
+            name,
+            start,
+            end,
+            kind: kind_of(reading.declared(number), meaning),
+        }),
+        Err(error) => {
+            drop(meaning);
+            Err(error)
+        }
+    }
 }
 
 fn kind_of(declared: Option<Declared>, meaning: Answer) -> ItemKind

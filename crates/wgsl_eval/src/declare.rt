@@ -1,8 +1,9 @@
 //! Gives declarations their meanings (WGSL: value declarations; type aliases).
 
-ghost use Rattle.std.specs.Prelude.{◌≡◌, ◌≢◌, ◌<◌, ◌↔◌, IfOk, IfSome, IsSomeAnd, IsTrue, MatchBool, OnErr, OnOk, Some, slice_get, vec_len};
+ghost use Rattle.std.specs.Prelude.{◌≡◌, ◌≢◌, ◌<◌, ◌↔◌, IfOk, IfSome, IsSomeAnd, IsTrue, List, MatchBool, OnErr, OnOk, Some, slice_get, vec_len};
 ghost use Rattle.wgsl_rules.specs.Converted.{converted};
 ghost use Rattle.wgsl_rules.specs.Values.{IsStorable, type_of};
+ghost use Rattle.wgsl_rules.specs.View.{type_view};
 ghost use Rattle.wgsl_scalar.specs.Literals.{literal_of};
 ghost use Rattle.wgsl_values.specs.View.{value_of};
 ghost use Rattle.wgsl_eval.specs.Answers.{AreAnswers, IsAnswer, IsFault, IsNoType, IsSoundValue, IsValueWith, meaning_at};
@@ -18,9 +19,10 @@ use crate::given::given_for;
 use crate::message::Message;
 use crate::sized::SizedType;
 use std::alloc::AllocError;
+use std::mem;
 use wgsl_apply::{automatic, concrete};
 use wgsl_source::{Declared, Span};
-use wgsl_types::{Instance, LiteralInstance, ShaderStage, Ty};
+use wgsl_types::{Instance, LiteralInstance, ShaderStage, Ty, Type};
 
 impl Evaluator<'_> {
     /// Gives one declaration its meaning, those that it names having theirs.
@@ -33,9 +35,23 @@ impl Evaluator<'_> {
             return Ok(());
         }
         let meaning = self.meaning_of(number)?;
-        let others = self.faults_beside(number, &meaning)?;
-        self.tell_all(others)?;
-        self.set_meaning(number, meaning)
+        match self.tell_beside(number, &meaning) {
+            Ok(()) => self.set_meaning(number, meaning),
+            Err(error) => {
+                drop(meaning);
+                Err(error)
+            }
+        }
+    }
+
+    // Tells the faults beside the meaning.
+    fn tell_beside(&mut self, number: usize, meaning: &Answer) -> Result<(), AllocError>
+        requires { AreAnswers self.old.meanings.items }
+        ensures told { OnOk result ((others : List Message) × AreOthers (setting_of self.old) (slice_get self.old.reading.now.declared number) meaning.now others × (setting_of self.new ≡ with_all (setting_of self.old) others)) }
+        ensures meanings { self.new.meanings.items ≡ self.old.meanings.items }
+    {
+        let others = self.faults_beside(number, meaning)?;
+        self.tell_all(others)
     }
 
     // The faults of the members of a structure that has none of a type, but for the one that its meaning is.
@@ -108,6 +124,7 @@ impl Evaluator<'_> {
     {
         let meaning = self.told(meaning)?;
         if number >= self.meanings.len() {
+            drop(meaning);
             return Ok(());
         }
         self.put(number, meaning);
@@ -138,7 +155,7 @@ impl Evaluator<'_> {
         ensures put { setting_of self.new ≡ with_meaning (setting_of self.old) number meaning }
         ensures answers { AreAnswers self.new.meanings.items }
     {
-        self.meanings[number] = meaning;
+        drop(mem::replace(&mut self.meanings[number], meaning));
     }
 
     fn constant(&mut self, ty: Option<Span>, value: Span) -> Result<Answer, AllocError>
@@ -166,10 +183,19 @@ impl Evaluator<'_> {
         ensures found { IfOk result (IsBesideType (setting_of self.old) ty answer) }
         ensures answer { IfOk result IsAnswer }
     {
-        let found = self.expression(ty)?;
-        match found {
-            Answer::Type(_) => Ok(answer),
-            other => self.no_type(ty.token, other),
+        match self.expression(ty) {
+            Ok(Answer::Type(of)) => {
+                drop(of);
+                Ok(answer)
+            }
+            Ok(other) => {
+                drop(answer);
+                self.no_type(ty.token, other)
+            }
+            Err(error) => {
+                drop(answer);
+                Err(error)
+            }
         }
     }
 
@@ -181,10 +207,20 @@ impl Evaluator<'_> {
         ensures found { IfOk result (IsTypedBy (setting_of self.old) ty (value_of value.instance)) }
         ensures answer { IfOk result IsAnswer }
     {
-        let answer = self.expression(ty)?;
-        match answer {
-            Answer::Type(of) => self.converted(token, value, &of),
-            other => self.no_type(ty.token, other),
+        match self.expression(ty) {
+            Ok(Answer::Type(of)) => {
+                let answer = self.converted(token, value, &of);
+                drop(of);
+                answer
+            }
+            Ok(other) => {
+                drop(value);
+                self.no_type(ty.token, other)
+            }
+            Err(error) => {
+                drop(value);
+                Err(error)
+            }
         }
     }
 
@@ -222,7 +258,10 @@ impl Evaluator<'_> {
         match own {
             Answer::Wrong(message, guard) => Answer::Wrong(message, guard),
             Answer::Faulty => Answer::Faulty,
-            _ => self.skipped(name, Need::Override),
+            other => {
+                drop(other);
+                self.skipped(name, Need::Override)
+            }
         }
     }
 
@@ -297,7 +336,11 @@ impl Evaluator<'_> {
         };
         let own = self.own_value(None, span)?;
         match own {
-            Answer::Value(own) => self.in_type_of(name, given, &own.instance),
+            Answer::Value(own) => {
+                let answer = self.in_type_of(name, given, &own.instance);
+                drop(own);
+                answer
+            }
             other => Ok(other),
         }
     }
@@ -314,16 +357,38 @@ impl Evaluator<'_> {
         ensures answer { IfOk result IsAnswer }
     {
         let ty = own.ty(self.alloc)?;
-        let Value { instance, size } = Value::literal(given);
-        match automatic(self.alloc, &instance, &ty)? {
+        let value = Value::literal(given);
+        let answer = self.in_type(name, &value, &ty);
+        drop(value);
+        drop(ty);
+        answer
+    }
+
+    fn in_type(&self, token: usize, value: &Value, ty: &Type) -> Result<Answer, AllocError>
+        requires { IsSoundValue value.now }
+        ensures converted { IfOk result (IsValueWith (λ x. converted (value_of value.now.instance) (type_view ty.now) ≡ Some x)) }
+        ensures answer { IfOk result IsAnswer }
+    {
+        let size = value.size;
+        match automatic(self.alloc, &value.instance, ty)? {
             Some(instance) => Ok(Answer::Value(Value { instance, size })),
-            None => self.not_converted(name, &instance, &ty),
+            None => self.not_converted(token, &value.instance, ty),
         }
     }
 
     fn concretized(&self, token: usize, value: Value) -> Result<Answer, AllocError>
         requires { IsSoundValue value }
         ensures concrete { IfOk result (IsConcreteValue (value_of value.instance)) }
+        ensures answer { IfOk result IsAnswer }
+    {
+        let answer = self.concrete_of(token, &value);
+        drop(value);
+        answer
+    }
+
+    fn concrete_of(&self, token: usize, value: &Value) -> Result<Answer, AllocError>
+        requires { IsSoundValue value.now }
+        ensures concrete { IfOk result (IsConcreteValue (value_of value.now.instance)) }
         ensures answer { IfOk result IsAnswer }
     {
         match concrete(self.alloc, &value.instance)? {
@@ -354,11 +419,12 @@ impl Evaluator<'_> {
         ensures none { IfOk result (IsNoType answer) }
         ensures answer { IfOk result IsAnswer }
     {
-        match answer {
+        match &answer {
             Answer::Value(_) | Answer::Bitcast(_) | Answer::Variable(_) => {
+                drop(answer);
                 self.wrong_text(token, "this is no type")
             }
-            other => Ok(other),
+            _ => Ok(answer),
         }
     }
 
@@ -368,6 +434,7 @@ impl Evaluator<'_> {
         ensures answer { IfOk result IsAnswer }
     {
         if of.is_too_large() {
+            drop(of);
             let text = String::from_str(self.alloc, "this type has too many parts")?;
             return Ok(self.wrong(token, Guard::Never, text));
         }

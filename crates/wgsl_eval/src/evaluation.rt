@@ -169,6 +169,8 @@ fn add_value(
             token,
             outcome: outcome_of(meaning),
         })?;
+    } else {
+        drop(meaning);
     }
     Ok(())
 }
@@ -225,6 +227,9 @@ fn outcome_of(meaning: Answer) -> Outcome
     match meaning {
         Answer::Value(value) => Outcome::Value(value.instance),
         Answer::Skipped(skip) => Outcome::Skipped(skip),
-        _ => Outcome::Faulty,
+        other => {
+            drop(other);
+            Outcome::Faulty
+        }
     }
 }

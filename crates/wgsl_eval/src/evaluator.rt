@@ -198,12 +198,18 @@ impl Evaluator<'_> {
         let Some(against) = against else {
             return Ok(Answer::Value(value));
         };
-        let text = String::from_str(self.alloc, against)?;
         if self.is_strict {
+            drop(value);
+            let text = String::from_str(self.alloc, against)?;
             return Ok(self.wrong(token, Guard::Guarded, text));
         }
-        self.messages.add_warning(self.reading.extent(token), text)?;
-        Ok(Answer::Value(value))
+        match self.warn(token, against) {
+            Ok(()) => Ok(Answer::Value(value)),
+            Err(error) => {
+                drop(value);
+                Err(error)
+            }
+        }
     }
 
     /// An answer that WGSL does not have: it stays with a warning, or is a fault of types where the standard is to be
@@ -221,13 +227,25 @@ impl Evaluator<'_> {
     {
         match (self.dialect, self.is_strict) {
             (Dialect::Crate, _) => Ok(answer),
-            (Dialect::Wgsl, true) => self.wrong_text(token, text),
-            (Dialect::Wgsl, false) => {
-                let text = String::from_str(self.alloc, text)?;
-                self.messages.add_warning(self.reading.extent(token), text)?;
-                Ok(answer)
+            (Dialect::Wgsl, true) => {
+                drop(answer);
+                self.wrong_text(token, text)
             }
+            (Dialect::Wgsl, false) => match self.warn(token, text) {
+                Ok(()) => Ok(answer),
+                Err(error) => {
+                    drop(answer);
+                    Err(error)
+                }
+            },
         }
+    }
+
+    fn warn(&mut self, token: usize, text: &str) -> Result<(), AllocError>
+        ensures { setting_of self.new ≡ setting_of self.old }
+    {
+        let text = String::from_str(self.alloc, text)?;
+        self.messages.add_warning(self.reading.extent(token), text)
     }
 
     /// Whether so much more may be made.
@@ -259,10 +277,14 @@ impl Evaluator<'_> {
         ensures answer { IfOk result IsAnswer }
     {
         match answer {
-            Answer::Type(_) | Answer::Bitcast(_) => {
+            Answer::Type(of) | Answer::Bitcast(of) => {
+                drop(of);
                 self.wrong_text(token, "a type stands where a value belongs")
             }
-            Answer::Variable(_) => Ok(self.skipped(token, Need::Variable)),
+            Answer::Variable(variable) => {
+                drop(variable);
+                Ok(self.skipped(token, Need::Variable))
+            }
             other => Ok(other),
         }
     }

@@ -1,7 +1,7 @@
 //! The scalars of values, and what they are in other types (WGSL: value constructor built-in
 //! functions).
 
-ghost use Rattle.std.specs.Prelude.{◌≡◌, ◌≢◌, ◌∷◌, ◌++◌, ◌↔◌, [], ℕ, IfOk, IfSome, IsTrue, MatchOption, length, map, option_map};
+ghost use Rattle.std.specs.Prelude.{◌≡◌, ◌≢◌, ◌∷◌, ◌++◌, ◌↔◌, [], ℕ, None, IfOk, IfSome, IsTrue, MatchOption, length, map, option_map};
 ghost use Rattle.wgsl_eval.specs.Constructors.{
   AreScalars,
   columns_of,
@@ -93,12 +93,27 @@ impl Evaluator<'_> {
             match conversion.scalar(*literal, ty) {
                 Some(literal) => converted.push(literal)?,
                 None => {
-                    let answer = self.not_converted(token, &Instance::from(*literal), ty)?;
-                    return Ok(Scalars::Other(answer));
+                    drop(converted);
+                    return self.unconverted_scalar(token, *literal, ty);
                 }
             }
         }
         Ok(Scalars::Of(converted))
+    }
+
+    // What a scalar that is none of the type leaves.
+    fn unconverted_scalar(
+        &self,
+        token: usize,
+        literal: LiteralInstance,
+        ty: &Type,
+    ) -> Result<Scalars, AllocError>
+        ensures { IfOk result (AreScalars None) }
+    {
+        let value = Instance::from(literal);
+        let answer = self.not_converted(token, &value, ty);
+        drop(value);
+        Ok(Scalars::Other(answer?))
     }
 }
 

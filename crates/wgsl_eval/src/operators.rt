@@ -25,6 +25,7 @@ impl Evaluator<'_> {
         ensures answer { IfOk result IsAnswer }
     {
         if self.reading.is_refused(token) {
+            drop(operand);
             return Ok(Answer::Faulty);
         }
         match operand {
@@ -42,9 +43,28 @@ impl Evaluator<'_> {
         ensures given { IfOk result (IsOfValue operator (val_of value.instance)) }
         ensures answer { IfOk result IsAnswer }
     {
+        let answer = self.of_operand(operator, token, &value);
+        drop(value);
+        answer
+    }
+
+    // The operator before an operand that is lent.
+    fn of_operand(
+        &self,
+        operator: UnaryOperator,
+        token: usize,
+        value: &Value,
+    ) -> Result<Answer, AllocError>
+        ensures given { IfOk result (IsOfValue operator (val_of value.now.instance)) }
+        ensures answer { IfOk result IsAnswer }
+    {
         match wgsl_apply::unary(self.alloc, operator, &value.instance) {
             Ok(answer) => Ok(Answer::Value(Value::answered(answer, value.size))),
-            Err(error) => self.refused(token, &error, Asked::Unary(operator, &value.instance)),
+            Err(error) => {
+                let answer = self.refused(token, &error, Asked::Unary(operator, &value.instance));
+                drop(error);
+                answer
+            }
         }
     }
 
@@ -62,11 +82,16 @@ impl Evaluator<'_> {
         ensures answer { IfOk result IsAnswer }
     {
         if self.reading.is_refused(token) {
+            drop(left);
+            drop(right);
             return Ok(Answer::Faulty);
         }
         match left {
             Answer::Value(left) => self.binary_with(operator, token, left, right),
-            other => self.unready(token, other),
+            other => {
+                drop(right);
+                self.unready(token, other)
+            }
         }
     }
 
@@ -87,9 +112,13 @@ impl Evaluator<'_> {
         match right {
             Answer::Value(right) => self.of_two(operator, token, left, right),
             Answer::Wrong(message, Guard::Guarded) if is_decided(operator, &left.instance) => {
+                drop(message);
                 Ok(Answer::Value(left))
             }
-            other => self.unready(token, other),
+            other => {
+                drop(left);
+                self.unready(token, other)
+            }
         }
     }
 
@@ -104,6 +133,24 @@ impl Evaluator<'_> {
         ensures given { IfOk result (IsOfValues self.old.stage self.old.is_strict operator (val_of left.instance) (val_of right.instance)) }
         ensures answer { IfOk result IsAnswer }
     {
+        let answer = self.of_operands(operator, token, &left, &right);
+        drop(left);
+        drop(right);
+        answer
+    }
+
+    // The operator between operands that are lent.
+    fn of_operands(
+        &mut self,
+        operator: BinaryOperator,
+        token: usize,
+        left: &Value,
+        right: &Value,
+    ) -> Result<Answer, AllocError>
+        ensures keeps { setting_of self.new ≡ setting_of self.old }
+        ensures given { IfOk result (IsOfValues self.old.stage self.old.is_strict operator (val_of left.now.instance) (val_of right.now.instance)) }
+        ensures answer { IfOk result IsAnswer }
+    {
         let (a, b) = (&left.instance, &right.instance);
         match wgsl_apply::binary(self.alloc, operator, self.stage, a, b) {
             Ok(answer) => {
@@ -111,7 +158,11 @@ impl Evaluator<'_> {
                 let against = against_operator(operator, self.stage, a, b);
                 self.judged(token, value, against)
             }
-            Err(error) => self.refused(token, &error, Asked::Binary(operator, a, b)),
+            Err(error) => {
+                let answer = self.refused(token, &error, Asked::Binary(operator, a, b));
+                drop(error);
+                answer
+            }
         }
     }
 }

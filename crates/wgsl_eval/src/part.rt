@@ -47,8 +47,11 @@ impl Evaluator<'_> {
         ensures answer { IfOk result IsAnswer }
     {
         if has_value(&whole) {
-            self.index_of(token, &whole, index)
+            let answer = self.index_of(token, &whole, index);
+            drop(whole);
+            answer
         } else {
+            drop(index);
             self.unready(token, whole)
         }
     }
@@ -66,7 +69,11 @@ impl Evaluator<'_> {
         ensures answer { IfOk result IsAnswer }
     {
         match index {
-            Answer::Value(index) => self.element(token, whole, &index.instance),
+            Answer::Value(index) => {
+                let answer = self.element(token, whole, &index.instance);
+                drop(index);
+                answer
+            }
             other => self.unready(token, other),
         }
     }
@@ -150,7 +157,11 @@ impl Evaluator<'_> {
     {
         match whole.view(self.alloc, view) {
             Ok(part) => part_answer(self.alloc, part, size),
-            Err(error) => self.refused(token, &error, Asked::Part),
+            Err(error) => {
+                let answer = self.refused(token, &error, Asked::Part);
+                drop(error);
+                answer
+            }
         }
     }
 
@@ -162,7 +173,9 @@ impl Evaluator<'_> {
         ensures answer { IfOk result IsAnswer }
     {
         if has_value(&whole) {
-            self.member_of(token, &whole)
+            let answer = self.member_of(token, &whole);
+            drop(whole);
+            answer
         } else {
             self.unready(token, whole)
         }

@@ -48,9 +48,16 @@ impl Evaluator<'_> {
     {
         self.keep_last(answers)?;
         let right = popped_waiting(answers);
-        self.keep_last(answers)?;
-        let left = popped_waiting(answers);
-        self.binary(operator, token, left, right)
+        match self.keep_last(answers) {
+            Ok(()) => {
+                let left = popped_waiting(answers);
+                self.binary(operator, token, left, right)
+            }
+            Err(error) => {
+                drop(right);
+                Err(error)
+            }
+        }
     }
 
     /// The step of a template list.

@@ -1,13 +1,16 @@
 //! The types of structures (WGSL: structure types).
 
 ghost use Rattle.std.specs.Prelude.{◌≡◌, ◌++◌, IfOk, OnOk, map};
+ghost use Rattle.std.specs.Int.{is_power_of_two};
+ghost use Rattle.wgsl_rules.specs.Layout.{is_at_least};
+ghost use Rattle.wgsl_rules.specs.Size.{size_of};
 ghost use Rattle.wgsl_rules.specs.View.{fields_of, member_view, type_view};
 ghost use Rattle.wgsl_source.specs.Readings.{word_at};
 ghost use Rattle.wgsl_eval.specs.Answers.{AreAnswers, IsAnswer};
 ghost use Rattle.wgsl_eval.specs.Evaluators.{setting_of};
 ghost use Rattle.wgsl_eval.specs.Messages.{fault_in};
 ghost use Rattle.wgsl_eval.specs.Reasons.{have_floats};
-ghost use Rattle.wgsl_eval.specs.Structures.{AreFaultsOf, IsFoundMember, IsFoundNumber, IsStructure, IsStructureOf, IsTypeFound, fault_of};
+ghost use Rattle.wgsl_eval.specs.Structures.{AreFaultsOf, IsFoundMember, IsFoundNumber, IsNumberGiven, IsStructure, IsStructureOf, IsTypeFound, fault_of};
 
 use crate::answer::Answer;
 use crate::attribute::{Attribute, Use};
@@ -142,22 +145,59 @@ impl Evaluator<'_> {
         ensures keeps { setting_of self.new ≡ setting_of self.old }
         ensures found { IfOk result (IsFoundMember (setting_of self.old) field) }
     {
-        let size = match self.attribute(field.size, Use::Size(&of.ty))? {
-            Attribute::Number(number) => number,
-            Attribute::Other(answer) => return Ok(FoundMember::Other(answer)),
+        let size = match self.attribute(field.size, Use::Size(&of.ty)) {
+            Ok(Attribute::Number(number)) => number,
+            Ok(Attribute::Other(answer)) => {
+                drop(of);
+                return Ok(FoundMember::Other(answer));
+            }
+            Err(error) => {
+                drop(of);
+                return Err(error);
+            }
         };
-        let align = match self.attribute(field.align, Use::Align)? {
-            Attribute::Number(number) => number,
-            Attribute::Other(answer) => return Ok(FoundMember::Other(answer)),
+        let align = match self.attribute(field.align, Use::Align) {
+            Ok(Attribute::Number(number)) => number,
+            Ok(Attribute::Other(answer)) => {
+                drop(of);
+                return Ok(FoundMember::Other(answer));
+            }
+            Err(error) => {
+                drop(of);
+                return Err(error);
+            }
         };
+        self.member_with(field, of, size, align)
+    }
+
+    // A member of the type with these attributes.
+    fn member_with(
+        &self,
+        field: Field,
+        of: SizedType,
+        size: Option<u32>,
+        align: Option<u32>,
+    ) -> Result<FoundMember, AllocError>
+        requires found { IsTypeFound (setting_of self.now) field.ty (type_view of.ty) }
+        requires size { IsNumberGiven (setting_of self.now) field.size (λ n. is_at_least n (size_of (type_view of.ty))) size }
+        requires align { IsNumberGiven (setting_of self.now) field.align is_power_of_two align }
+        ensures { IfOk result (IsFoundMember (setting_of self.now) field) }
+    {
         let together = Together {
             nodes: of.nodes,
             size: of.size,
             has_float: of.has_float,
             is_aligned: of.is_aligned && is_aligned(align, &of.ty),
         };
+        let name = match String::from_str(self.alloc, self.reading.word(field.name)) {
+            Ok(name) => name,
+            Err(error) => {
+                drop(of);
+                return Err(error);
+            }
+        };
         let member = StructMemberType {
-            name: String::from_str(self.alloc, self.reading.word(field.name))?,
+            name,
             ty: of.ty,
             size,
             align,
@@ -185,8 +225,19 @@ fn add_wrong(answer: Answer, faults: &mut Vec<Message>) -> Result<(), AllocError
             faults.push(message)?;
             Ok(())
         }
-        Answer::Value(_) | Answer::Named(_) | Answer::Type(_) | Answer::Bitcast(_) => Ok(()),
-        Answer::Variable(_) | Answer::Skipped(_) | Answer::Faulty => Ok(()),
+        Answer::Value(value) => {
+            drop(value);
+            Ok(())
+        }
+        Answer::Type(ty) | Answer::Bitcast(ty) => {
+            drop(ty);
+            Ok(())
+        }
+        Answer::Variable(variable) => {
+            drop(variable);
+            Ok(())
+        }
+        Answer::Named(_) | Answer::Skipped(_) | Answer::Faulty => Ok(()),
     }
 }
 

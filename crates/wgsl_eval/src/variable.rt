@@ -67,15 +67,46 @@ impl Evaluator<'_> {
         ensures answer { IfOk result IsAnswer }
     {
         if declared.space == Some(AddressSpace::Storage) && !of.is_aligned {
+            drop(of);
             return self.wrong_text(span.token, "a member needs another alignment");
         }
-        let group = match self.binding_number(declared.group)? {
-            Attribute::Number(number) => number,
-            Attribute::Other(answer) => return Ok(answer),
+        self.aligned_variable(declared, span, of)
+    }
+
+    fn aligned_variable(
+        &mut self,
+        declared: DeclaredVariable,
+        span: Span,
+        of: SizedType,
+    ) -> Result<Answer, AllocError>
+        requires meanings { AreAnswers self.old.meanings.items }
+        requires ty { declared.ty ≡ Some span }
+        requires found { IsTypeFound (setting_of self.old) span (type_view of.ty) }
+        ensures keeps { setting_of self.new ≡ setting_of self.old }
+        ensures variable { IfOk result (IsVariable (setting_of self.old) declared) }
+        ensures answer { IfOk result IsAnswer }
+    {
+        let group = match self.binding_number(declared.group) {
+            Ok(Attribute::Number(number)) => number,
+            Ok(Attribute::Other(answer)) => {
+                drop(of);
+                return Ok(answer);
+            }
+            Err(error) => {
+                drop(of);
+                return Err(error);
+            }
         };
-        let binding = match self.binding_number(declared.binding)? {
-            Attribute::Number(number) => number,
-            Attribute::Other(answer) => return Ok(answer),
+        let binding = match self.binding_number(declared.binding) {
+            Ok(Attribute::Number(number)) => number,
+            Ok(Attribute::Other(answer)) => {
+                drop(of);
+                return Ok(answer);
+            }
+            Err(error) => {
+                drop(of);
+                return Err(error);
+            }
         };
         Ok(Answer::Variable(Variable {
             ty: of.ty,
@@ -93,9 +124,13 @@ impl Evaluator<'_> {
         ensures keeps { setting_of self.new ≡ setting_of self.old }
         ensures number { IfOk result (IsBindingNumber (setting_of self.old) span) }
     {
-        match self.attribute(span, Use::Binding)? {
-            Attribute::Other(Answer::Faulty) => Ok(Attribute::Number(None)),
-            other => Ok(other),
+        let attribute = self.attribute(span, Use::Binding)?;
+        match &attribute {
+            Attribute::Other(Answer::Faulty) => {
+                drop(attribute);
+                Ok(Attribute::Number(None))
+            }
+            _ => Ok(attribute),
         }
     }
 }

@@ -33,7 +33,8 @@ impl Evaluator<'_> {
         ensures left { OnOk result (AreWaiting self.now.meanings.items answers.new.items) }
     {
         let value = self.named_value(number).copy(self.alloc)?;
-        let _name = popped_waiting(answers);
+        let name = popped_waiting(answers);
+        drop(name);
         answers.push(Answer::Value(value))?;
         Ok(())
     }

@@ -6,8 +6,8 @@ use Rattle.wgsl_eval.specs.Waitings.{IsDone}
 use Rattle.wgsl_eval.proofs.WaitingSteps.{done_binary, if_both, taken_kept}
 use Rattle.wgsl_eval.proofs.evaluator.Evaluator.binary_step.Goals as goal
 
-pub returns-clause-done : goal.returns-clause-done
-returns-clause-done c =
+pub returns-in-Ok-clause-done : goal.returns-in-Ok-clause-done
+returns-in-Ok-clause-done c =
     let s = setting_of c.args.self.now in
     let old = c.args.answers.now.items in
     let between = c.popped_waiting-right.new.answers.items in
@@ -19,6 +19,6 @@ returns-clause-done c =
     let first = taken_kept s.meanings old c.keep_last.new.answers.items between right
     c.in_ok-keep_last.ensures.kept c.popped_waiting-right.ensures.last c.popped_waiting-right.ensures.left in
     let second = taken_kept s.meanings between c.keep_last-2.new.answers.items new left
-    c.in_ok-keep_last-2.ensures.kept c.popped_waiting-left.ensures.last c.popped_waiting-left.ensures.left in
+    c.in-Ok.ensures.kept c.popped_waiting-left.ensures.last c.popped_waiting-left.ensures.left in
     if_both c.binary.result (λ a. UnlessRefused s.source token a (IsOfTwo s op left right a)) IsAnswer (IsDone s (steps.Binary op token) old new)
     (λ a given sound. done_binary s old between new op token left right a first second given sound) c.binary.ensures.given c.binary.ensures.answer

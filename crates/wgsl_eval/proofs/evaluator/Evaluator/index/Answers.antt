@@ -4,4 +4,4 @@ use Rattle.wgsl_eval.proofs.evaluator.Evaluator.index.Goals as goal
 
 pub returns-then-has_value-clause-element : goal.returns-then-has_value-clause-element
 returns-then-has_value-clause-element c =
-    whole-given c.args.self.now.meanings.items c.args.whole (λ whole answer. IsElementOf whole c.args.index answer) c.index_of.result c.index_of.ensures.element
+    whole-given c.args.self.now.meanings.items c.args.whole (λ whole answer. IsElementOf whole c.args.index answer) c.index_of-answer.result c.index_of-answer.ensures.element

@@ -5,5 +5,5 @@ use Rattle.wgsl_eval.proofs.evaluator.Evaluator.member.Goals as goal
 
 pub returns-then-has_value-clause-member : goal.returns-then-has_value-clause-member
 returns-then-has_value-clause-member c =
-    whole-given c.args.self.now.meanings.items c.args.whole (IsMemberOf (word_at c.args.self.now.reading.now c.args.token)) c.member_of.result
-    c.member_of.ensures.member
+    whole-given c.args.self.now.meanings.items c.args.whole (IsMemberOf (word_at c.args.self.now.reading.now c.args.token)) c.member_of-answer.result
+    c.member_of-answer.ensures.member

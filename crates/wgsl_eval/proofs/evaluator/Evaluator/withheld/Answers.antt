@@ -22,8 +22,8 @@ skipped_for (answers.Skipped s) a not_wrong not_faulty h = h
 in_first : (b : Bool) (P Q : Type 0) → b ≡ true → P → MatchBool b P Q
 in_first b P Q is p = rw is p
 
-pub returns : goal.returns
-returns c = record {
+pub returns-in_default : goal.returns-in_default
+returns-in_default c = record {
   withheld =
       in_first _ _ _ (sym c.is_first.ensures ∙ c.if-not-is_first.false)
       (skipped_for c.args.own c.skipped.result c.in_default.not-Wrong c.in_default.not-Faulty c.skipped.ensures.skipped);
