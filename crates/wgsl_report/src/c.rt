@@ -12,6 +12,103 @@ use crate::table::{add_filled, add_runtime_size};
 use std::alloc::{AllocError, Global};
 use wgsl_rules::{StructType, Type};
 
+/// The words of C that no name may be.
+const WORDS_OF_C: [&str; 34] = [
+    "auto",
+    "char",
+    "double",
+    "enum",
+    "extern",
+    "float",
+    "goto",
+    "inline",
+    "int",
+    "long",
+    "register",
+    "restrict",
+    "short",
+    "signed",
+    "sizeof",
+    "static",
+    "typedef",
+    "union",
+    "unsigned",
+    "void",
+    "volatile",
+    "_Alignas",
+    "_Alignof",
+    "_Atomic",
+    "_Bool",
+    "_Complex",
+    "_Generic",
+    "_Imaginary",
+    "_Noreturn",
+    "_Static_assert",
+    "_Thread_local",
+    "bool",
+    "typeof",
+    "typeof_unqual",
+];
+
+/// Those that C++ has beside them.
+const WORDS_OF_CPP: [&str; 55] = [
+    "alignas",
+    "alignof",
+    "and",
+    "and_eq",
+    "asm",
+    "bitand",
+    "bitor",
+    "catch",
+    "class",
+    "compl",
+    "concept",
+    "consteval",
+    "constexpr",
+    "constinit",
+    "const_cast",
+    "decltype",
+    "delete",
+    "dynamic_cast",
+    "explicit",
+    "export",
+    "friend",
+    "mutable",
+    "namespace",
+    "new",
+    "noexcept",
+    "not",
+    "not_eq",
+    "nullptr",
+    "operator",
+    "or",
+    "or_eq",
+    "private",
+    "protected",
+    "public",
+    "reinterpret_cast",
+    "static_assert",
+    "static_cast",
+    "template",
+    "this",
+    "thread_local",
+    "throw",
+    "try",
+    "typeid",
+    "typename",
+    "using",
+    "virtual",
+    "wchar_t",
+    "char8_t",
+    "char16_t",
+    "char32_t",
+    "xor",
+    "xor_eq",
+    "co_await",
+    "co_return",
+    "co_yield",
+];
+
 /// A structure for each that is asked for, in this order of the declarations; what its compiler
 /// checks of it stands behind it.
 pub(crate) fn add_c(
@@ -34,31 +131,57 @@ pub(crate) fn add_c(
 }
 
 fn add_struct(alloc: Global, text: &mut String, ty: &StructType) -> Result<(), AllocError> {
+    match fields_of(alloc, ty)? {
+        Some(fields) => {
+            let added = add_struct_with(alloc, text, ty, fields.as_slice());
+            drop(fields);
+            added
+        }
+        None => {
+            let name = &ty.name;
+            writeln!(text, "// {name} has no layout")
+        }
+    }
+}
+
+fn add_struct_with(
+    alloc: Global,
+    text: &mut String,
+    ty: &StructType,
+    fields: &[HostField<'_>],
+) -> Result<(), AllocError> {
     let name = &ty.name;
-    let Some(fields) = fields_of(alloc, ty)? else {
-        return writeln!(text, "// {name} has no layout");
-    };
     if let Some(runtime) = runtime_member(alloc, ty)? {
         add_runtime(text, runtime, ty.align_of())?;
     }
     text.push_str("typedef struct ")?;
     add_type_name(text, name.as_str())?;
     text.push_str(" {\n")?;
-    let padding = padding_name(alloc, ty)?;
-    for (i, field) in fields.iter().enumerate() {
-        add_field(text, ty, field)?;
-        add_padding(text, padding.as_str(), i, field.behind)?;
-    }
+    add_fields(alloc, text, ty, fields)?;
     text.push_str("} ")?;
     add_type_name(text, name.as_str())?;
     text.push_str(";\n")?;
-    for field in &fields {
+    for field in fields {
         add_check(text, ty, field)?;
     }
     match ty.size_of() {
         Some(size) => add_size_check(text, name.as_str(), size),
         None => Ok(()),
     }
+}
+
+fn add_fields(
+    alloc: Global,
+    text: &mut String,
+    ty: &StructType,
+    fields: &[HostField<'_>],
+) -> Result<(), AllocError> {
+    let padding = padding_name(alloc, ty)?;
+    for (i, field) in fields.iter().enumerate() {
+        add_field(text, ty, field)?;
+        add_padding(text, padding.as_str(), i, field.behind)?;
+    }
+    Ok(())
 }
 
 fn add_size_check(text: &mut String, name: &str, size: u32) -> Result<(), AllocError> {
@@ -132,49 +255,7 @@ fn add_type_name(text: &mut String, name: &str) -> Result<(), AllocError> {
 }
 
 fn is_keyword(name: &str) -> bool {
-    is_word_of_c(name) || is_word_of_cpp(name)
-}
-
-fn is_word_of_c(name: &str) -> bool {
-    matches!(
-        name,
-        "auto" | "char" | "double" | "enum" | "extern" | "float" | "goto" | "inline"
-    ) || matches!(
-        name,
-        "int" | "long" | "register" | "restrict" | "short" | "signed" | "sizeof"
-    ) || matches!(
-        name,
-        "static" | "typedef" | "union" | "unsigned" | "void" | "volatile"
-    ) || matches!(
-        name,
-        "_Alignas" | "_Alignof" | "_Atomic" | "_Bool" | "_Complex" | "_Generic" | "_Imaginary"
-    ) || matches!(name, "_Noreturn" | "_Static_assert" | "_Thread_local")
-        || matches!(name, "bool" | "typeof" | "typeof_unqual")
-}
-
-fn is_word_of_cpp(name: &str) -> bool {
-    matches!(
-        name,
-        "alignas" | "alignof" | "and" | "and_eq" | "asm" | "bitand" | "bitor" | "catch" | "class"
-    ) || matches!(
-        name,
-        "compl" | "concept" | "consteval" | "constexpr" | "constinit" | "const_cast" | "decltype"
-    ) || matches!(
-        name,
-        "delete" | "dynamic_cast" | "explicit" | "export" | "friend" | "mutable" | "namespace"
-    ) || matches!(
-        name,
-        "new" | "noexcept" | "not" | "not_eq" | "nullptr" | "operator" | "or" | "or_eq"
-    ) || matches!(
-        name,
-        "private" | "protected" | "public" | "reinterpret_cast" | "static_assert" | "static_cast"
-    ) || matches!(
-        name,
-        "template" | "this" | "thread_local" | "throw" | "try" | "typeid" | "typename" | "using"
-    ) || matches!(
-        name,
-        "virtual" | "wchar_t" | "char8_t" | "char16_t" | "char32_t" | "xor" | "xor_eq"
-    ) || matches!(name, "co_await" | "co_return" | "co_yield")
+    WORDS_OF_C.iter().any(|word| *word == name) || WORDS_OF_CPP.iter().any(|word| *word == name)
 }
 
 // What the field is made of.

@@ -44,11 +44,23 @@ pub fn expression_value(
     request: &Request<'_>,
 ) -> Result<Report, AllocError> {
     let reading = Reading::of_expression(alloc, text)?;
+    let report = expression_in(alloc, text, &reading, request);
+    drop(reading);
+    report
+}
+
+// The same of an expression that is read.
+fn expression_in(
+    alloc: Global,
+    text: &str,
+    reading: &Reading<'_>,
+    request: &Request<'_>,
+) -> Result<Report, AllocError> {
     let Evaluation {
         values,
         mut messages,
         ..
-    } = evaluate_in(alloc, &reading, request.settings)?;
+    } = evaluate_in(alloc, reading, request.settings)?;
     let mut entries = Vec::new(alloc);
     for value in &values {
         add_skipped(
@@ -87,34 +99,63 @@ pub fn values_of(
     defined: &GivenValues<'_>,
 ) -> Result<Report, AllocError> {
     let reading = Reading::of_module(alloc, text)?;
+    let report = values_in(alloc, (file, text), &reading, request, defined);
+    drop(reading);
+    report
+}
+
+// The same of a module of this name and text that is read.
+fn values_in(
+    alloc: Global,
+    (file, text): (&str, &str),
+    reading: &Reading<'_>,
+    request: &Request<'_>,
+    defined: &GivenValues<'_>,
+) -> Result<Report, AllocError> {
     let settings = request.settings;
     let Values {
         given,
         messages: mut of_overrides,
-    } = values_for(alloc, text, &reading, defined, settings)?;
+    } = values_for(alloc, text, reading, defined, settings)?;
     let given = given.as_slice();
-    let (values, mut messages) = module_values(alloc, text, &reading, settings, given)?;
-    messages.append(&mut messages_of_numbers(alloc, text, &reading, settings, given)?)?;
+    let (values, mut messages) = module_values(alloc, text, reading, settings, given)?;
+    messages.append(&mut messages_of_numbers(alloc, text, reading, settings, given)?)?;
     messages.append(&mut of_overrides)?;
-    let mut entries = Vec::with_capacity(alloc, values.len())?;
-    for value in &values {
-        entries.push(Entry {
-            name: Some(reading.word(value.token)),
-            outcome: &value.outcome,
-        })?;
-    }
     let printed = Printed {
         file,
         text,
         format: request.format,
     };
+    report_of_values(
+        alloc,
+        printed,
+        reading,
+        values.as_slice(),
+        messages.as_slice(),
+    )
+}
+
+fn report_of_values(
+    alloc: Global,
+    printed: Printed<'_>,
+    reading: &Reading<'_>,
+    values: &[Evaluated],
+    messages: &[Message],
+) -> Result<Report, AllocError> {
+    let mut entries = Vec::with_capacity(alloc, values.len())?;
+    for value in values {
+        entries.push(Entry {
+            name: Some(reading.word(value.token)),
+            outcome: &value.outcome,
+        })?;
+    }
     report_of(
         alloc,
         printed,
-        text,
+        printed.text,
         entries.as_slice(),
         reading.faults(),
-        messages.as_slice(),
+        messages,
     )
 }
 
@@ -159,7 +200,26 @@ pub fn value_in_scope(
     defined: &GivenValues<'_>,
 ) -> Result<(Report, Report), AllocError> {
     let with = with_constant(alloc, module, expression)?;
-    let scoped = in_scope(alloc, module, &with, request.settings, defined)?;
+    let reports = match in_scope(alloc, module, &with, request.settings, defined) {
+        Ok(scoped) => {
+            let reports = reports_of(alloc, (file, module), (expression, &with), request, &scoped);
+            drop(scoped);
+            reports
+        }
+        Err(error) => Err(error),
+    };
+    drop(with);
+    reports
+}
+
+// What is told of a module of this name and text, and of the expression of which there is a constant behind it.
+fn reports_of(
+    alloc: Global,
+    (file, module): (&str, &str),
+    (expression, with): (&str, &WithConstant),
+    request: &Request<'_>,
+    scoped: &Scoped,
+) -> Result<(Report, Report), AllocError> {
     let told = Report::new(
         alloc,
         file,
@@ -167,6 +227,26 @@ pub fn value_in_scope(
         String::new(alloc),
         scoped.of_module.as_slice(),
     )?;
+    let printed = Printed {
+        file: EXPRESSION,
+        text: expression,
+        format: request.format,
+    };
+    match report_in_scope(alloc, printed, with.text.as_str(), scoped) {
+        Ok(value) => Ok((told, value)),
+        Err(error) => {
+            drop(told);
+            Err(error)
+        }
+    }
+}
+
+fn report_in_scope(
+    alloc: Global,
+    printed: Printed<'_>,
+    text: &str,
+    scoped: &Scoped,
+) -> Result<Report, AllocError> {
     let mut entries = Vec::new(alloc);
     if let Some(outcome) = &scoped.outcome {
         entries.push(Entry {
@@ -174,20 +254,8 @@ pub fn value_in_scope(
             outcome,
         })?;
     }
-    let printed = Printed {
-        file: EXPRESSION,
-        text: expression,
-        format: request.format,
-    };
-    let value = report_of(
-        alloc,
-        printed,
-        with.text.as_str(),
-        entries.as_slice(),
-        &[],
-        scoped.of_expression.as_slice(),
-    )?;
-    Ok((told, value))
+    let messages = scoped.of_expression.as_slice();
+    report_of(alloc, printed, text, entries.as_slice(), &[], messages)
 }
 
 /// What an expression is found to be in the scope of a module.
@@ -266,17 +334,50 @@ fn in_scope(
     messages.append(&mut messages_of_numbers(alloc, text, &reading, settings, given)?)?;
     messages.append(&mut of_overrides)?;
     let outcome = last_outcome(values, &reading, with.name.as_str());
-    if let Some(outcome) = &outcome {
-        add_skipped(alloc, &mut messages, text, outcome, settings.is_strict)?;
+    match told_apart(
+        alloc,
+        module,
+        with,
+        &reading,
+        settings,
+        outcome.as_ref(),
+        messages,
+    ) {
+        Ok((of_module, of_expression)) => Ok(Scoped {
+            outcome,
+            of_module,
+            of_expression,
+        }),
+        Err(error) => {
+            drop(outcome);
+            Err(error)
+        }
+    }
+}
+
+// What these messages tell of the module, and of the expression, of which there is a constant behind it.
+fn told_apart(
+    alloc: Global,
+    module: &str,
+    with: &WithConstant,
+    reading: &Reading<'_>,
+    settings: Settings,
+    outcome: Option<&Outcome>,
+    mut messages: Vec<Message>,
+) -> Result<(Vec<Finding>, Vec<Message>), AllocError> {
+    if let Some(outcome) = outcome {
+        add_skipped(
+            alloc,
+            &mut messages,
+            with.text.as_str(),
+            outcome,
+            settings.is_strict,
+        )?;
     }
     let (of_module, of_expression) = apart(alloc, messages, with.start)?;
     let mut of_module = findings_of(alloc, module, reading.faults(), of_module.as_slice())?;
     sort(&mut of_module)?;
-    Ok(Scoped {
-        outcome,
-        of_module,
-        of_expression,
-    })
+    Ok((of_module, of_expression))
 }
 
 // The values in their format, whose texts are parts of this one, and what is told.

@@ -10,7 +10,7 @@ use crate::request::Request;
 use crate::share::shared_faults;
 use crate::together::used_together;
 use std::alloc::{AllocError, Global};
-use wgsl_eval::{Item, Message, resolve_with};
+use wgsl_eval::{Given, Item, Message, resolve_with};
 use wgsl_source::Reading;
 
 /// All that `layouts_of` and `values_of` tell of a source, each once, in the order of the places; but what is told of names
@@ -22,27 +22,48 @@ pub fn all_findings(
     defined: &GivenValues<'_>,
 ) -> Result<Vec<Finding>, AllocError> {
     let reading = Reading::of_module(alloc, text)?;
+    let findings = findings_in(alloc, text, &reading, request, defined);
+    drop(reading);
+    findings
+}
+
+// The same of a source of this text that is read.
+fn findings_in(
+    alloc: Global,
+    text: &str,
+    reading: &Reading<'_>,
+    request: &Request<'_>,
+    defined: &GivenValues<'_>,
+) -> Result<Vec<Finding>, AllocError> {
+    let Values { given, messages } = values_for(alloc, text, reading, defined, request.settings)?;
+    let findings = findings_with(alloc, text, reading, request, given.as_slice(), messages);
+    drop(given);
+    findings
+}
+
+// The same where these values are given, of which these messages tell.
+fn findings_with(
+    alloc: Global,
+    text: &str,
+    reading: &Reading<'_>,
+    request: &Request<'_>,
+    given: &[Given<'_>],
+    mut of_overrides: Vec<Message>,
+) -> Result<Vec<Finding>, AllocError> {
     let settings = request.settings;
-    let Values {
-        given,
-        messages: mut of_overrides,
-    } = values_for(alloc, text, &reading, defined, settings)?;
-    let given = given.as_slice();
     // What is told of declarations is told of values and assertions too.
-    let items = resolve_with(alloc, &reading, settings, given)?.items;
+    let items = resolve_with(alloc, reading, settings, given)?.items;
     let items = items.as_slice();
-    let mut numbers = host_numbers(alloc, text, &reading, settings, given, items)?;
-    let (_, mut messages) = module_values(alloc, text, &reading, settings, given)?;
+    let mut numbers = host_numbers(alloc, text, reading, settings, given, items)?;
+    let (_, mut messages) = module_values(alloc, text, reading, settings, given)?;
     messages.append(&mut numbers.messages)?;
     messages.append(&mut of_overrides)?;
-    let left_out = left_out(alloc, items, &reading, request)?;
+    let left_out = left_out(alloc, items, reading, request)?;
     let is_strict = settings.is_strict;
     add_left_out(alloc, &mut messages, text, left_out.as_slice(), is_strict)?;
-    let interface = Interface::new(alloc, &reading, items, numbers.of.as_slice())?;
+    let interface = Interface::new(alloc, reading, items, numbers.of.as_slice())?;
     let messages = messages.as_slice();
-    layout_findings(
-        alloc, text, &reading, items, &interface, is_strict, messages,
-    )
+    layout_findings(alloc, text, reading, items, &interface, is_strict, messages)
 }
 
 /// What is told of the declarations of a source beside these messages, in the order of the places.

@@ -127,19 +127,7 @@ fn add_entry(
     let (name, stage) = (&entry.item.name, entry.stage_word());
     write!(text, "{{\"name\": \"{name}\", \"stage\": \"{stage}\"")?;
     if entry.is_compute() {
-        text.push_str(", \"workgroup_size\": [")?;
-        for (i, size) in entry.workgroup_size.iter().enumerate() {
-            text.push_str(if i == 0 { "" } else { ", " })?;
-            match size {
-                Some(size) => write!(text, "{size}")?,
-                None => text.push_str("null")?,
-            }
-        }
-        text.push_str("], \"workgroup_memory\": ")?;
-        match entry.workgroup_memory {
-            Some(bytes) => write!(text, "{bytes}")?,
-            None => text.push_str("null")?,
-        }
+        add_workgroup(text, entry)?;
     }
     text.push_str(", \"bindings\": [")?;
     let mut count = 0usize;
@@ -156,6 +144,22 @@ fn add_entry(
         }
     }
     text.push_str("]}")
+}
+
+fn add_workgroup(text: &mut String, entry: &EntryPoint<'_>) -> Result<(), AllocError> {
+    text.push_str(", \"workgroup_size\": [")?;
+    for (i, size) in entry.workgroup_size.iter().enumerate() {
+        text.push_str(if i == 0 { "" } else { ", " })?;
+        match size {
+            Some(size) => write!(text, "{size}")?,
+            None => text.push_str("null")?,
+        }
+    }
+    text.push_str("], \"workgroup_memory\": ")?;
+    match entry.workgroup_memory {
+        Some(bytes) => write!(text, "{bytes}"),
+        None => text.push_str("null"),
+    }
 }
 
 fn add_name(text: &mut String, count: &mut usize, item: &Item) -> Result<(), AllocError> {

@@ -119,33 +119,46 @@ fn add_entry(
     let (name, stage) = (&entry.item.name, entry.stage_word());
     write!(text, "@{stage} ")?;
     if entry.is_compute() {
-        text.push_str("@workgroup_size(")?;
-        for (i, size) in entry.workgroup_size.iter().enumerate() {
-            text.push_str(if i == 0 { "" } else { ", " })?;
-            match size {
-                Some(size) => write!(text, "{size}")?,
-                None => text.push('?')?,
-            }
-        }
-        text.push_str(") ")?;
+        add_workgroup_size(text, entry)?;
     }
     write!(text, "fn {name}:")?;
-    let mut count = 0usize;
-    for number in &entry.reached {
-        if let Some(binding) = interface.binding_at(*number) {
-            let name = &binding.item.name;
-            text.push_str(if count == 0 { " uses " } else { ", " })?;
-            text.push_str(name.as_str())?;
-            count = count.saturating_add(1);
-        }
-    }
-    if count == 0 {
-        text.push_str(" uses no binding")?;
-    }
+    add_uses(text, entry, interface)?;
     match entry.workgroup_memory {
         Some(0) => {}
         Some(bytes) => write!(text, "; {bytes} bytes of workgroup memory")?,
         None => text.push_str("; workgroup memory that is not known here")?,
     }
     text.push('\n')
+}
+
+fn add_workgroup_size(text: &mut String, entry: &EntryPoint<'_>) -> Result<(), AllocError> {
+    text.push_str("@workgroup_size(")?;
+    for (i, size) in entry.workgroup_size.iter().enumerate() {
+        text.push_str(if i == 0 { "" } else { ", " })?;
+        match size {
+            Some(size) => write!(text, "{size}")?,
+            None => text.push('?')?,
+        }
+    }
+    text.push_str(") ")
+}
+
+// The bindings that the entry point uses.
+fn add_uses(
+    text: &mut String,
+    entry: &EntryPoint<'_>,
+    interface: &Interface<'_>,
+) -> Result<(), AllocError> {
+    let mut count = 0usize;
+    for number in &entry.reached {
+        if let Some(binding) = interface.binding_at(*number) {
+            text.push_str(if count == 0 { " uses " } else { ", " })?;
+            text.push_str(binding.item.name.as_str())?;
+            count = count.saturating_add(1);
+        }
+    }
+    if count == 0 {
+        text.push_str(" uses no binding")?;
+    }
+    Ok(())
 }

@@ -34,6 +34,17 @@ pub(crate) fn add_json(
 ) -> Result<(), AllocError> {
     write!(text, "{{\n  \"schema\": {SCHEMA},\n  \"file\": ")?;
     add_string(text, told.file)?;
+    add_structs(alloc, text, asked)?;
+    add_variables(alloc, text, asked)?;
+    if let Some(Whole { interface, values }) = whole {
+        add_interface(alloc, text, interface, values)?;
+    }
+    add_skipped(alloc, text, left_out, told.text)?;
+    add_findings(alloc, text, told)?;
+    text.push_str("\n}\n")
+}
+
+fn add_structs(alloc: Global, text: &mut String, asked: Asked<'_>) -> Result<(), AllocError> {
     text.push_str(",\n  \"structs\": [")?;
     let mut count = 0usize;
     for item in asked.items {
@@ -42,31 +53,39 @@ pub(crate) fn add_json(
             add_struct(alloc, text, ty)?;
         }
     }
-    text.push_str("\n  ],\n  \"variables\": [")?;
-    count = 0;
+    text.push_str("\n  ],\n  ")
+}
+
+fn add_variables(alloc: Global, text: &mut String, asked: Asked<'_>) -> Result<(), AllocError> {
+    text.push_str("\"variables\": [")?;
+    let mut count = 0usize;
     for item in asked.items {
         if let Some(Laid::Variable(name, variable)) = asked.laid(item) {
             begin_object(text, &mut count)?;
             add_variable(alloc, text, name, variable)?;
         }
     }
-    text.push_str("\n  ],\n  ")?;
-    if let Some(Whole { interface, values }) = whole {
-        add_interface(alloc, text, interface, values)?;
-    }
+    text.push_str("\n  ],\n  ")
+}
+
+// What has no layout here, of a source of this text.
+fn add_skipped(
+    alloc: Global,
+    text: &mut String,
+    left_out: &[LeftOut<'_>],
+    source: &str,
+) -> Result<(), AllocError> {
     text.push_str("\"skipped\": [")?;
-    count = 0;
+    let mut count = 0usize;
     for one in left_out {
         begin_object(text, &mut count)?;
-        add_left_out(alloc, text, one, told.text)?;
+        add_left_out(alloc, text, one, source)?;
     }
     text.push_str(if left_out.is_empty() {
         "],\n  "
     } else {
         "\n  ],\n  "
-    })?;
-    add_findings(alloc, text, told)?;
-    text.push_str("\n}\n")
+    })
 }
 
 // What has no layout here, and why.

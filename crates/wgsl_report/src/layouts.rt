@@ -36,21 +36,51 @@ pub fn layouts_of(
     defined: &GivenValues<'_>,
 ) -> Result<Report, AllocError> {
     let reading = Reading::of_module(alloc, text)?;
+    let report = layouts_in(alloc, (file, text), &reading, request, defined);
+    drop(reading);
+    report
+}
+
+// The same of a source of this name and text that is read.
+fn layouts_in(
+    alloc: Global,
+    (file, text): (&str, &str),
+    reading: &Reading<'_>,
+    request: &Request<'_>,
+    defined: &GivenValues<'_>,
+) -> Result<Report, AllocError> {
+    let Values { given, messages } = values_for(alloc, text, reading, defined, request.settings)?;
+    let report = layouts_with(
+        alloc,
+        (file, text),
+        reading,
+        request,
+        given.as_slice(),
+        messages,
+    );
+    drop(given);
+    report
+}
+
+// The same where these values are given, of which these messages tell.
+fn layouts_with(
+    alloc: Global,
+    (file, text): (&str, &str),
+    reading: &Reading<'_>,
+    request: &Request<'_>,
+    given: &[Given<'_>],
+    mut of_overrides: Vec<Message>,
+) -> Result<Report, AllocError> {
     let settings = request.settings;
-    let Values {
-        given,
-        messages: mut of_overrides,
-    } = values_for(alloc, text, &reading, defined, settings)?;
-    let given = given.as_slice();
     let Declarations {
         items,
         mut messages,
-    } = resolve_with(alloc, &reading, settings, given)?;
-    let mut numbers = host_numbers(alloc, text, &reading, settings, given, items.as_slice())?;
-    let values = override_values(alloc, &reading, settings, given)?;
+    } = resolve_with(alloc, reading, settings, given)?;
+    let mut numbers = host_numbers(alloc, text, reading, settings, given, items.as_slice())?;
+    let values = override_values(alloc, reading, settings, given)?;
     messages.append(&mut numbers.messages)?;
     messages.append(&mut of_overrides)?;
-    let interface = Interface::new(alloc, &reading, items.as_slice(), numbers.of.as_slice())?;
+    let interface = Interface::new(alloc, reading, items.as_slice(), numbers.of.as_slice())?;
     let whole = Whole {
         interface: &interface,
         values: values.as_slice(),
@@ -58,7 +88,7 @@ pub fn layouts_of(
     report_of(
         alloc,
         (file, text),
-        &reading,
+        reading,
         request,
         items.as_slice(),
         whole,

@@ -31,6 +31,16 @@ pub(crate) struct Numbers {
     pub(crate) messages: Vec<Message>,
 }
 
+/// A module with a constant behind it for each of some arguments.
+#[derive(Drop)]
+struct Constants {
+    text: String,
+    /// What the names of these begin with, behind which stands a number from 0.
+    name: String,
+    /// Where the arguments begin in the text.
+    places: Vec<usize>,
+}
+
 impl HostNumbers {
     const NONE: HostNumbers = HostNumbers {
         group: None,
@@ -195,28 +205,47 @@ impl Numbers {
         given: &[Given<'_>],
         open: &[Argument],
     ) -> Result<(), AllocError> {
-        let name = free_name(alloc, source)?;
-        let mut text = String::from_str(alloc, source)?;
-        let mut places = Vec::with_capacity(alloc, open.len())?;
-        for (i, argument) in open.iter().enumerate() {
-            write!(text, "\nconst {name}{i} = ")?;
-            places.push(text.len())?;
-            text.push_str(source.get(argument.start..argument.end).unwrap_or("0"))?;
-            text.push_str("\n;")?;
-        }
-        let reading = Reading::of_module(alloc, text.as_str())?;
+        let constants = constants_of(alloc, source, open)?;
+        let taken = self.evaluate_all(alloc, &constants, settings, given, open);
+        drop(constants);
+        taken
+    }
+
+    fn evaluate_all(
+        &mut self,
+        alloc: Global,
+        constants: &Constants,
+        settings: Settings,
+        given: &[Given<'_>],
+        open: &[Argument],
+    ) -> Result<(), AllocError> {
+        let reading = Reading::of_module(alloc, constants.text.as_str())?;
+        let evaluation = evaluate_with(alloc, &reading, settings, given);
+        let taken = self.take_all(alloc, &reading, evaluation, constants, open);
+        drop(reading);
+        taken
+    }
+
+    fn take_all(
+        &mut self,
+        alloc: Global,
+        reading: &Reading<'_>,
+        evaluation: Result<Evaluation, AllocError>,
+        constants: &Constants,
+        open: &[Argument],
+    ) -> Result<(), AllocError> {
         let Evaluation {
             values,
             messages,
             ..
-        } = evaluate_with(alloc, &reading, settings, given)?;
+        } = evaluation?;
         for value in &values {
-            let number = index_in(reading.word(value.token), name.as_str());
+            let number = index_in(reading.word(value.token), constants.name.as_str());
             if let Some(argument) = number.and_then(|i| open.get(i).copied()) {
                 self.take_outcome(alloc, argument, &value.outcome)?;
             }
         }
-        self.add_messages(messages, open, places.as_slice())
+        self.add_messages(messages, open, constants.places.as_slice())
     }
 
     fn take_outcome(
@@ -266,6 +295,19 @@ impl Numbers {
         }
         Ok(())
     }
+}
+
+fn constants_of(alloc: Global, source: &str, open: &[Argument]) -> Result<Constants, AllocError> {
+    let name = free_name(alloc, source)?;
+    let mut text = String::from_str(alloc, source)?;
+    let mut places = Vec::with_capacity(alloc, open.len())?;
+    for (i, argument) in open.iter().enumerate() {
+        write!(text, "\nconst {name}{i} = ")?;
+        places.push(text.len())?;
+        text.push_str(source.get(argument.start..argument.end).unwrap_or("0"))?;
+        text.push_str("\n;")?;
+    }
+    Ok(Constants { text, name, places })
 }
 
 // What is told of an argument that is no integer.

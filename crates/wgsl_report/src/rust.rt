@@ -12,6 +12,13 @@ use crate::table::{add_filled, add_runtime_size};
 use std::alloc::{AllocError, Global};
 use wgsl_rules::{StructType, Type};
 
+/// The words of Rust that WGSL lets a name be, which stand behind `r#`.
+const KEYWORDS: [&str; 32] = [
+    "abstract", "as", "async", "await", "become", "box", "dyn", "enum", "extern", "final", "gen",
+    "impl", "in", "macro", "match", "mod", "move", "mut", "priv", "pub", "ref", "static", "trait",
+    "try", "type", "typeof", "unsafe", "unsized", "use", "virtual", "where", "yield",
+];
+
 /// The traits that a structure of the host derives.
 #[derive(Clone, Copy, Debug, PartialEq, Eq)]
 pub(crate) enum Traits {
@@ -44,10 +51,27 @@ fn add_struct(
     ty: &StructType,
     traits: Traits,
 ) -> Result<(), AllocError> {
+    match fields_of(alloc, ty)? {
+        Some(fields) => {
+            let added = add_struct_with(alloc, text, ty, traits, fields.as_slice());
+            drop(fields);
+            added
+        }
+        None => {
+            let name = &ty.name;
+            writeln!(text, "// {name} has no layout")
+        }
+    }
+}
+
+fn add_struct_with(
+    alloc: Global,
+    text: &mut String,
+    ty: &StructType,
+    traits: Traits,
+    fields: &[HostField<'_>],
+) -> Result<(), AllocError> {
     let name = &ty.name;
-    let Some(fields) = fields_of(alloc, ty)? else {
-        return writeln!(text, "// {name} has no layout");
-    };
     if let Some(runtime) = runtime_member(alloc, ty)? {
         add_runtime(text, runtime, ty.align_of())?;
     }
@@ -58,19 +82,29 @@ fn add_struct(
     )?;
     add_name(text, name.as_str())?;
     text.push_str(" {\n")?;
-    let padding = padding_name(alloc, ty)?;
-    for (i, field) in fields.iter().enumerate() {
-        add_field(text, field)?;
-        add_padding(text, padding.as_str(), i, field.behind)?;
-    }
+    add_fields(alloc, text, ty, fields)?;
     text.push_str("}\n")?;
-    for field in &fields {
+    for field in fields {
         add_check(text, name.as_str(), field)?;
     }
     match ty.size_of() {
         Some(size) => add_size_check(text, name.as_str(), size),
         None => Ok(()),
     }
+}
+
+fn add_fields(
+    alloc: Global,
+    text: &mut String,
+    ty: &StructType,
+    fields: &[HostField<'_>],
+) -> Result<(), AllocError> {
+    let padding = padding_name(alloc, ty)?;
+    for (i, field) in fields.iter().enumerate() {
+        add_field(text, field)?;
+        add_padding(text, padding.as_str(), i, field.behind)?;
+    }
+    Ok(())
 }
 
 // What stands behind `Clone, Copy`.
@@ -139,19 +173,7 @@ fn add_name(text: &mut String, name: &str) -> Result<(), AllocError> {
 }
 
 fn is_keyword(name: &str) -> bool {
-    matches!(
-        name,
-        "abstract" | "as" | "async" | "await" | "become" | "box" | "dyn" | "enum"
-    ) || matches!(
-        name,
-        "extern" | "final" | "gen" | "impl" | "in" | "macro" | "match" | "mod"
-    ) || matches!(
-        name,
-        "move" | "mut" | "priv" | "pub" | "ref" | "static" | "trait" | "try"
-    ) || matches!(
-        name,
-        "type" | "typeof" | "unsafe" | "unsized" | "use" | "virtual" | "where"
-    ) || matches!(name, "yield")
+    KEYWORDS.iter().any(|word| *word == name)
 }
 
 // A runtime-sized array has its first element alone.

@@ -3,8 +3,8 @@ use Rattle.wgsl_report.specs.Scopes.{IsLastValue, IsReadingOf, with_constant}
 use Rattle.wgsl_report.proofs.Named.{outcome-of}
 use Rattle.wgsl_report.proofs.eval.in_scope.Goals as goal
 
-pub returns : goal.returns
-returns c = λ text is.
+pub returns-in-Ok : goal.returns-in-Ok
+returns-in-Ok c = λ text is.
     let source = c.args.module.now in
     let outline = c.in_ok-reading.reading in
     let found = c.in_ok-values.field-0 in
