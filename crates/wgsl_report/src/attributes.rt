@@ -91,13 +91,18 @@ fn add_attribute(
         if is_end {
             break;
         }
-        match word {
-            "(" | "[" => depth = depth.saturating_add(1),
-            ")" | "]" => depth = depth.saturating_sub(1),
-            _ => {}
-        }
+        depth = depth_behind(word, depth);
     }
     Ok(first)
+}
+
+// How deep brackets stand behind this word, which stand so deep before it.
+fn depth_behind(word: &str, depth: usize) -> usize {
+    match word {
+        "(" | "[" => depth.saturating_add(1),
+        ")" | "]" => depth.saturating_sub(1),
+        _ => depth,
+    }
 }
 
 fn role_of(name: &str, place: usize) -> Option<Role> {

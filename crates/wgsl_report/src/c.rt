@@ -7,8 +7,8 @@ ghost use Rattle.wgsl_report.specs.Texts.{c_padding};
 
 use crate::fields::{HostField, components_apart, fields_of, is_runtime_sized};
 use crate::host_names::{marks_behind, padding_name};
-use crate::structures::{Asked, Laid, RuntimePart, runtime_member};
-use crate::table::{add_filled, add_runtime_size};
+use crate::structures::{Asked, Laid};
+use crate::table::add_runtime;
 use std::alloc::{AllocError, Global};
 use wgsl_rules::{StructType, Type};
 
@@ -151,9 +151,7 @@ fn add_struct_with(
     fields: &[HostField<'_>],
 ) -> Result<(), AllocError> {
     let name = &ty.name;
-    if let Some(runtime) = runtime_member(alloc, ty)? {
-        add_runtime(text, runtime, ty.align_of())?;
-    }
+    add_runtime(alloc, text, ty)?;
     text.push_str("typedef struct ")?;
     add_type_name(text, name.as_str())?;
     text.push_str(" {\n")?;
@@ -188,18 +186,6 @@ fn add_size_check(text: &mut String, name: &str, size: u32) -> Result<(), AllocE
     text.push_str("static_assert(sizeof(")?;
     add_type_name(text, name)?;
     writeln!(text, ") == {size}, \"{name}\");")
-}
-
-// How large the whole is, of which a host's structure has the first element alone.
-fn add_runtime(
-    text: &mut String,
-    runtime: RuntimePart,
-    align: Option<u32>,
-) -> Result<(), AllocError> {
-    text.push_str("// with n elements at its end: ")?;
-    add_runtime_size(text, runtime)?;
-    add_filled(text, Some(runtime), align)?;
-    text.push('\n')
 }
 
 fn add_field(text: &mut String, ty: &StructType, field: &HostField<'_>) -> Result<(), AllocError> {

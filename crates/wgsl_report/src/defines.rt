@@ -97,33 +97,66 @@ pub(crate) fn values_for<'a>(
     defined: &GivenValues<'_>,
     settings: Settings,
 ) -> Result<Values<'a>, AllocError> {
+    let numbers = ids_of(alloc, text, reading, defined, settings)?;
     let mut values = Values {
         given: Vec::new(alloc),
         messages: Vec::new(alloc),
     };
-    let numbers = ids_of(alloc, text, reading, defined, settings)?;
-    for Given { name, value } in &defined.given {
-        match override_named(text, reading, numbers.as_slice(), name) {
-            Some(name) => values.given.push(Given {
-                name,
-                value: *value,
-            })?,
-            None => {
-                let text = format!(in alloc; "no override is named {name}")?;
-                values.messages.push(message_of(text, Severity::Fault))?;
-            }
+    let added = match values.add_given(alloc, text, reading, numbers.as_slice(), defined) {
+        Ok(()) => values.add_floats(alloc, defined, settings.is_strict),
+        Err(error) => Err(error),
+    };
+    drop(numbers);
+    match added {
+        Ok(()) => Ok(values),
+        Err(error) => {
+            drop(values);
+            Err(error)
         }
     }
-    for name in &defined.floats {
-        let text = format!(in alloc; "what is given for {name} is not used: it needs floats")?;
-        let severity = if settings.is_strict {
-            Severity::Fault
-        } else {
-            Severity::Note
-        };
-        values.messages.push(message_of(text, severity))?;
+}
+
+impl<'a> Values<'a> {
+    fn add_given(
+        &mut self,
+        alloc: Global,
+        text: &'a str,
+        reading: &Reading<'_>,
+        numbers: &[HostNumbers],
+        defined: &GivenValues<'_>,
+    ) -> Result<(), AllocError> {
+        for Given { name, value } in &defined.given {
+            match override_named(text, reading, numbers, name) {
+                Some(name) => self.given.push(Given {
+                    name,
+                    value: *value,
+                })?,
+                None => {
+                    let text = format!(in alloc; "no override is named {name}")?;
+                    self.messages.push(message_of(text, Severity::Fault))?;
+                }
+            }
+        }
+        Ok(())
     }
-    Ok(values)
+
+    fn add_floats(
+        &mut self,
+        alloc: Global,
+        defined: &GivenValues<'_>,
+        is_strict: bool,
+    ) -> Result<(), AllocError> {
+        for name in &defined.floats {
+            let text = format!(in alloc; "what is given for {name} is not used: it needs floats")?;
+            let severity = if is_strict {
+                Severity::Fault
+            } else {
+                Severity::Note
+            };
+            self.messages.push(message_of(text, severity))?;
+        }
+        Ok(())
+    }
 }
 
 // The numbers of the declarations, where a name is one of them.

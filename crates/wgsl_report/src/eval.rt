@@ -5,6 +5,7 @@ ghost use Rattle.wgsl_report.specs.Scopes.{IsLastValue, IsOutcomeOf, with_consta
 
 use crate::defines::{GivenValues, Values, values_for};
 use crate::finding::{Finding, fault_count, findings_of, sort};
+use crate::findings::joined;
 use crate::findings_json::Told;
 use crate::format::Format;
 use crate::left_out::add_need;
@@ -34,7 +35,15 @@ struct Printed<'a> {
 
 /// Whether the text is one expression.
 pub fn is_expression(alloc: Global, text: &str) -> Result<bool, AllocError> {
-    Ok(Reading::of_expression(alloc, text)?.faults().is_empty())
+    Ok(faults_of_form(alloc, text)? == 0)
+}
+
+// How many faults a text has in its form, as one expression.
+fn faults_of_form(alloc: Global, text: &str) -> Result<usize, AllocError> {
+    let reading = Reading::of_expression(alloc, text)?;
+    let count = reading.faults().len();
+    drop(reading);
+    Ok(count)
 }
 
 /// The value of an expression by itself, and what is told of it.
@@ -115,12 +124,18 @@ fn values_in(
     let settings = request.settings;
     let Values {
         given,
-        messages: mut of_overrides,
+        messages: of_overrides,
     } = values_for(alloc, text, reading, defined, settings)?;
     let given = given.as_slice();
-    let (values, mut messages) = module_values(alloc, text, reading, settings, given)?;
-    messages.append(&mut messages_of_numbers(alloc, text, reading, settings, given)?)?;
-    messages.append(&mut of_overrides)?;
+    let (values, messages) = module_values(alloc, text, reading, settings, given)?;
+    let messages = with_numbers(
+        alloc,
+        text,
+        reading,
+        settings,
+        given,
+        (messages, of_overrides),
+    )?;
     let printed = Printed {
         file,
         text,
@@ -133,6 +148,19 @@ fn values_in(
         values.as_slice(),
         messages.as_slice(),
     )
+}
+
+// These messages, with those of numbers between them.
+fn with_numbers(
+    alloc: Global,
+    text: &str,
+    reading: &Reading<'_>,
+    settings: Settings,
+    given: &[Given<'_>],
+    (messages, of_overrides): (Vec<Message>, Vec<Message>),
+) -> Result<Vec<Message>, AllocError> {
+    let of_numbers = messages_of_numbers(alloc, text, reading, settings, given)?;
+    joined(messages, of_numbers, of_overrides)
 }
 
 fn report_of_values(
@@ -172,14 +200,35 @@ pub(crate) fn module_values(
         asserts,
         mut messages,
     } = evaluate_with(alloc, reading, settings, given)?;
-    for assertion in &asserts {
-        add_assertion(alloc, &mut messages, text, *assertion, settings.is_strict)?;
-    }
-    for value in &values {
-        let outcome = &value.outcome;
-        add_skipped(alloc, &mut messages, text, outcome, settings.is_strict)?;
-    }
+    let added = add_unevaluated(
+        alloc,
+        &mut messages,
+        text,
+        asserts.as_slice(),
+        values.as_slice(),
+        settings.is_strict,
+    );
+    drop(asserts);
+    added?;
     Ok((values, messages))
+}
+
+// Tells what is not evaluated of these assertions and of these values.
+fn add_unevaluated(
+    alloc: Global,
+    messages: &mut Vec<Message>,
+    text: &str,
+    asserts: &[Assertion],
+    values: &[Evaluated],
+    is_strict: bool,
+) -> Result<(), AllocError> {
+    for assertion in asserts {
+        add_assertion(alloc, messages, text, *assertion, is_strict)?;
+    }
+    for value in values {
+        add_skipped(alloc, messages, text, &value.outcome, is_strict)?;
+    }
+    Ok(())
 }
 
 /// An expression in the scope of a module: what it is found to be, and what is told of either.
@@ -277,7 +326,7 @@ pub fn outcome_in_scope(
 ) -> Result<Found, AllocError>
     ensures { IfOk result (λ f. IfSome f.outcome (IsOutcomeOf «module».now expression.now settings)) }
 {
-    let form = Reading::of_expression(alloc, expression)?.faults().len();
+    let form = faults_of_form(alloc, expression)?;
     if form > 0 {
         return Ok(Found {
             outcome: None,
@@ -290,10 +339,30 @@ pub fn outcome_in_scope(
         of_module,
         of_expression,
     } = in_scope(alloc, module, &with, settings, defined)?;
-    let of_expression = findings_of(alloc, expression, &[], of_expression.as_slice())?;
-    let of_module = fault_count(of_module.as_slice());
-    let faults = of_module.saturating_add(fault_count(of_expression.as_slice()));
-    Ok(Found { outcome, faults })
+    match faults_in(
+        alloc,
+        expression,
+        of_module.as_slice(),
+        of_expression.as_slice(),
+    ) {
+        Ok(faults) => Ok(Found { outcome, faults }),
+        Err(error) => {
+            drop(outcome);
+            Err(error)
+        }
+    }
+}
+
+// How many faults there are among what is told of a module, and of an expression in its scope.
+fn faults_in(
+    alloc: Global,
+    expression: &str,
+    of_module: &[Finding],
+    of_expression: &[Message],
+) -> Result<usize, AllocError> {
+    let of_expression = findings_of(alloc, expression, &[], of_expression)?;
+    let of_module = fault_count(of_module);
+    Ok(of_module.saturating_add(fault_count(of_expression.as_slice())))
 }
 
 // What the last of the values is, if it is of the constant of this name.
@@ -304,6 +373,7 @@ fn last_outcome(mut values: Vec<Evaluated>, reading: &Reading<'_>, name: &str) -
     if reading.word(value.token) == name {
         Some(value.outcome)
     } else {
+        drop(value);
         None
     }
 }
@@ -323,26 +393,26 @@ fn in_scope(
     let reading = Reading::of_module(alloc, text)?;
     let Values {
         given,
-        messages: mut of_overrides,
+        messages: of_overrides,
     } = values_for(alloc, module, &reading, defined, settings)?;
     let given = given.as_slice();
     let Evaluation {
         values,
-        mut messages,
+        messages,
         ..
     } = evaluate_with(alloc, &reading, settings, given)?;
-    messages.append(&mut messages_of_numbers(alloc, text, &reading, settings, given)?)?;
-    messages.append(&mut of_overrides)?;
     let outcome = last_outcome(values, &reading, with.name.as_str());
-    match told_apart(
+    let told = told_apart(
         alloc,
-        module,
-        with,
+        (module, with),
         &reading,
         settings,
+        given,
         outcome.as_ref(),
-        messages,
-    ) {
+        (messages, of_overrides),
+    );
+    drop(reading);
+    match told {
         Ok((of_module, of_expression)) => Ok(Scoped {
             outcome,
             of_module,
@@ -358,21 +428,17 @@ fn in_scope(
 // What these messages tell of the module, and of the expression, of which there is a constant behind it.
 fn told_apart(
     alloc: Global,
-    module: &str,
-    with: &WithConstant,
+    (module, with): (&str, &WithConstant),
     reading: &Reading<'_>,
     settings: Settings,
+    given: &[Given<'_>],
     outcome: Option<&Outcome>,
-    mut messages: Vec<Message>,
+    messages: (Vec<Message>, Vec<Message>),
 ) -> Result<(Vec<Finding>, Vec<Message>), AllocError> {
+    let text = with.text.as_str();
+    let mut messages = with_numbers(alloc, text, reading, settings, given, messages)?;
     if let Some(outcome) = outcome {
-        add_skipped(
-            alloc,
-            &mut messages,
-            with.text.as_str(),
-            outcome,
-            settings.is_strict,
-        )?;
+        add_skipped(alloc, &mut messages, text, outcome, settings.is_strict)?;
     }
     let (of_module, of_expression) = apart(alloc, messages, with.start)?;
     let mut of_module = findings_of(alloc, module, reading.faults(), of_module.as_slice())?;

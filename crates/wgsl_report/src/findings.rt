@@ -5,7 +5,7 @@ use crate::eval::module_values;
 use crate::finding::{Finding, findings_of, sort};
 use crate::interface::Interface;
 use crate::left_out::{add_left_out, left_out};
-use crate::numbers::host_numbers;
+use crate::numbers::{Numbers, host_numbers};
 use crate::request::Request;
 use crate::share::shared_faults;
 use crate::together::used_together;
@@ -48,22 +48,57 @@ fn findings_with(
     reading: &Reading<'_>,
     request: &Request<'_>,
     given: &[Given<'_>],
-    mut of_overrides: Vec<Message>,
+    of_overrides: Vec<Message>,
+) -> Result<Vec<Finding>, AllocError> {
+    // What is told of declarations is told of values and assertions too.
+    let items = resolve_with(alloc, reading, request.settings, given)?.items;
+    let findings = findings_of_items(
+        alloc,
+        text,
+        reading,
+        request,
+        given,
+        items.as_slice(),
+        of_overrides,
+    );
+    drop(items);
+    findings
+}
+
+// The same of declarations that were found to be these.
+fn findings_of_items(
+    alloc: Global,
+    text: &str,
+    reading: &Reading<'_>,
+    request: &Request<'_>,
+    given: &[Given<'_>],
+    items: &[Item],
+    of_overrides: Vec<Message>,
 ) -> Result<Vec<Finding>, AllocError> {
     let settings = request.settings;
-    // What is told of declarations is told of values and assertions too.
-    let items = resolve_with(alloc, reading, settings, given)?.items;
-    let items = items.as_slice();
-    let mut numbers = host_numbers(alloc, text, reading, settings, given, items)?;
-    let (_, mut messages) = module_values(alloc, text, reading, settings, given)?;
-    messages.append(&mut numbers.messages)?;
-    messages.append(&mut of_overrides)?;
-    let left_out = left_out(alloc, items, reading, request)?;
     let is_strict = settings.is_strict;
+    let Numbers {
+        of,
+        messages: of_numbers,
+    } = host_numbers(alloc, text, reading, settings, given, items)?;
+    let (_, messages) = module_values(alloc, text, reading, settings, given)?;
+    let mut messages = joined(messages, of_numbers, of_overrides)?;
+    let left_out = left_out(alloc, items, reading, request)?;
     add_left_out(alloc, &mut messages, text, left_out.as_slice(), is_strict)?;
-    let interface = Interface::new(alloc, reading, items, numbers.of.as_slice())?;
+    let interface = Interface::new(alloc, reading, items, of.as_slice())?;
     let messages = messages.as_slice();
     layout_findings(alloc, text, reading, items, &interface, is_strict, messages)
+}
+
+/// The messages of three lists, one behind the other.
+pub(crate) fn joined(
+    mut messages: Vec<Message>,
+    mut second: Vec<Message>,
+    mut third: Vec<Message>,
+) -> Result<Vec<Message>, AllocError> {
+    messages.append(&mut second)?;
+    messages.append(&mut third)?;
+    Ok(messages)
 }
 
 /// What is told of the declarations of a source beside these messages, in the order of the places.

@@ -39,23 +39,19 @@ fn add_finding(
     lines: &Lines,
     finding: &Finding,
 ) -> Result<(), AllocError> {
-    let (start, end, code) = (finding.start, finding.end, finding.code);
-    let severity = severity_word(finding.severity);
-    let place = lines.place(text, start);
-    let (line, column) = (place.line, place.column);
-    let units = utf16_column(text, lines, place);
-    write!(
-        out,
-        "{{\"severity\": \"{severity}\", \"code\": \"{code}\", "
-    )?;
-    write!(
-        out,
-        "\"start\": {start}, \"end\": {end}, \"line\": {line}, "
-    )?;
-    write!(
-        out,
-        "\"column\": {column}, \"utf16_column\": {units}, \"text\": "
-    )?;
+    let (severity, code) = (severity_word(finding.severity), finding.code);
+    let place = lines.place(text, finding.start);
+    write!(out, "{{\"severity\": \"{severity}\", \"code\": \"{code}\"")?;
+    for (key, number) in [
+        ("start", finding.start),
+        ("end", finding.end),
+        ("line", place.line),
+        ("column", place.column),
+        ("utf16_column", utf16_column(text, lines, place)),
+    ] {
+        write!(out, ", \"{key}\": {number}")?;
+    }
+    out.push_str(", \"text\": ")?;
     add_string(out, finding.text.as_str())?;
     if !finding.path.is_empty() {
         out.push_str(", \"path\": ")?;

@@ -92,41 +92,70 @@ impl<'a> Interface<'a> {
         items: &'a [Item],
         numbers: &[HostNumbers],
     ) -> Result<Interface<'a>, AllocError> {
+        let listed = vec![in alloc; Listed::Nowhere; items.len()]?;
         let mut interface = Interface {
             bindings: Vec::new(alloc),
             memory: Vec::new(alloc),
             overrides: Vec::new(alloc),
             entries: Vec::new(alloc),
-            listed: vec![in alloc; Listed::Nowhere; items.len()]?,
+            listed,
         };
+        match interface.add_all(alloc, reading, items, numbers) {
+            Ok(()) => Ok(interface),
+            Err(error) => {
+                drop(interface);
+                Err(error)
+            }
+        }
+    }
+}
+
+impl<'a> Interface<'a> {
+    fn add_all(
+        &mut self,
+        alloc: Global,
+        reading: &Reading<'_>,
+        items: &'a [Item],
+        numbers: &[HostNumbers],
+    ) -> Result<(), AllocError> {
         for (number, item) in items.iter().enumerate() {
             let Some(of) = numbers.get(number) else {
                 continue;
             };
             match reading.declared(number) {
                 Some(Declared::Variable(variable)) => {
-                    interface.add_variable(alloc, reading, (number, item), variable, *of)?;
+                    self.add_variable(alloc, reading, (number, item), variable, *of)?;
                 }
                 Some(Declared::Override { value, .. }) => {
-                    let place = interface.overrides.len();
-                    interface.list(number, Listed::Override(place));
-                    interface.overrides.push(Overridable {
-                        number,
-                        item,
-                        id: of.id,
-                        words: type_words(alloc, reading, number)?,
-                        has_value: value.is_some(),
-                    })?;
+                    self.add_override(alloc, reading, (number, item), value.is_some(), of.id)?;
                 }
                 _ => {}
             }
         }
-        interface.add_entries(alloc, reading, items, numbers)?;
-        Ok(interface)
+        self.add_entries(alloc, reading, items, numbers)
     }
-}
 
-impl<'a> Interface<'a> {
+    fn add_override(
+        &mut self,
+        alloc: Global,
+        reading: &Reading<'_>,
+        (number, item): (usize, &'a Item),
+        has_value: bool,
+        id: Option<u32>,
+    ) -> Result<(), AllocError> {
+        let place = self.overrides.len();
+        self.list(number, Listed::Override(place));
+        let words = type_words(alloc, reading, number)?;
+        self.overrides.push(Overridable {
+            number,
+            item,
+            id,
+            words,
+            has_value,
+        })?;
+        Ok(())
+    }
+
     fn add_variable(
         &mut self,
         alloc: Global,
@@ -274,6 +303,18 @@ impl Memory<'_> {
 impl EntryPoint<'_> {
     pub(crate) fn is_compute(&self) -> bool {
         self.stage == EntryStage::Compute
+    }
+
+    /// The sizes of its workgroup, with commas between; this stands for one that is not known.
+    pub(crate) fn add_sizes(&self, text: &mut String, unknown: &str) -> Result<(), AllocError> {
+        for (i, size) in self.workgroup_size.iter().enumerate() {
+            text.push_str(if i == 0 { "" } else { ", " })?;
+            match size {
+                Some(size) => write!(text, "{size}")?,
+                None => text.push_str(unknown)?,
+            }
+        }
+        Ok(())
     }
 
     /// The word of its attribute.

@@ -4,9 +4,10 @@ use crate::interface::{Binding, EntryPoint, Interface, Memory, Overridable};
 use crate::json::{add_number, begin_object};
 use crate::json_text::add_string;
 use crate::shape::add_shape;
+use crate::values::value_in;
+use crate::values_json::add_value;
 use std::alloc::{AllocError, Global};
-use wgsl_eval::{Item, ItemKind};
-use wgsl_rules::Ty;
+use wgsl_eval::Item;
 
 /// Four lists, each behind a key of its own. The values of overrides are among these items.
 pub(crate) fn add_interface(
@@ -15,29 +16,50 @@ pub(crate) fn add_interface(
     interface: &Interface<'_>,
     values: &[Item],
 ) -> Result<(), AllocError> {
+    add_bindings(text, interface.bindings.as_slice())?;
+    add_memories(text, interface.memory.as_slice())?;
+    add_overrides(alloc, text, interface.overrides.as_slice(), values)?;
+    add_entries(text, interface)
+}
+
+fn add_bindings(text: &mut String, bindings: &[Binding<'_>]) -> Result<(), AllocError> {
     let mut count = 0usize;
     text.push_str("\"bindings\": [")?;
-    for binding in &interface.bindings {
+    for binding in bindings {
         begin_object(text, &mut count)?;
         add_binding(text, binding)?;
     }
-    end_list(text, count)?;
+    end_list(text, count)
+}
+
+fn add_memories(text: &mut String, memories: &[Memory<'_>]) -> Result<(), AllocError> {
+    let mut count = 0usize;
     text.push_str("\"memory\": [")?;
-    count = 0;
-    for memory in &interface.memory {
+    for memory in memories {
         begin_object(text, &mut count)?;
         add_memory(text, memory)?;
     }
-    end_list(text, count)?;
+    end_list(text, count)
+}
+
+fn add_overrides(
+    alloc: Global,
+    text: &mut String,
+    overrides: &[Overridable<'_>],
+    values: &[Item],
+) -> Result<(), AllocError> {
+    let mut count = 0usize;
     text.push_str("\"overrides\": [")?;
-    count = 0;
-    for overridable in &interface.overrides {
+    for overridable in overrides {
         begin_object(text, &mut count)?;
         add_override(alloc, text, overridable, values.get(overridable.number))?;
     }
-    end_list(text, count)?;
+    end_list(text, count)
+}
+
+fn add_entries(text: &mut String, interface: &Interface<'_>) -> Result<(), AllocError> {
+    let mut count = 0usize;
     text.push_str("\"entry_points\": [")?;
-    count = 0;
     for entry in &interface.entries {
         begin_object(text, &mut count)?;
         add_entry(text, entry, interface)?;
@@ -96,27 +118,24 @@ fn add_override(
     write!(text, "{{\"name\": \"{name}\"")?;
     add_number(text, "id", overridable.id)?;
     let has_value = overridable.has_value;
-    match value {
-        Some(
-            Item {
-                kind: ItemKind::Value(instance),
-                ..
-            },
-        ) if instance.is_well_formed() => {
-            let ty = instance.ty(alloc)?;
-            write!(text, ", \"type\": \"{ty}\", \"value\": \"{instance}\"")?;
+    match value_in(value) {
+        Some(value) => {
+            text.push_str(", ")?;
+            add_value(alloc, text, value)?;
         }
-        _ => {
-            text.push_str(", \"type\": ")?;
-            if overridable.words.is_empty() {
-                text.push_str("null")?;
-            } else {
-                add_string(text, overridable.words.as_str())?;
-            }
-            text.push_str(", \"value\": null")?;
-        }
+        None => add_no_value(text, overridable.words.as_str())?,
     }
     write!(text, ", \"has_default\": {has_value}}}")
+}
+
+fn add_no_value(text: &mut String, words: &str) -> Result<(), AllocError> {
+    text.push_str(", \"type\": ")?;
+    if words.is_empty() {
+        text.push_str("null")?;
+    } else {
+        add_string(text, words)?;
+    }
+    text.push_str(", \"value\": null")
 }
 
 fn add_entry(
@@ -148,13 +167,7 @@ fn add_entry(
 
 fn add_workgroup(text: &mut String, entry: &EntryPoint<'_>) -> Result<(), AllocError> {
     text.push_str(", \"workgroup_size\": [")?;
-    for (i, size) in entry.workgroup_size.iter().enumerate() {
-        text.push_str(if i == 0 { "" } else { ", " })?;
-        match size {
-            Some(size) => write!(text, "{size}")?,
-            None => text.push_str("null")?,
-        }
-    }
+    entry.add_sizes(text, "null")?;
     text.push_str("], \"workgroup_memory\": ")?;
     match entry.workgroup_memory {
         Some(bytes) => write!(text, "{bytes}"),

@@ -1,9 +1,10 @@
 //! The interface of a module, as a person reads it: what has no table, a line each.
 
 use crate::interface::{Binding, EntryPoint, Interface, Memory, Overridable};
+use crate::table::{add_align, add_size};
+use crate::values::{add_value, value_in};
 use std::alloc::{AllocError, Global};
-use wgsl_eval::{Item, ItemKind};
-use wgsl_rules::Ty;
+use wgsl_eval::Item;
 
 /// The lines, with an empty one before them where something stands there. The values of overrides are among these items.
 pub(crate) fn add_interface(
@@ -13,31 +14,37 @@ pub(crate) fn add_interface(
     values: &[Item],
 ) -> Result<(), AllocError> {
     let mut lines = String::new(alloc);
-    for binding in &interface.bindings {
-        if !binding.is_buffer() {
-            add_binding(&mut lines, binding)?;
-        }
-    }
-    for memory in &interface.memory {
-        if !memory.is_laid_out() {
-            add_memory(&mut lines, memory)?;
-        }
-    }
-    for overridable in &interface.overrides {
-        add_override(
-            alloc,
-            &mut lines,
-            overridable,
-            values.get(overridable.number),
-        )?;
-    }
-    for entry in &interface.entries {
-        add_entry(&mut lines, entry, interface)?;
-    }
+    add_lines(alloc, &mut lines, interface, values)?;
     if !text.is_empty() && !lines.is_empty() {
         text.push('\n')?;
     }
     text.push_str(lines.as_str())
+}
+
+fn add_lines(
+    alloc: Global,
+    text: &mut String,
+    interface: &Interface<'_>,
+    values: &[Item],
+) -> Result<(), AllocError> {
+    for binding in &interface.bindings {
+        if !binding.is_buffer() {
+            add_binding(text, binding)?;
+        }
+    }
+    for memory in &interface.memory {
+        if !memory.is_laid_out() {
+            add_memory(text, memory)?;
+        }
+    }
+    for overridable in &interface.overrides {
+        let value = values.get(overridable.number);
+        add_override(alloc, text, overridable, value)?;
+    }
+    for entry in &interface.entries {
+        add_entry(text, entry, interface)?;
+    }
+    Ok(())
 }
 
 // `@group(0) @binding(1) var name: type`
@@ -57,22 +64,13 @@ fn add_memory(text: &mut String, memory: &Memory<'_>) -> Result<(), AllocError> 
     let (space, name, words) = (memory.space, &memory.item.name, &memory.words);
     write!(text, "var<{space}> {name}")?;
     match memory.ty {
-        Some(ty) => write!(text, ": {ty}")?,
-        None if words.is_empty() => {}
-        None => write!(text, ": {words}")?,
-    }
-    match memory.ty {
         Some(ty) => {
-            match ty.size_of() {
-                Some(size) => write!(text, ", size {size}")?,
-                None => text.push_str(", no size")?,
-            }
-            match ty.align_of() {
-                Some(align) => writeln!(text, ", align {align}"),
-                None => text.push_str(", no alignment\n"),
-            }
+            write!(text, ": {ty}, ")?;
+            add_size(text, ty.size_of(), None)?;
+            add_align(text, ty.align_of())
         }
-        None => text.push_str(", no size here\n"),
+        None if words.is_empty() => text.push_str(", no size here\n"),
+        None => writeln!(text, ": {words}, no size here"),
     }
 }
 
@@ -88,17 +86,16 @@ fn add_override(
     }
     let name = &overridable.item.name;
     write!(text, "override {name}")?;
-    if let Some(
-        Item {
-            kind: ItemKind::Value(instance),
-            ..
-        },
-    ) = value
-        && instance.is_well_formed()
-    {
-        let ty = instance.ty(alloc)?;
-        return writeln!(text, ": {ty} = {instance}");
+    match value_in(value) {
+        Some(value) => {
+            text.push_str(": ")?;
+            add_value(alloc, text, value)
+        }
+        None => add_no_value(text, overridable),
     }
+}
+
+fn add_no_value(text: &mut String, overridable: &Overridable<'_>) -> Result<(), AllocError> {
     let words = &overridable.words;
     if !words.is_empty() {
         write!(text, ": {words}")?;
@@ -133,13 +130,7 @@ fn add_entry(
 
 fn add_workgroup_size(text: &mut String, entry: &EntryPoint<'_>) -> Result<(), AllocError> {
     text.push_str("@workgroup_size(")?;
-    for (i, size) in entry.workgroup_size.iter().enumerate() {
-        text.push_str(if i == 0 { "" } else { ", " })?;
-        match size {
-            Some(size) => write!(text, "{size}")?,
-            None => text.push('?')?,
-        }
-    }
+    entry.add_sizes(text, "?")?;
     text.push_str(") ")
 }
 

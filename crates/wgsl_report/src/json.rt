@@ -6,7 +6,7 @@ ghost use Rattle.wgsl_report.specs.Texts.{entry_text, runtime_entry};
 use crate::findings_json::{Told, add_findings};
 use crate::interface::Interface;
 use crate::interface_json::add_interface;
-use crate::json_text::{SCHEMA, add_string};
+use crate::json_text::{SCHEMA, add_span, add_string};
 use crate::left_out::LeftOut;
 use crate::shape::add_shape;
 use crate::structures::{Asked, Laid, RuntimePart, runtime_member, runtime_part};
@@ -95,16 +95,25 @@ fn add_left_out(
     one: &LeftOut<'_>,
     source: &str,
 ) -> Result<(), AllocError> {
-    let (name, kind, skip) = (&one.item.name, one.kind(), one.skip);
+    let (name, kind) = (&one.item.name, one.kind());
     write!(
         text,
         "{{\"name\": \"{name}\", \"kind\": \"{kind}\", \"reason\": "
     )?;
+    add_reason(alloc, text, one, source)?;
+    add_span(text, one.skip.start, one.skip.end)?;
+    text.push('}')
+}
+
+fn add_reason(
+    alloc: Global,
+    text: &mut String,
+    one: &LeftOut<'_>,
+    source: &str,
+) -> Result<(), AllocError> {
     let mut reason = String::new(alloc);
     one.add_reason(&mut reason, source)?;
-    add_string(text, reason.as_str())?;
-    let (start, end) = (skip.start, skip.end);
-    write!(text, ", \"span\": {{\"start\": {start}, \"end\": {end}}}}}")
+    add_string(text, reason.as_str())
 }
 
 pub(crate) fn begin_object(text: &mut String, count: &mut usize) -> Result<(), AllocError> {
@@ -118,11 +127,26 @@ pub(crate) fn begin_object(text: &mut String, count: &mut usize) -> Result<(), A
 fn add_struct(alloc: Global, text: &mut String, ty: &StructType) -> Result<(), AllocError> {
     let name = &ty.name;
     write!(text, "{{\"name\": \"{name}\"")?;
-    let layouts = ty.member_layouts(alloc)?;
-    add_number(text, "size", ty.size_of())?;
-    add_number(text, "align", ty.align_of())?;
-    add_number(text, "least_binding", ty.least_binding())?;
+    add_numbers(
+        text,
+        &[
+            ("size", ty.size_of()),
+            ("align", ty.align_of()),
+            ("least_binding", ty.least_binding()),
+        ],
+    )?;
     add_runtime(text, runtime_member(alloc, ty)?)?;
+    let layouts = ty.member_layouts(alloc)?;
+    let added = add_members(text, ty, layouts.as_slice());
+    drop(layouts);
+    added
+}
+
+fn add_members(
+    text: &mut String,
+    ty: &StructType,
+    layouts: &[MemberLayout],
+) -> Result<(), AllocError> {
     text.push_str(", \"members\": [")?;
     for (i, (member, layout)) in ty.members.iter().zip(layouts.iter()).enumerate() {
         text.push_str(if i == 0 { "\n      " } else { ",\n      " })?;
@@ -139,11 +163,16 @@ fn add_member(
     let name = &member.name;
     let ty = &member.ty;
     write!(text, "{{\"name\": \"{name}\", \"type\": \"{ty}\"")?;
-    add_number(text, "offset", layout.offset)?;
-    add_number(text, "size", layout.size)?;
-    add_number(text, "align", layout.align)?;
-    add_number(text, "padding", layout.padding)?;
-    add_number(text, "stride", ty.stride())?;
+    add_numbers(
+        text,
+        &[
+            ("offset", layout.offset),
+            ("size", layout.size),
+            ("align", layout.align),
+            ("padding", layout.padding),
+            ("stride", ty.stride()),
+        ],
+    )?;
     text.push_str(", \"shape\": ")?;
     add_shape(text, ty)?;
     text.push('}')
@@ -157,23 +186,19 @@ fn add_variable(
 ) -> Result<(), AllocError> {
     let ty = &variable.ty;
     write!(text, "{{\"name\": \"{name}\", \"type\": \"{ty}\"")?;
-    let space = match variable.space {
-        _ if variable.is_immediate => "immediate",
-        Some(AddressSpace::Uniform) => "uniform",
-        _ => "storage",
-    };
-    let access = match variable.access {
-        Some(AccessMode::ReadWrite) => "read_write",
-        Some(AccessMode::Write) => "write",
-        _ => "read",
-    };
+    let (space, access) = (space_word(variable), access_word(variable));
     write!(text, ", \"space\": \"{space}\", \"access\": \"{access}\"")?;
-    add_number(text, "group", variable.group)?;
-    add_number(text, "binding", variable.binding)?;
-    add_number(text, "size", ty.size_of())?;
-    add_number(text, "align", ty.align_of())?;
-    add_number(text, "least_binding", ty.least_binding())?;
-    add_number(text, "stride", ty.stride())?;
+    add_numbers(
+        text,
+        &[
+            ("group", variable.group),
+            ("binding", variable.binding),
+            ("size", ty.size_of()),
+            ("align", ty.align_of()),
+            ("least_binding", ty.least_binding()),
+            ("stride", ty.stride()),
+        ],
+    )?;
     add_runtime(text, runtime_part(alloc, ty)?)?;
     text.push_str(", \"shape\": ")?;
     add_shape(text, ty)?;
@@ -181,6 +206,22 @@ fn add_variable(
         add_broken_rules(alloc, text, name, ty)?;
     }
     text.push('}')
+}
+
+fn space_word(variable: &Variable) -> &'static str {
+    match variable.space {
+        _ if variable.is_immediate => "immediate",
+        Some(AddressSpace::Uniform) => "uniform",
+        _ => "storage",
+    }
+}
+
+fn access_word(variable: &Variable) -> &'static str {
+    match variable.access {
+        Some(AccessMode::ReadWrite) => "read_write",
+        Some(AccessMode::Write) => "write",
+        _ => "read",
+    }
 }
 
 // The rules of the uniform address space that the variable breaks.
@@ -215,6 +256,13 @@ fn add_runtime(text: &mut String, runtime: Option<RuntimePart>) -> Result<(), Al
         }
         None => Ok(()),
     }
+}
+
+fn add_numbers(text: &mut String, numbers: &[(&str, Option<u32>)]) -> Result<(), AllocError> {
+    for (key, number) in numbers {
+        add_number(text, key, *number)?;
+    }
+    Ok(())
 }
 
 pub(crate) fn add_number(

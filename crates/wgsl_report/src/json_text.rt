@@ -14,6 +14,11 @@ pub(crate) fn add_string(out: &mut String, text: &str) -> Result<(), AllocError>
     out.push('"')
 }
 
+/// The key for bytes of a source, and these.
+pub(crate) fn add_span(out: &mut String, start: usize, end: usize) -> Result<(), AllocError> {
+    write!(out, ", \"span\": {{\"start\": {start}, \"end\": {end}}}")
+}
+
 // A quotation mark, a backslash and what is below the space are escaped.
 fn add_character(out: &mut String, character: char) -> Result<(), AllocError> {
     match character {

@@ -8,7 +8,7 @@ use crate::bytes::add_bytes;
 use crate::c::add_c;
 use crate::defines::{GivenValues, Values, values_for};
 use crate::finding::fault_count;
-use crate::findings::layout_findings;
+use crate::findings::{joined, layout_findings};
 use crate::findings_json::Told;
 use crate::format::Format;
 use crate::interface::Interface;
@@ -16,7 +16,7 @@ use crate::interface_table::add_interface;
 use crate::json::{Whole, add_json};
 use crate::left_out::{LeftOut, add_left_out, left_out};
 use crate::nearest::nearest;
-use crate::numbers::host_numbers;
+use crate::numbers::{Numbers, host_numbers};
 use crate::report::{Report, errors_of};
 use crate::request::Request;
 use crate::rust::{Traits, add_rust};
@@ -69,18 +69,40 @@ fn layouts_with(
     reading: &Reading<'_>,
     request: &Request<'_>,
     given: &[Given<'_>],
-    mut of_overrides: Vec<Message>,
+    of_overrides: Vec<Message>,
+) -> Result<Report, AllocError> {
+    let Declarations { items, messages } = resolve_with(alloc, reading, request.settings, given)?;
+    let report = layouts_of_items(
+        alloc,
+        (file, text),
+        reading,
+        request,
+        given,
+        items.as_slice(),
+        (messages, of_overrides),
+    );
+    drop(items);
+    report
+}
+
+// The same of declarations that were found to be these, of which and of overrides these messages tell.
+fn layouts_of_items(
+    alloc: Global,
+    (file, text): (&str, &str),
+    reading: &Reading<'_>,
+    request: &Request<'_>,
+    given: &[Given<'_>],
+    items: &[Item],
+    (messages, of_overrides): (Vec<Message>, Vec<Message>),
 ) -> Result<Report, AllocError> {
     let settings = request.settings;
-    let Declarations {
-        items,
-        mut messages,
-    } = resolve_with(alloc, reading, settings, given)?;
-    let mut numbers = host_numbers(alloc, text, reading, settings, given, items.as_slice())?;
+    let Numbers {
+        of,
+        messages: of_numbers,
+    } = host_numbers(alloc, text, reading, settings, given, items)?;
     let values = override_values(alloc, reading, settings, given)?;
-    messages.append(&mut numbers.messages)?;
-    messages.append(&mut of_overrides)?;
-    let interface = Interface::new(alloc, reading, items.as_slice(), numbers.of.as_slice())?;
+    let messages = joined(messages, of_numbers, of_overrides)?;
+    let interface = Interface::new(alloc, reading, items, of.as_slice())?;
     let whole = Whole {
         interface: &interface,
         values: values.as_slice(),
@@ -90,7 +112,7 @@ fn layouts_with(
         (file, text),
         reading,
         request,
-        items.as_slice(),
+        items,
         whole,
         messages,
     )

@@ -5,8 +5,8 @@ use crate::attributes::{Argument, Role, arguments_in};
 use crate::scope::free_name;
 use std::alloc::{AllocError, Global};
 use wgsl_eval::{
-    Evaluation, Given, Item, ItemKind, Message, Need, Outcome, Settings, Severity, evaluate_with,
-    resolve_with,
+    Evaluated, Evaluation, Given, Item, ItemKind, Message, Need, Outcome, Settings, Severity,
+    evaluate_with, resolve_with,
 };
 use wgsl_source::{Literal, Reading};
 use wgsl_types::{Instance, LiteralInstance};
@@ -74,25 +74,18 @@ pub(crate) fn host_numbers(
     given: &[Given<'_>],
     items: &[Item],
 ) -> Result<Numbers, AllocError> {
+    let of = vec![in alloc; HostNumbers::NONE; reading.len()]?;
     let mut numbers = Numbers {
-        of: vec![in alloc; HostNumbers::NONE; reading.len()]?,
+        of,
         messages: Vec::new(alloc),
     };
-    let mut open = Vec::new(alloc);
-    for argument in &arguments_in(alloc, reading)? {
-        if is_told(items, *argument) {
-            numbers.take_sound(reading, *argument);
-            continue;
-        }
-        match known(reading, items, *argument) {
-            Some(literal) => numbers.take(alloc, *argument, literal)?,
-            None => open.push(*argument)?,
+    match numbers.find_all(alloc, text, reading, settings, given, items) {
+        Ok(()) => Ok(numbers),
+        Err(error) => {
+            drop(numbers);
+            Err(error)
         }
     }
-    if !open.is_empty() {
-        numbers.evaluate(alloc, text, settings, given, open.as_slice())?;
-    }
-    Ok(numbers)
 }
 
 /// What is told of those of a source of which nothing else is known yet.
@@ -150,6 +143,45 @@ fn literal_of(reading: &Reading<'_>, argument: Argument) -> Option<LiteralInstan
 }
 
 impl Numbers {
+    fn find_all(
+        &mut self,
+        alloc: Global,
+        text: &str,
+        reading: &Reading<'_>,
+        settings: Settings,
+        given: &[Given<'_>],
+        items: &[Item],
+    ) -> Result<(), AllocError> {
+        let arguments = arguments_in(alloc, reading)?;
+        let open = self.take_known(alloc, reading, items, arguments.as_slice())?;
+        if open.is_empty() {
+            return Ok(());
+        }
+        self.evaluate(alloc, text, settings, given, open.as_slice())
+    }
+
+    // Takes the arguments whose numbers are known by themselves, and answers the others.
+    fn take_known(
+        &mut self,
+        alloc: Global,
+        reading: &Reading<'_>,
+        items: &[Item],
+        arguments: &[Argument],
+    ) -> Result<Vec<Argument>, AllocError> {
+        let mut open = Vec::new(alloc);
+        for argument in arguments {
+            if is_told(items, *argument) {
+                self.take_sound(reading, *argument);
+                continue;
+            }
+            match known(reading, items, *argument) {
+                Some(literal) => self.take(alloc, *argument, literal)?,
+                None => open.push(*argument)?,
+            }
+        }
+        Ok(open)
+    }
+
     // Takes the number that an argument is, or tells that it is none.
     fn take(
         &mut self,
@@ -239,13 +271,27 @@ impl Numbers {
             messages,
             ..
         } = evaluation?;
-        for value in &values {
+        let taken = self.take_values(alloc, reading, values.as_slice(), constants, open);
+        drop(values);
+        taken?;
+        self.add_messages(messages, open, constants.places.as_slice())
+    }
+
+    fn take_values(
+        &mut self,
+        alloc: Global,
+        reading: &Reading<'_>,
+        values: &[Evaluated],
+        constants: &Constants,
+        open: &[Argument],
+    ) -> Result<(), AllocError> {
+        for value in values {
             let number = index_in(reading.word(value.token), constants.name.as_str());
             if let Some(argument) = number.and_then(|i| open.get(i).copied()) {
                 self.take_outcome(alloc, argument, &value.outcome)?;
             }
         }
-        self.add_messages(messages, open, constants.places.as_slice())
+        Ok(())
     }
 
     fn take_outcome(
@@ -275,16 +321,7 @@ impl Numbers {
         places: &[usize],
     ) -> Result<(), AllocError> {
         for message in messages {
-            let behind = places.partition_point(|place| *place <= message.start);
-            let Some(i) = behind.checked_sub(1) else {
-                continue;
-            };
-            let (Some(argument), Some(place)) = (open.get(i), places.get(i)) else {
-                continue;
-            };
-            let start = moved(message.start, *place, argument.start);
-            let end = moved(message.end, *place, argument.start);
-            if start < argument.end {
+            if let Some((start, end)) = extent_of(&message, open, places) {
                 self.messages.push(Message {
                     start,
                     end,
@@ -299,15 +336,29 @@ impl Numbers {
 
 fn constants_of(alloc: Global, source: &str, open: &[Argument]) -> Result<Constants, AllocError> {
     let name = free_name(alloc, source)?;
-    let mut text = String::from_str(alloc, source)?;
-    let mut places = Vec::with_capacity(alloc, open.len())?;
-    for (i, argument) in open.iter().enumerate() {
-        write!(text, "\nconst {name}{i} = ")?;
-        places.push(text.len())?;
-        text.push_str(source.get(argument.start..argument.end).unwrap_or("0"))?;
-        text.push_str("\n;")?;
+    let text = String::from_str(alloc, source)?;
+    let places = Vec::with_capacity(alloc, open.len())?;
+    let mut constants = Constants { text, name, places };
+    match constants.add_all(source, open) {
+        Ok(()) => Ok(constants),
+        Err(error) => {
+            drop(constants);
+            Err(error)
+        }
     }
-    Ok(Constants { text, name, places })
+}
+
+impl Constants {
+    fn add_all(&mut self, source: &str, open: &[Argument]) -> Result<(), AllocError> {
+        let Constants { text, name, places } = self;
+        for (i, argument) in open.iter().enumerate() {
+            write!(text, "\nconst {name}{i} = ")?;
+            places.push(text.len())?;
+            text.push_str(source.get(argument.start..argument.end).unwrap_or("0"))?;
+            text.push_str("\n;")?;
+        }
+        Ok(())
+    }
 }
 
 // What is told of an argument that is no integer.
@@ -324,6 +375,16 @@ fn no_constant(role: Role) -> &'static str {
         Role::Count => "the count of an array is a constant",
         _ => "an attribute is a constant",
     }
+}
+
+// Where a message stands in the source that is told of one of these arguments, which begin at these places.
+fn extent_of(message: &Message, open: &[Argument], places: &[usize]) -> Option<(usize, usize)> {
+    let behind = places.partition_point(|place| *place <= message.start);
+    let i = behind.checked_sub(1)?;
+    let (argument, place) = (open.get(i)?, places.get(i)?);
+    let start = moved(message.start, *place, argument.start);
+    let end = moved(message.end, *place, argument.start);
+    (start < argument.end).then_some((start, end))
 }
 
 fn moved(at: usize, from: usize, to: usize) -> usize {

@@ -84,7 +84,9 @@ pub fn records_of(
     let faults = of_form
         .saturating_add(of_values)
         .saturating_add(faults_of(of_overrides.as_slice(), false, 0));
-    records_with_names(alloc, &reading, found, faults)
+    let records = records_with_names(alloc, &reading, found, faults);
+    drop(reading);
+    records
 }
 
 fn records_with_names(

@@ -102,7 +102,8 @@ fn add_type_measures(alloc: Global, text: &mut String, ty: &Type) -> Result<(), 
     add_align(text, ty.align_of())
 }
 
-fn add_size(
+/// The size, or that of what ends in a runtime-sized array.
+pub(crate) fn add_size(
     text: &mut String,
     size: Option<u32>,
     runtime: Option<RuntimePart>,
@@ -116,8 +117,8 @@ fn add_size(
     }
 }
 
-/// The size of what ends in a runtime-sized array, by the count of its elements.
-pub(crate) fn add_runtime_size(text: &mut String, part: RuntimePart) -> Result<(), AllocError>
+// The size of what ends in a runtime-sized array, by the count of its elements.
+fn add_runtime_size(text: &mut String, part: RuntimePart) -> Result<(), AllocError>
     ensures { OnOk result (string_bytes text.new ≡ string_bytes text.old ++ runtime_text part) }
 {
     let RuntimePart { start, stride } = part;
@@ -128,8 +129,24 @@ pub(crate) fn add_runtime_size(text: &mut String, part: RuntimePart) -> Result<(
     }
 }
 
-/// A structure is filled up to its alignment, whatever the count of elements.
-pub(crate) fn add_filled(
+/// A line of how large the whole is that ends in a runtime-sized array, of which a host's structure has the first element
+/// alone.
+pub(crate) fn add_runtime(
+    alloc: Global,
+    text: &mut String,
+    ty: &StructType,
+) -> Result<(), AllocError> {
+    let Some(runtime) = runtime_member(alloc, ty)? else {
+        return Ok(());
+    };
+    text.push_str("// with n elements at its end: ")?;
+    add_runtime_size(text, runtime)?;
+    add_filled(text, Some(runtime), ty.align_of())?;
+    text.push('\n')
+}
+
+// A structure is filled up to its alignment, whatever the count of elements.
+fn add_filled(
     text: &mut String,
     runtime: Option<RuntimePart>,
     align: Option<u32>,
@@ -156,7 +173,8 @@ fn add_least(
     }
 }
 
-fn add_align(text: &mut String, align: Option<u32>) -> Result<(), AllocError>
+/// The alignment, and the end of the line.
+pub(crate) fn add_align(text: &mut String, align: Option<u32>) -> Result<(), AllocError>
     ensures { OnOk result (string_bytes text.new ≡ string_bytes text.old ++ align_text align) }
 {
     match align {

@@ -28,11 +28,9 @@ pub(crate) fn count_tokens(reading: &Reading<'_>, number: usize) -> Option<Range
     let mut last = first;
     for token in first..usize::MAX {
         let word = reading.word(token);
-        match word {
-            "<" | "(" | "[" => depth = depth.saturating_add(1),
-            ">" | ")" | "]" => depth = depth.saturating_sub(1),
-            "," if depth == 1 => comma = Some(token),
-            _ => {}
+        depth = depth_behind(word, depth);
+        if depth == 1 && word == "," {
+            comma = Some(token);
         }
         if is_end(word) {
             break;
@@ -41,6 +39,15 @@ pub(crate) fn count_tokens(reading: &Reading<'_>, number: usize) -> Option<Range
     }
     let is_closed = reading.word(last) == ">";
     is_closed.then_some(comma?.saturating_add(1)..last)
+}
+
+// How deep brackets stand behind this word, which stand so deep before it.
+fn depth_behind(word: &str, depth: usize) -> usize {
+    match word {
+        "<" | "(" | "[" => depth.saturating_add(1),
+        ">" | ")" | "]" => depth.saturating_sub(1),
+        _ => depth,
+    }
 }
 
 // The declaration whose type is written out, behind aliases. An alias that needs itself ends the search.

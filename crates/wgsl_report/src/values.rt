@@ -1,8 +1,13 @@
 //! Values as lines.
 
+ghost use Rattle.std.specs.Prelude.{IfSome};
+ghost use Rattle.wgsl_rules.specs.Values.{IsWellFormed};
+ghost use Rattle.wgsl_values.specs.View.{value_of};
+
 use std::alloc::{AllocError, Global};
-use wgsl_eval::Outcome;
+use wgsl_eval::{Item, ItemKind, Outcome};
 use wgsl_rules::Ty;
+use wgsl_values::Instance;
 
 /// What is printed of a value: the name that is given to it, and what it is found to be.
 #[derive(Clone, Copy)]
@@ -37,8 +42,7 @@ fn add_outcome(
     match outcome {
         Outcome::Value(instance) => {
             if instance.is_well_formed() {
-                let ty = instance.ty(alloc)?;
-                writeln!(output, "{ty} = {instance}")?;
+                add_value(alloc, output, instance)?;
             }
             Ok(())
         }
@@ -48,5 +52,29 @@ fn add_outcome(
             writeln!(output, "not evaluated: {need}, `{found}`")
         }
         Outcome::Faulty => Ok(()),
+    }
+}
+
+/// `type = value`.
+pub(crate) fn add_value(
+    alloc: Global,
+    output: &mut String,
+    value: &Instance,
+) -> Result<(), AllocError>
+    requires { IsWellFormed (value_of value.now) }
+{
+    let ty = value.ty(alloc)?;
+    let added = writeln!(output, "{ty} = {value}");
+    drop(ty);
+    added
+}
+
+/// The value that a declaration is, where that is well-formed.
+pub(crate) fn value_in(item: Option<&Item>) -> Option<&Instance>
+    ensures { IfSome result (λ value. IsWellFormed (value_of value.now)) }
+{
+    match &item?.kind {
+        ItemKind::Value(instance) if instance.is_well_formed() => Some(instance),
+        _ => None,
     }
 }

@@ -39,5 +39,5 @@ returns c =
     subst (λ (n : List ℕ). IfType c.last_named.result (λ t. IsLast n t declared.items.items)) last-name
     (subst (λ (items : List Item). IfType c.last_named.result (λ t. IsLast c.as_str-2.result.now t items)) last-items c.last_named.ensures) in
     let either = either-of (λ t. IsVariable text t declared.items.items) (λ t. IsLast name t declared.items.items) c.variable_named-variable.result c.last_named.result c.unwrap_or-found.result c.unwrap_or-found.ensures variable last in
-    records-of (IsTypeOf source text settings) c.unwrap_or-found.result c.records_with_names.result
-    (if-type (λ t. IsVariable text t declared.items.items ⊎ IsLast name t declared.items.items) (IsTypeOf source text settings) c.unwrap_or-found.result typed either) c.records_with_names.ensures
+    records-of (IsTypeOf source text settings) c.unwrap_or-found.result c.records_with_names-records.result
+    (if-type (λ t. IsVariable text t declared.items.items ⊎ IsLast name t declared.items.items) (IsTypeOf source text settings) c.unwrap_or-found.result typed either) c.records_with_names-records.ensures
