@@ -77,7 +77,9 @@ impl Script {
             }
             Err(_) => Err(Stop::BadLine),
         };
-        write_answer(text, &answer)
+        let written = write_answer(text, &answer);
+        drop(answer);
+        written
     }
 
     fn answer(&mut self, words: &[&str]) -> Result<Answer<'_>, Stop> {
@@ -173,8 +175,9 @@ fn bytes_read<'a>(
         return Ok(Answer::Lent(bytes));
     }
     let value = reference.read(alloc, store)?;
-    let bytes = value.to_buffer(alloc)?;
-    Ok(Answer::Bytes(bytes.ok_or(Stop::NoValue)?))
+    let bytes = value.to_buffer(alloc);
+    drop(value);
+    Ok(Answer::Bytes(bytes?.ok_or(Stop::NoValue)?))
 }
 
 /// Makes a cell with the value of the type that the bytes lay out; `NoValue`, and nothing is changed, where they lay

@@ -85,13 +85,22 @@ impl Structs {
         Ok(self.add(declaration)?)
     }
 
-    // All growths come before the first change.
     fn add(&mut self, declaration: Declaration) -> Result<(), AllocError> {
+        match self.number(&declaration.name) {
+            Ok(()) => Ok(self.declared.push(declaration)?),
+            Err(error) => {
+                drop(declaration);
+                Err(error)
+            }
+        }
+    }
+
+    // Gives the name the next number, for whose structure there is room then. All growths come before the first change.
+    fn number(&mut self, name: &String) -> Result<(), AllocError> {
         let number = self.declared.len();
-        let name = declaration.name.clone()?;
+        let name = name.clone()?;
         self.declared.reserve(1)?;
         self.numbers.insert(name, number)?;
-        self.declared.push(declaration)?;
         Ok(())
     }
 
@@ -242,6 +251,22 @@ fn arrays_of(alloc: Global, counts: &[Option<u32>], element: Type) -> Result<Typ
     Ok(Type::Array(Box::new(alloc, inner)?, count))
 }
 
+/// The member as one of a type, whose own type is this.
+fn member_type(member: &Member, ty: Type) -> Result<StructMemberType, AllocError> {
+    match member.name.clone() {
+        Ok(name) => Ok(StructMemberType {
+            name,
+            ty,
+            size: member.attributes.size,
+            align: member.attributes.align,
+        }),
+        Err(error) => {
+            drop(ty);
+            Err(error)
+        }
+    }
+}
+
 /// The type of the name among the structures that stand before it; `None` where there are fewer.
 #[cycle(build)]
 fn type_in(
@@ -271,12 +296,7 @@ fn struct_in(alloc: Global, earlier: &[Declaration], n: usize) -> Result<Option<
         let Some(ty) = type_in(alloc, &earlier[..n], &member.ty)? else {
             return Ok(None);
         };
-        members.push(StructMemberType {
-            name: member.name.clone()?,
-            ty,
-            size: member.attributes.size,
-            align: member.attributes.align,
-        })?;
+        members.push(member_type(member, ty)?)?;
     }
     let name = declaration.name.clone()?;
     let ty = Box::new(alloc, StructType { name, members })?;
