@@ -1,9 +1,10 @@
 //! Atomics, and structures of them: one that is laid out as bytes, and one that has no layout.
 
+use crate::both::both;
 use crate::composites::{array_of, structure_of};
 use crate::types::{array, member, struct_type};
 use std::alloc::{AllocError, Global};
-use wgsl_rules::{StructType, Type};
+use wgsl_rules::{StructMemberType, StructType, Type};
 use wgsl_scalar::LiteralInstance;
 use wgsl_scalar::LiteralInstance::{I32, U32};
 use wgsl_values::{AtomicInstance, Instance};
@@ -49,20 +50,33 @@ fn atomic_type(alloc: Global, scalar: Type) -> Result<Type, AllocError> {
     Ok(Type::Atomic(Box::new(alloc, scalar)?))
 }
 
+fn count_member(alloc: Global) -> Result<StructMemberType, AllocError> {
+    member(alloc, "count", atomic_type(alloc, Type::U32)?, None)
+}
+
+fn totals_member(alloc: Global, n: Option<usize>) -> Result<StructMemberType, AllocError> {
+    let totals = array(alloc, atomic_type(alloc, Type::I32)?, n)?;
+    member(alloc, "totals", totals, None)
+}
+
+/// The members of an atomic u32 and of an array of so many atomics.
+fn count_and_totals(
+    alloc: Global,
+    n: Option<usize>,
+) -> Result<(StructMemberType, StructMemberType), AllocError> {
+    both(count_member(alloc), totals_member(alloc, n))
+}
+
 /// struct Counters { count: atomic<u32>, totals: array<atomic<i32>> }
 fn counters_type(alloc: Global) -> Result<StructType, AllocError> {
-    let count = member(alloc, "count", atomic_type(alloc, Type::U32)?, None)?;
-    let totals = array(alloc, atomic_type(alloc, Type::I32)?, None)?;
-    let totals = member(alloc, "totals", totals, None)?;
+    let (count, totals) = count_and_totals(alloc, None)?;
     struct_type(alloc, "Counters", vec![in alloc; count, totals]?)
 }
 
 /// struct Flagged { flag: bool, count: atomic<u32>, totals: array<atomic<i32>, N> }
 fn flagged_type(alloc: Global, n: usize) -> Result<StructType, AllocError> {
-    let flag = member(alloc, "flag", Type::Bool, None)?;
-    let count = member(alloc, "count", atomic_type(alloc, Type::U32)?, None)?;
-    let totals = array(alloc, atomic_type(alloc, Type::I32)?, Some(n))?;
-    let totals = member(alloc, "totals", totals, None)?;
+    let flag = member(alloc, "flag", Type::Bool, None);
+    let (flag, (count, totals)) = both(flag, count_and_totals(alloc, Some(n)))?;
     struct_type(alloc, "Flagged", vec![in alloc; flag, count, totals]?)
 }
 
@@ -75,8 +89,10 @@ pub fn counters(
     let Some(totals) = totals(alloc, numbers, true)? else {
         return Ok(None);
     };
-    let members = vec![in alloc; unsigned(alloc, count)?, totals]?;
-    let counters = structure_of(counters_type(alloc)?, members);
+    let (count, totals) = both(unsigned(alloc, count), Ok(totals))?;
+    let members = vec![in alloc; count, totals]?;
+    let (ty, members) = both(counters_type(alloc), Ok(members))?;
+    let counters = structure_of(ty, members);
     Ok(counters.map(Instance::from))
 }
 
@@ -85,7 +101,9 @@ pub fn flagged(alloc: Global, count: u32, numbers: &[i32]) -> Result<Option<Inst
     let Some(totals) = totals(alloc, numbers, false)? else {
         return Ok(None);
     };
-    let members = vec![in alloc; Instance::from(true), unsigned(alloc, count)?, totals]?;
-    let flagged = structure_of(flagged_type(alloc, numbers.len())?, members);
+    let (count, totals) = both(unsigned(alloc, count), Ok(totals))?;
+    let members = vec![in alloc; Instance::from(true), count, totals]?;
+    let (ty, members) = both(flagged_type(alloc, numbers.len()), Ok(members))?;
+    let flagged = structure_of(ty, members);
     Ok(flagged.map(Instance::from))
 }

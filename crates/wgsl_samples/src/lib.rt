@@ -2,6 +2,7 @@
 #![tactic(auto)]
 
 pub mod atomics;
+mod both;
 pub mod composites;
 pub mod operands;
 pub mod refusals;

@@ -5,6 +5,7 @@ ghost use Rattle.wgsl_rules.specs.Values.{IsStorable};
 ghost use Rattle.wgsl_values.specs.View.{vec_view};
 
 use crate::atomics::{atomic, counters, flagged, totals};
+use crate::both::both;
 use crate::composites::{array_of, matrix_of, structure_of, vector_of};
 use crate::types::pair_type;
 use std::alloc::{AllocError, Global};
@@ -176,7 +177,8 @@ fn structure(alloc: Global) -> Result<Option<Instance>, AllocError> {
         return Ok(None);
     };
     let members = vec![in alloc; Instance::from(1u32), b]?;
-    let structure = structure_of(pair_type(alloc)?, members);
+    let (ty, members) = both(pair_type(alloc), Ok(members))?;
+    let structure = structure_of(ty, members);
     Ok(structure.map(Instance::from))
 }
 

@@ -1,5 +1,6 @@
 //! Types that tests and benchmarks look at.
 
+use crate::both::both;
 use std::alloc::{AllocError, Global};
 use wgsl_rules::{AccessMode, AddressSpace, StructMemberType, StructType, Type};
 
@@ -25,8 +26,9 @@ pub fn member(
     ty: Type,
     size: Option<u32>,
 ) -> Result<StructMemberType, AllocError> {
+    let (name, ty) = both(format!(in alloc; "{name}"), Ok(ty))?;
     Ok(StructMemberType {
-        name: format!(in alloc; "{name}")?,
+        name,
         ty,
         size,
         align: None,
@@ -38,7 +40,7 @@ pub fn struct_type(
     name: &str,
     members: Vec<StructMemberType>,
 ) -> Result<StructType, AllocError> {
-    let name = format!(in alloc; "{name}")?;
+    let (name, members) = both(format!(in alloc; "{name}"), Ok(members))?;
     Ok(StructType { name, members })
 }
 
@@ -53,8 +55,9 @@ pub fn structure(
 
 /// struct Pair { a: u32, b: vec3<u32> }
 pub fn pair_type(alloc: Global) -> Result<StructType, AllocError> {
-    let a = member(alloc, "a", Type::U32, None)?;
-    let b = member(alloc, "b", vector(alloc, 3, Type::U32)?, None)?;
+    let vector = vector(alloc, 3, Type::U32)?;
+    let a = member(alloc, "a", Type::U32, None);
+    let (a, b) = both(a, member(alloc, "b", vector, None))?;
     struct_type(alloc, "Pair", vec![in alloc; a, b]?)
 }
 

@@ -1,5 +1,6 @@
 //! Values that tests look at.
 
+use crate::both::both;
 use std::alloc::{AllocError, Global};
 use wgsl_rules::{AccessMode, AddressSpace, Type};
 use wgsl_values::{Instance, MemView, RefInstance};
@@ -34,7 +35,9 @@ pub fn abstract_numbers(alloc: Global, numbers: &[i64]) -> Result<Vec<Instance>,
 /// The view `:m:2`.
 pub fn member_then_index(alloc: Global) -> Result<MemView, AllocError> {
     let index = MemView::Index(2, Box::new(alloc, MemView::Whole)?);
-    Ok(MemView::Member(format!(in alloc; "m")?, Box::new(alloc, index)?))
+    let index = Box::new(alloc, index)?;
+    let (name, index) = both(format!(in alloc; "m"), Ok(index))?;
+    Ok(MemView::Member(name, index))
 }
 
 /// The reference to `:m:2` of cell 7, of type u32, in the storage space, for reads and writes.
