@@ -1,6 +1,7 @@
 //! A table with one field of one record set to another number.
 
 use crate::tests::samples::{NAMES, scene_table};
+use std::process::Abort;
 use wgsl_nodes::{Node, count_in, first_difference, is_table, part, place, size_with, whole};
 
 /// The field of this place in a record.
@@ -42,6 +43,52 @@ fn is_kept(node: Node, what: u32, number: u32) -> bool {
     field(node, what) == number || (what == 1 && number == 1 && is_number)
 }
 
+/// Asserts that the tables differ in this field of this record alone, or are the same.
+fn assert_difference(
+    rt: &impl Abort,
+    table: &[Node],
+    mangled: &[Node],
+    i: usize,
+    what: u32,
+    is_same: bool,
+) {
+    let difference = first_difference(table, mangled);
+    assert_eq!(rt; difference.is_none(), is_same);
+    if let Some(difference) = difference {
+        assert_eq!(rt; difference.of_first as usize, i);
+        assert_eq!(rt; difference.of_second as usize, i);
+        assert_eq!(rt; difference.what, what);
+    }
+}
+
+/// Asks for places, a size, a count and a part, each of which ends whatever the records say.
+fn look_into(mangled: &[Node]) {
+    let _ = place(mangled, NAMES, 224, b"d[2].color.b");
+    let _ = place(mangled, NAMES, 224, b"c[3][2].y");
+    let _ = size_with(mangled, 0, 3);
+    let _ = count_in(mangled, 0, 224);
+    if let Some(start) = whole(mangled) {
+        let _ = part(mangled, start, 3, 224);
+    }
+}
+
+/// Sets the field of this record to the number, asserts what is told of that, and sets it back.
+fn assert_looked_at(
+    rt: &impl Abort,
+    table: &[Node],
+    nodes: &mut [Node],
+    i: usize,
+    what: u32,
+    number: u32,
+) {
+    let node = *nodes.get(i).expect(rt, "a record");
+    *nodes.get_mut(i).expect(rt, "a record") = with_field(node, what, number);
+    assert_eq!(rt; is_table(nodes), is_kept(node, what, number));
+    assert_difference(rt, table, nodes, i, what, field(node, what) == number);
+    look_into(nodes);
+    *nodes.get_mut(i).expect(rt, "a record") = node;
+}
+
 #[test]
 fn each_field_is_looked_at(rt: HostRuntime) {
     let mut nodes = scene_table(&rt, rt.alloc());
@@ -50,25 +97,8 @@ fn each_field_is_looked_at(rt: HostRuntime) {
     for i in 0..nodes.len() {
         for what in 0..10 {
             for number in [0, 1, u32::MAX] {
-                let node = *nodes.get(i).expect(&rt, "a record");
-                *nodes.get_mut(i).expect(&rt, "a record") = with_field(node, what, number);
-                let mangled = nodes.as_slice();
-                assert_eq!(rt; is_table(mangled), is_kept(node, what, number));
-                let difference = first_difference(table.as_slice(), mangled);
-                assert_eq!(rt; difference.is_none(), field(node, what) == number);
-                if let Some(difference) = difference {
-                    assert_eq!(rt; difference.of_first as usize, i);
-                    assert_eq!(rt; difference.of_second as usize, i);
-                    assert_eq!(rt; difference.what, what);
-                }
-                let _ = place(mangled, NAMES, 224, b"d[2].color.b");
-                let _ = place(mangled, NAMES, 224, b"c[3][2].y");
-                let _ = size_with(mangled, 0, 3);
-                let _ = count_in(mangled, 0, 224);
-                if let Some(start) = whole(mangled) {
-                    let _ = part(mangled, start, 3, 224);
-                }
-                *nodes.get_mut(i).expect(&rt, "a record") = node;
+                let mangled = nodes.as_mut_slice();
+                assert_looked_at(&rt, table.as_slice(), mangled, i, what, number);
             }
         }
     }

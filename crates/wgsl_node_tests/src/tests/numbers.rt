@@ -1,6 +1,8 @@
 //! Numbers that are read and written in bytes.
 
 use crate::tests::samples::boxed;
+use std::alloc::Global;
+use std::process::Abort;
 use wgsl_nodes::{Place, load, load_vec, nodes_of, store, store_vec, whole};
 use wgsl_rules::Type;
 
@@ -37,33 +39,51 @@ fn numbers_are_loaded(rt: HostRuntime) {
     }
 }
 
+/// The offset and the kind of a number, the number, and whether it is stored: the first, and no other.
+const STORED: &[(u64, u32, u64, bool)] = &[
+    (1, 3, 0x8070_6050, true),
+    (1, 3, 0x1_0000_0000, false),
+    (3, 3, 1, false),
+    (1, 4, 0x1_0000, false),
+];
+
 #[test]
 fn numbers_are_stored(rt: HostRuntime) {
     let mut bytes: [u8; 6] = [0; 6];
-    assert!(rt; store(&mut bytes, at(1, 3, 1), 0x8070_6050));
-    assert_eq!(rt; bytes, [0, 0x50, 0x60, 0x70, 0x80, 0]);
-    assert!(rt; !store(&mut bytes, at(1, 3, 1), 0x1_0000_0000));
-    assert!(rt; !store(&mut bytes, at(3, 3, 1), 1));
-    assert!(rt; !store(&mut bytes, at(1, 4, 1), 0x1_0000));
-    assert_eq!(rt; bytes, [0, 0x50, 0x60, 0x70, 0x80, 0]);
+    for (offset, kind, number, is_stored) in STORED {
+        let stored = store(&mut bytes, at(*offset, *kind, 1), *number);
+        assert_eq!(rt; stored, *is_stored);
+        assert_eq!(rt; bytes, [0, 0x50, 0x60, 0x70, 0x80, 0]);
+    }
 }
+
+/// The place of a vector of three f16.
+fn vector_place(rt: &impl Abort, alloc: Global) -> Place {
+    let ty = Type::Vec(3, boxed(alloc, Type::F16).expect(rt, "memory"));
+    let made = nodes_of(alloc, &ty).expect(rt, "memory");
+    drop(ty);
+    let nodes = made.expect(rt, "a table");
+    let place = whole(nodes.as_slice()).expect(rt, "a root");
+    drop(nodes);
+    place
+}
+
+/// Numbers that are stored in eight bytes one after the other, and whether they are: the first, and no others.
+const VECTORS: &[(&[u64], bool)] = &[
+    (&[1, 0x203, 0xffff], true),
+    (&[1, 2, 0x1_0000], false),
+    (&[1, 2], false),
+];
 
 #[test]
 fn a_vector_of_f16(rt: HostRuntime) {
-    let alloc = rt.alloc();
-    let ty = Type::Vec(3, boxed(alloc, Type::F16).expect(&rt, "memory"));
-    let made = nodes_of(alloc, &ty).expect(&rt, "memory");
-    drop(ty);
-    let nodes = made.expect(&rt, "a table");
-    let place = whole(nodes.as_slice()).expect(&rt, "a root");
-    drop(nodes);
+    let place = vector_place(&rt, rt.alloc());
     let mut bytes: [u8; 8] = [9; 8];
-    assert!(rt; store_vec(&mut bytes, place, &[1, 0x203, 0xffff]));
-    assert_eq!(rt; bytes, [1, 0, 3, 2, 0xff, 0xff, 9, 9]);
+    for (numbers, is_stored) in VECTORS {
+        assert_eq!(rt; store_vec(&mut bytes, place, numbers), *is_stored);
+        assert_eq!(rt; bytes, [1, 0, 3, 2, 0xff, 0xff, 9, 9]);
+    }
     let mut numbers: [u64; 3] = [0; 3];
     assert!(rt; load_vec(&bytes, place, &mut numbers));
     assert_eq!(rt; numbers, [1, 0x203, 0xffff]);
-    assert!(rt; !store_vec(&mut bytes, place, &[1, 2, 0x1_0000]));
-    assert!(rt; !store_vec(&mut bytes, place, &[1, 2]));
-    assert_eq!(rt; bytes, [1, 0, 3, 2, 0xff, 0xff, 9, 9]);
 }

@@ -1,7 +1,7 @@
 //! Paths in the table of a structure, and where they lead.
 
 use crate::tests::samples::{NAMES, boxed, scene_table};
-use wgsl_nodes::{count_in, nodes_of, part, place, size_with, whole};
+use wgsl_nodes::{Place, count_in, nodes_of, part, place, size_with, whole};
 use wgsl_rules::Type;
 
 /// A path, and the offset, the record, the kind and the count of its place, in three lights.
@@ -67,12 +67,14 @@ fn paths_lead_to_places(rt: HostRuntime) {
     let nodes = scene_table(&rt, rt.alloc());
     assert_eq!(rt; nodes.len(), 14);
     for (path, offset, node, kind, count) in PLACES {
-        let found = place(nodes.as_slice(), NAMES, LEN, path).expect(&rt, "a place");
-        assert_eq!(rt; found.offset, *offset);
-        assert_eq!(rt; found.node, *node);
-        assert_eq!(rt; found.kind, *kind);
-        assert_eq!(rt; found.count, *count);
-        assert_eq!(rt; found.spare, 0);
+        let wanted = Place {
+            offset: *offset,
+            node: *node,
+            kind: *kind,
+            count: *count,
+            spare: 0,
+        };
+        assert_eq!(rt; place(nodes.as_slice(), NAMES, LEN, path), Some(wanted));
     }
     drop(nodes);
 }
@@ -100,17 +102,31 @@ fn positions_lead_on(rt: HostRuntime) {
     drop(nodes);
 }
 
+/// A record, a count, and the bytes that it has with as many elements at its end.
+const SIZES: &[(u32, u64, Option<u64>)] = &[
+    (0, 3, Some(LEN)),
+    (9, 3, Some(32)),
+    (0, u64::MAX, None),
+    (14, 0, None),
+];
+
+/// A record, so many bytes, and how many elements at its end lie in these.
+const COUNTS: &[(u32, u64, Option<u64>)] = &[
+    (0, LEN + 31, Some(3)),
+    (0, 159, None),
+    (9, 32, Some(0)),
+    (9, 31, None),
+];
+
 #[test]
 fn lengths_and_counts(rt: HostRuntime) {
     let nodes = scene_table(&rt, rt.alloc());
-    assert_eq!(rt; size_with(nodes.as_slice(), 0, 3), Some(LEN));
-    assert_eq!(rt; size_with(nodes.as_slice(), 9, 3), Some(32));
-    assert_eq!(rt; size_with(nodes.as_slice(), 0, u64::MAX), None);
-    assert_eq!(rt; size_with(nodes.as_slice(), 14, 0), None);
-    assert_eq!(rt; count_in(nodes.as_slice(), 0, LEN + 31), Some(3));
-    assert_eq!(rt; count_in(nodes.as_slice(), 0, 159), None);
-    assert_eq!(rt; count_in(nodes.as_slice(), 9, 32), Some(0));
-    assert_eq!(rt; count_in(nodes.as_slice(), 9, 31), None);
+    for (node, count, wanted) in SIZES {
+        assert_eq!(rt; size_with(nodes.as_slice(), *node, *count), *wanted);
+    }
+    for (node, len, wanted) in COUNTS {
+        assert_eq!(rt; count_in(nodes.as_slice(), *node, *len), *wanted);
+    }
     drop(nodes);
 }
 

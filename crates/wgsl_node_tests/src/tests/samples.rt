@@ -40,24 +40,63 @@ pub(super) fn structure(alloc: Global, members: Vec<StructMemberType>) -> Result
     Ok(Type::Struct(Box::new(alloc, ty)?))
 }
 
+fn vector(alloc: Global, content: Type) -> Result<Type, AllocError> {
+    Ok(Type::Vec(3, boxed(alloc, content)?))
+}
+
+fn matrix(alloc: Global, content: Type) -> Result<Type, AllocError> {
+    Ok(Type::Mat(3, 2, boxed(alloc, content)?))
+}
+
+fn atomic(alloc: Global, content: Type) -> Result<Type, AllocError> {
+    Ok(Type::Atomic(boxed(alloc, content)?))
+}
+
+fn array(alloc: Global, element: Type, count: Option<usize>) -> Result<Type, AllocError> {
+    Ok(Type::Array(boxed(alloc, element)?, count))
+}
+
+fn add_member(
+    alloc: Global,
+    members: &mut Vec<StructMemberType>,
+    ty: Type,
+) -> Result<(), AllocError> {
+    members.push(member(alloc, ty)?)?;
+    Ok(())
+}
+
+fn add_members_of_light(
+    alloc: Global,
+    members: &mut Vec<StructMemberType>,
+) -> Result<(), AllocError> {
+    add_member(alloc, members, vector(alloc, Type::F32)?)?;
+    add_member(alloc, members, Type::F32)?;
+    add_member(alloc, members, atomic(alloc, Type::U32)?)
+}
+
 /// struct Light { color: vec3<f32>, power: f32, count: atomic<u32> }
 fn light(alloc: Global) -> Result<Type, AllocError> {
     let mut members = Vec::new(alloc);
-    members.push(member(alloc, Type::Vec(3, boxed(alloc, Type::F32)?))?)?;
-    members.push(member(alloc, Type::F32)?)?;
-    members.push(member(alloc, Type::Atomic(boxed(alloc, Type::U32)?))?)?;
+    add_members_of_light(alloc, &mut members)?;
     structure(alloc, members)
+}
+
+fn add_members_of_scene(
+    alloc: Global,
+    members: &mut Vec<StructMemberType>,
+) -> Result<(), AllocError> {
+    add_member(alloc, members, Type::U32)?;
+    add_member(alloc, members, vector(alloc, Type::F32)?)?;
+    let matrices = array(alloc, matrix(alloc, Type::F32)?, Some(4))?;
+    add_member(alloc, members, matrices)?;
+    let lights = array(alloc, light(alloc)?, None)?;
+    add_member(alloc, members, lights)
 }
 
 /// struct Scene { a: u32, b: vec3<f32>, c: array<mat3x2<f32>, 4>, d: array<Light> }
 pub(super) fn scene(alloc: Global) -> Result<Type, AllocError> {
-    let matrix = Type::Mat(3, 2, boxed(alloc, Type::F32)?);
     let mut members = Vec::new(alloc);
-    members.push(member(alloc, Type::U32)?)?;
-    members.push(member(alloc, Type::Vec(3, boxed(alloc, Type::F32)?))?)?;
-    members.push(member(alloc, Type::Array(boxed(alloc, matrix)?, Some(4)))?)?;
-    let lights = boxed(alloc, light(alloc)?)?;
-    members.push(member(alloc, Type::Array(lights, None))?)?;
+    add_members_of_scene(alloc, &mut members)?;
     structure(alloc, members)
 }
 
