@@ -1,6 +1,6 @@
 //! Declarations as shaders have them.
 
-use crate::tests::texts::assert_declares;
+use crate::tests::texts::assert_all_declare;
 
 const ROWS: [(&str, &str); 17] = [
     ("", ""),
@@ -63,7 +63,5 @@ const ROWS: [(&str, &str); 17] = [
 
 #[test]
 fn declarations_have_their_names(rt: HostRuntime) {
-    for (source, wanted) in &ROWS {
-        assert_declares(&rt, rt.alloc(), source, wanted);
-    }
+    assert_all_declare(&rt, rt.alloc(), &ROWS);
 }

@@ -1,8 +1,6 @@
 //! Where directives end, and what is read behind one without its `;`.
 
-use crate::tests::texts::assert_declares;
-use std::alloc::Global;
-use std::process::Abort;
+use crate::tests::texts::assert_all_declare;
 
 const WHOLE: [(&str, &str); 4] = [
     ("enable f16, subgroups; const N = 1;", "const N"),
@@ -65,18 +63,12 @@ const OPEN: [(&str, &str); 15] = [
     ),
 ];
 
-fn assert_all(rt: &impl Abort, alloc: Global, rows: &[(&str, &str)]) {
-    for (source, wanted) in rows {
-        assert_declares(rt, alloc, source, wanted);
-    }
-}
-
 #[test]
 fn directives_end_with_their_semicolons(rt: HostRuntime) {
-    assert_all(&rt, rt.alloc(), &WHOLE);
+    assert_all_declare(&rt, rt.alloc(), &WHOLE);
 }
 
 #[test]
 fn declarations_behind_open_directives_are_read(rt: HostRuntime) {
-    assert_all(&rt, rt.alloc(), &OPEN);
+    assert_all_declare(&rt, rt.alloc(), &OPEN);
 }

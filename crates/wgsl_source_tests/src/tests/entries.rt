@@ -1,7 +1,9 @@
 //! Entry points with the sizes of their workgroups, the numbers of overrides, and variables of immediate data.
 
-use crate::tests::texts::{assert_declares, separate};
+use crate::tests::modules::assert_orders;
+use crate::tests::texts::{assert_all_declare, assert_text, reading_of, separate};
 use std::alloc::{AllocError, Global};
+use std::process::Abort;
 use wgsl_source::{Declared, DeclaredEntry, EntryStage, Reading, Span};
 
 // Of each expression its first word stands for it.
@@ -90,30 +92,32 @@ const IMMEDIATE: [(&str, &str); 4] = [
 
 // A constant stands before the function whose workgroup's size names it.
 const ORDERS: [(&str, &str); 3] = [
-    ("@compute @workgroup_size(N) fn f() { } const N = 4;", "N f"),
+    (
+        "@compute @workgroup_size(N) fn f() { } const N = 4;",
+        "N; f",
+    ),
     (
         "@compute @workgroup_size(1, M + 1) fn f() { } override M = N; const N = 4;",
-        "N M f",
+        "N; M; f",
     ),
-    ("@id(N) override m = 1; const N = 4;", "N m"),
+    ("@id(N) override m = 1; const N = 4;", "N; m"),
 ];
 
-fn text_of(alloc: Global, source: &str) -> Result<String, AllocError> {
-    let reading = Reading::of_module(alloc, source)?;
-    let mut text = String::new(alloc);
-    for number in 0..reading.len() {
-        separate(&mut text)?;
-        text.push_str(reading.word(reading.name(number)))?;
-        if let Some(entry) = reading.entry(number) {
-            add_entry(&mut text, &reading, entry)?;
-        }
-        if let Some(id) = reading.id(number) {
-            text.push_str(" id")?;
-            add_span(&mut text, &reading, id)?;
-        }
-        add_space(&mut text, reading.declared(number))?;
+fn add_declaration(
+    text: &mut String,
+    reading: &Reading<'_>,
+    number: usize,
+) -> Result<(), AllocError> {
+    separate(text)?;
+    text.push_str(reading.word(reading.name(number)))?;
+    if let Some(entry) = reading.entry(number) {
+        add_entry(text, reading, entry)?;
     }
-    Ok(text)
+    if let Some(id) = reading.id(number) {
+        text.push_str(" id")?;
+        add_span(text, reading, id)?;
+    }
+    add_space(text, reading.declared(number))
 }
 
 fn add_entry(
@@ -152,45 +156,39 @@ fn add_space(text: &mut String, declared: Option<Declared>) -> Result<(), AllocE
     Ok(())
 }
 
-fn text_of_order(alloc: Global, source: &str) -> Result<String, AllocError> {
-    let reading = Reading::of_module(alloc, source)?;
+fn text_of(rt: &impl Abort, alloc: Global, source: &str) -> String {
+    let reading = reading_of(rt, alloc, source);
     let mut text = String::new(alloc);
-    for number in reading.order() {
-        if !text.is_empty() {
-            text.push(' ')?;
-        }
-        text.push_str(reading.word(reading.name(*number)))?;
+    for number in 0..reading.len() {
+        add_declaration(&mut text, &reading, number).expect(rt, "memory");
     }
-    Ok(text)
+    drop(reading);
+    text
+}
+
+fn assert_texts(rt: &impl Abort, alloc: Global, rows: &[(&str, &str)]) {
+    for (source, wanted) in rows {
+        let text = text_of(rt, alloc, source);
+        assert_text(rt, text, wanted, source);
+    }
 }
 
 #[test]
 fn entry_points_have_their_stages_and_sizes(rt: HostRuntime) {
-    for (source, wanted) in &ENTRIES {
-        let text = text_of(rt.alloc(), source).expect(&rt, "memory");
-        assert_eq!(rt; text.as_str(), *wanted, "of {source}");
-    }
+    assert_texts(&rt, rt.alloc(), &ENTRIES);
 }
 
 #[test]
 fn faults_of_host_attributes_are_told(rt: HostRuntime) {
-    for (source, wanted) in &FAULTS {
-        assert_declares(&rt, rt.alloc(), source, wanted);
-    }
+    assert_all_declare(&rt, rt.alloc(), &FAULTS);
 }
 
 #[test]
 fn immediate_data_is_told_apart(rt: HostRuntime) {
-    for (source, wanted) in &IMMEDIATE {
-        let text = text_of(rt.alloc(), source).expect(&rt, "memory");
-        assert_eq!(rt; text.as_str(), *wanted, "of {source}");
-    }
+    assert_texts(&rt, rt.alloc(), &IMMEDIATE);
 }
 
 #[test]
 fn attributes_name_declarations_before_theirs(rt: HostRuntime) {
-    for (source, wanted) in &ORDERS {
-        let text = text_of_order(rt.alloc(), source).expect(&rt, "memory");
-        assert_eq!(rt; text.as_str(), *wanted, "of {source}");
-    }
+    assert_orders(&rt, rt.alloc(), &ORDERS);
 }

@@ -1,6 +1,6 @@
 //! Sources that are not read as they stand, and what is read behind the fault.
 
-use crate::tests::texts::assert_declares;
+use crate::tests::texts::assert_all_declare;
 
 const ROWS: [(&str, &str); 17] = [
     ("struct S { a u32 }", "1:14 expected `:`"),
@@ -42,7 +42,5 @@ const ROWS: [(&str, &str); 17] = [
 
 #[test]
 fn faults_have_their_places(rt: HostRuntime) {
-    for (source, wanted) in &ROWS {
-        assert_declares(&rt, rt.alloc(), source, wanted);
-    }
+    assert_all_declare(&rt, rt.alloc(), &ROWS);
 }

@@ -1,6 +1,6 @@
 //! Words that are no names, at their places; what they name is read all the same.
 
-use crate::tests::texts::assert_declares;
+use crate::tests::texts::assert_all_declare;
 
 const KEYWORDS: [(&str, &str); 5] = [
     ("const alias = 1;", "const alias; 1:7 this is a keyword"),
@@ -53,21 +53,15 @@ const UNDERSCORES: [(&str, &str); 3] = [
 
 #[test]
 fn keywords_are_no_names(rt: HostRuntime) {
-    for (source, wanted) in &KEYWORDS {
-        assert_declares(&rt, rt.alloc(), source, wanted);
-    }
+    assert_all_declare(&rt, rt.alloc(), &KEYWORDS);
 }
 
 #[test]
 fn reserved_words_are_no_names(rt: HostRuntime) {
-    for (source, wanted) in &RESERVED {
-        assert_declares(&rt, rt.alloc(), source, wanted);
-    }
+    assert_all_declare(&rt, rt.alloc(), &RESERVED);
 }
 
 #[test]
 fn names_do_not_begin_with_two_underscores(rt: HostRuntime) {
-    for (source, wanted) in &UNDERSCORES {
-        assert_declares(&rt, rt.alloc(), source, wanted);
-    }
+    assert_all_declare(&rt, rt.alloc(), &UNDERSCORES);
 }

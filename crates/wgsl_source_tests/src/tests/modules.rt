@@ -1,8 +1,9 @@
 //! What readings show of modules: what stands at a variable, and an order of the declarations.
 
-use crate::tests::texts::separate;
+use crate::tests::texts::{assert_text, reading_of, separate};
 use std::alloc::{AllocError, Global};
-use wgsl_source::{Declared, Reading, Span};
+use std::process::Abort;
+use wgsl_source::{Declared, DeclaredVariable, Reading, Span};
 
 const VARIABLES: [(&str, &str); 6] = [
     (
@@ -36,22 +37,20 @@ const ORDERS: [(&str, &str); 5] = [
     ("const N = f(1); fn f() { g(); }", "f; N"),
 ];
 
-fn text_of_variable(alloc: Global, source: &str) -> Result<String, AllocError> {
-    let reading = Reading::of_module(alloc, source)?;
-    let mut text = String::new(alloc);
-    let Some(Declared::Variable(variable)) = reading.declared(0) else {
-        return Ok(text);
-    };
+fn add_variable(
+    text: &mut String,
+    reading: &Reading<'_>,
+    variable: DeclaredVariable,
+) -> Result<(), AllocError> {
     if let Some(space) = variable.space {
         write!(text, "{space}")?;
     }
     if let Some(access) = variable.access {
         write!(text, "; {access}")?;
     }
-    add_first_word(&mut text, &reading, "type", variable.ty)?;
-    add_first_word(&mut text, &reading, "group", variable.group)?;
-    add_first_word(&mut text, &reading, "binding", variable.binding)?;
-    Ok(text)
+    add_first_word(text, reading, "type", variable.ty)?;
+    add_first_word(text, reading, "group", variable.group)?;
+    add_first_word(text, reading, "binding", variable.binding)
 }
 
 // The token that the expression begins with, where there is one.
@@ -69,28 +68,51 @@ fn add_first_word(
     write!(text, "{name} {word}")
 }
 
-fn text_of_order(alloc: Global, source: &str) -> Result<String, AllocError> {
-    let reading = Reading::of_module(alloc, source)?;
+/// What stands at the first declaration, if it is a variable.
+fn text_of_variable(rt: &impl Abort, alloc: Global, source: &str) -> String {
+    let reading = reading_of(rt, alloc, source);
     let mut text = String::new(alloc);
+    if let Some(Declared::Variable(variable)) = reading.declared(0) {
+        add_variable(&mut text, &reading, variable).expect(rt, "memory");
+    }
+    drop(reading);
+    text
+}
+
+fn add_order(text: &mut String, reading: &Reading<'_>) -> Result<(), AllocError> {
     for number in reading.order() {
-        separate(&mut text)?;
+        separate(text)?;
         text.push_str(reading.word(reading.name(*number)))?;
     }
-    Ok(text)
+    Ok(())
+}
+
+/// The names of the declarations in their order.
+fn text_of_order(rt: &impl Abort, alloc: Global, source: &str) -> String {
+    let reading = reading_of(rt, alloc, source);
+    let mut text = String::new(alloc);
+    add_order(&mut text, &reading).expect(rt, "memory");
+    drop(reading);
+    text
 }
 
 #[test]
 fn what_stands_at_variables_is_shown(rt: HostRuntime) {
     for (source, wanted) in &VARIABLES {
-        let text = text_of_variable(rt.alloc(), source).expect(&rt, "memory");
-        assert_eq!(rt; text.as_str(), *wanted, "of {source}");
+        let text = text_of_variable(&rt, rt.alloc(), source);
+        assert_text(&rt, text, wanted, source);
+    }
+}
+
+/// Asserts that the declarations of each source have the order of the text beside it.
+pub(super) fn assert_orders(rt: &impl Abort, alloc: Global, rows: &[(&str, &str)]) {
+    for (source, wanted) in rows {
+        let text = text_of_order(rt, alloc, source);
+        assert_text(rt, text, wanted, source);
     }
 }
 
 #[test]
 fn declarations_stand_behind_those_that_they_name(rt: HostRuntime) {
-    for (source, wanted) in &ORDERS {
-        let text = text_of_order(rt.alloc(), source).expect(&rt, "memory");
-        assert_eq!(rt; text.as_str(), *wanted, "of {source}");
-    }
+    assert_orders(&rt, rt.alloc(), &ORDERS);
 }

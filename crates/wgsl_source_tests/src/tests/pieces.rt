@@ -1,8 +1,9 @@
 //! What modules are made of, one piece behind the other.
 
-use crate::tests::texts::separate;
+use crate::tests::texts::{assert_text, reading_of, separate};
 use std::alloc::{AllocError, Global};
-use wgsl_source::{PieceKind, Reading};
+use std::process::Abort;
+use wgsl_source::{Piece, PieceKind};
 
 const ROWS: [(&str, &str); 6] = [
     ("", ""),
@@ -28,29 +29,38 @@ const ROWS: [(&str, &str); 6] = [
     ),
 ];
 
-fn pieces_of(alloc: Global, source: &str) -> Result<String, AllocError> {
-    let reading = Reading::of_module(alloc, source)?;
-    let mut text = String::new(alloc);
-    for piece in reading.pieces() {
-        separate(&mut text)?;
-        let (start, end) = (piece.start, piece.end);
-        match piece.kind {
-            PieceKind::Declaration(number) => write!(text, "{start}-{end} declaration {number}")?,
-            PieceKind::Assertion(number) => write!(text, "{start}-{end} assertion {number}")?,
-            PieceKind::Directive => write!(text, "{start}-{end} directive")?,
-            PieceKind::Semicolon => write!(text, "{start}-{end} semicolon")?,
-            PieceKind::Fault(token, reason) => {
-                write!(text, "{start}-{end} fault {token} {reason}")?;
-            }
-        }
+fn add_pieces(text: &mut String, pieces: &[Piece]) -> Result<(), AllocError> {
+    for piece in pieces {
+        separate(text)?;
+        add_piece(text, *piece)?;
     }
-    Ok(text)
+    Ok(())
+}
+
+fn add_piece(text: &mut String, piece: Piece) -> Result<(), AllocError> {
+    let (start, end) = (piece.start, piece.end);
+    write!(text, "{start}-{end} ")?;
+    match piece.kind {
+        PieceKind::Declaration(number) => write!(text, "declaration {number}"),
+        PieceKind::Assertion(number) => write!(text, "assertion {number}"),
+        PieceKind::Directive => text.push_str("directive"),
+        PieceKind::Semicolon => text.push_str("semicolon"),
+        PieceKind::Fault(token, reason) => write!(text, "fault {token} {reason}"),
+    }
+}
+
+fn pieces_of(rt: &impl Abort, alloc: Global, source: &str) -> String {
+    let reading = reading_of(rt, alloc, source);
+    let mut text = String::new(alloc);
+    add_pieces(&mut text, reading.pieces()).expect(rt, "memory");
+    drop(reading);
+    text
 }
 
 #[test]
 fn modules_are_made_of_pieces(rt: HostRuntime) {
     for (source, wanted) in &ROWS {
-        let pieces = pieces_of(rt.alloc(), source).expect(&rt, "memory");
-        assert_eq!(rt; pieces.as_str(), *wanted, "of {source}");
+        let pieces = pieces_of(&rt, rt.alloc(), source);
+        assert_text(&rt, pieces, wanted, source);
     }
 }

@@ -1,8 +1,6 @@
 //! Lines and names that are for a preprocessor, and imports: each is told once, and what stands around it is read.
 
-use crate::tests::texts::assert_declares;
-use std::alloc::Global;
-use std::process::Abort;
+use crate::tests::texts::assert_all_declare;
 
 const LINES: [(&str, &str); 10] = [
     (
@@ -80,23 +78,17 @@ const IMPORTS: [(&str, &str); 4] = [
     ("import", "1:1 imports are not followed"),
 ];
 
-fn assert_all(rt: &impl Abort, alloc: Global, rows: &[(&str, &str)]) {
-    for (source, wanted) in rows {
-        assert_declares(rt, alloc, source, wanted);
-    }
-}
-
 #[test]
 fn lines_for_a_preprocessor_are_told_and_passed_over(rt: HostRuntime) {
-    assert_all(&rt, rt.alloc(), &LINES);
+    assert_all_declare(&rt, rt.alloc(), &LINES);
 }
 
 #[test]
 fn names_for_a_preprocessor_are_told_and_read(rt: HostRuntime) {
-    assert_all(&rt, rt.alloc(), &NAMES);
+    assert_all_declare(&rt, rt.alloc(), &NAMES);
 }
 
 #[test]
 fn imports_are_told_and_passed_over(rt: HostRuntime) {
-    assert_all(&rt, rt.alloc(), &IMPORTS);
+    assert_all_declare(&rt, rt.alloc(), &IMPORTS);
 }

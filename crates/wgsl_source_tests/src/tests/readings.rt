@@ -1,6 +1,6 @@
 //! What readings show of expressions: what the grammar refuses in them, and what literals stand for.
 
-use crate::tests::texts::separate;
+use crate::tests::texts::{assert_text, separate};
 use std::alloc::{AllocError, Global};
 use std::process::Abort;
 use wgsl_source::{Lines, Literal, Reading};
@@ -56,58 +56,80 @@ const LITERALS: [(&str, &str); 12] = [
     ("1e3", "float"),
 ];
 
-fn text_of_faults(alloc: Global, source: &str) -> Result<String, AllocError> {
-    let reading = Reading::of_expression(alloc, source)?;
-    let lines = Lines::new(alloc, source)?;
-    let mut text = String::new(alloc);
+fn add_faults(
+    text: &mut String,
+    reading: &Reading<'_>,
+    lines: &Lines,
+    source: &str,
+) -> Result<(), AllocError> {
     for fault in reading.faults() {
-        separate(&mut text)?;
+        separate(text)?;
         let place = lines.place(source, fault.start);
         let (line, column) = (place.line, place.column);
         write!(text, "{line}:{column}")?;
-        if (0..source.len()).any(|token| {
-            reading.is_refused(token) && reading.extent(token).start == fault.start
-        }) {
+        if is_refused_at(reading, source.len(), fault.start) {
             text.push_str(" refused")?;
         }
         let reason = fault.reason;
         write!(text, " {reason}")?;
     }
-    Ok(text)
+    Ok(())
 }
 
-fn text_of_literal(alloc: Global, source: &str) -> Result<String, AllocError> {
-    let reading = Reading::of_expression(alloc, source)?;
-    match reading.literal(0) {
+/// Whether one of so many tokens is refused that begins there.
+fn is_refused_at(reading: &Reading<'_>, tokens: usize, start: usize) -> bool {
+    (0..tokens).any(|token| reading.is_refused(token) && reading.extent(token).start == start)
+}
+
+/// The faults of an expression.
+fn text_of_faults(rt: &impl Abort, alloc: Global, source: &str) -> String {
+    let reading = Reading::of_expression(alloc, source).expect(rt, "memory");
+    let lines = Lines::new(alloc, source).expect(rt, "memory");
+    let mut text = String::new(alloc);
+    add_faults(&mut text, &reading, &lines, source).expect(rt, "memory");
+    drop(lines);
+    drop(reading);
+    text
+}
+
+fn text_of(alloc: Global, literal: Literal) -> Result<String, AllocError> {
+    match literal {
         Literal::Integer(number) => format!(in alloc; "{number}"),
         Literal::Float => String::from_str(alloc, "float"),
         Literal::Wrong => String::from_str(alloc, "wrong"),
     }
 }
 
-fn assert_tells(rt: &impl Abort, alloc: Global, source: &str, wanted: &str) {
-    let text = text_of_faults(alloc, source).expect(rt, "memory");
-    assert_eq!(rt; text.as_str(), wanted, "of {source}");
+/// The literal that an expression is.
+fn literal_of(rt: &impl Abort, alloc: Global, source: &str) -> Literal {
+    let reading = Reading::of_expression(alloc, source).expect(rt, "memory");
+    let literal = reading.literal(0);
+    drop(reading);
+    literal
+}
+
+fn assert_tell(rt: &impl Abort, alloc: Global, rows: &[(&str, &str)]) {
+    for (source, wanted) in rows {
+        let text = text_of_faults(rt, alloc, source);
+        assert_text(rt, text, wanted, source);
+    }
 }
 
 #[test]
 fn mixed_operators_are_refused_at_their_places(rt: HostRuntime) {
-    for (source, wanted) in &MIXES {
-        assert_tells(&rt, rt.alloc(), source, wanted);
-    }
+    assert_tell(&rt, rt.alloc(), &MIXES);
 }
 
 #[test]
 fn comparisons_do_not_follow_each_other(rt: HostRuntime) {
-    for (source, wanted) in &COMPARISONS {
-        assert_tells(&rt, rt.alloc(), source, wanted);
-    }
+    assert_tell(&rt, rt.alloc(), &COMPARISONS);
 }
 
 #[test]
 fn literals_are_numbers_of_their_suffixes(rt: HostRuntime) {
     for (source, wanted) in &LITERALS {
-        let text = text_of_literal(rt.alloc(), source).expect(&rt, "memory");
-        assert_eq!(rt; text.as_str(), *wanted, "of {source}");
+        let literal = literal_of(&rt, rt.alloc(), source);
+        let text = text_of(rt.alloc(), literal).expect(&rt, "memory");
+        assert_text(&rt, text, wanted, source);
     }
 }

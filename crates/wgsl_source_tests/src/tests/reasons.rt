@@ -1,6 +1,6 @@
 //! Each reason for which a source is not read as it stands, at its place.
 
-use crate::tests::texts::assert_declares;
+use crate::tests::texts::{assert_all_declare, assert_declares};
 use std::test::Fail;
 
 const ROWS: [(&str, &str); 7] = [
@@ -23,9 +23,7 @@ const BRACKETS: usize = 1_048_576;
 
 #[test]
 fn reasons_have_their_places(rt: HostRuntime) {
-    for (source, wanted) in &ROWS {
-        assert_declares(&rt, rt.alloc(), source, wanted);
-    }
+    assert_all_declare(&rt, rt.alloc(), &ROWS);
 }
 
 // The 4097th bracket is one too many.

@@ -1,6 +1,6 @@
 //! Where reading goes on behind a fault, and what is told once.
 
-use crate::tests::texts::assert_declares;
+use crate::tests::texts::assert_all_declare;
 
 const MEMBERS: [(&str, &str); 16] = [
     (
@@ -124,21 +124,15 @@ const BRACKETS: [(&str, &str); 6] = [
 
 #[test]
 fn faults_of_members_are_told_once(rt: HostRuntime) {
-    for (source, wanted) in &MEMBERS {
-        assert_declares(&rt, rt.alloc(), source, wanted);
-    }
+    assert_all_declare(&rt, rt.alloc(), &MEMBERS);
 }
 
 #[test]
 fn faults_of_declarations_are_told_once(rt: HostRuntime) {
-    for (source, wanted) in &OTHERS {
-        assert_declares(&rt, rt.alloc(), source, wanted);
-    }
+    assert_all_declare(&rt, rt.alloc(), &OTHERS);
 }
 
 #[test]
 fn brackets_of_what_is_skipped_are_closed(rt: HostRuntime) {
-    for (source, wanted) in &BRACKETS {
-        assert_declares(&rt, rt.alloc(), source, wanted);
-    }
+    assert_all_declare(&rt, rt.alloc(), &BRACKETS);
 }

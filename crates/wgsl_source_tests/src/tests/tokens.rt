@@ -1,6 +1,6 @@
 //! The tokens that sources are made of: template lists, comments and names.
 
-use crate::tests::texts::assert_declares;
+use crate::tests::texts::assert_all_declare;
 
 const TEMPLATES: [(&str, &str); 5] = [
     ("struct S { a: array<vec2<u32>>}", "struct S(a)"),
@@ -45,14 +45,10 @@ const TOKENS: [(&str, &str); 6] = [
 
 #[test]
 fn template_lists_end_where_they_do(rt: HostRuntime) {
-    for (source, wanted) in &TEMPLATES {
-        assert_declares(&rt, rt.alloc(), source, wanted);
-    }
+    assert_all_declare(&rt, rt.alloc(), &TEMPLATES);
 }
 
 #[test]
 fn comments_and_names_are_tokens(rt: HostRuntime) {
-    for (source, wanted) in &TOKENS {
-        assert_declares(&rt, rt.alloc(), source, wanted);
-    }
+    assert_all_declare(&rt, rt.alloc(), &TOKENS);
 }

@@ -1,7 +1,8 @@
 //! Which declarations a declaration names, by WGSL's rules of scope.
 
-use crate::tests::texts::separate;
+use crate::tests::texts::{assert_text, reading_of, separate};
 use std::alloc::{AllocError, Global};
+use std::process::Abort;
 use wgsl_source::Reading;
 
 const DECLARATIONS: [(&str, &str); 9] = [
@@ -109,44 +110,59 @@ const SCOPES: [(&str, &str); 15] = [
     ),
 ];
 
-fn text_of(alloc: Global, source: &str) -> Result<String, AllocError> {
-    let reading = Reading::of_module(alloc, source)?;
-    let lists = reading.uses(alloc)?;
-    let mut text = String::new(alloc);
+fn add_uses(
+    text: &mut String,
+    reading: &Reading<'_>,
+    lists: &[Vec<usize>],
+) -> Result<(), AllocError> {
     for (number, list) in lists.iter().enumerate() {
-        separate(&mut text)?;
+        separate(text)?;
         text.push_str(reading.word(reading.name(number)))?;
         text.push(':')?;
-        for named in list {
-            text.push(' ')?;
-            text.push_str(reading.word(reading.name(*named)))?;
-        }
+        add_names(text, reading, list.as_slice())?;
     }
-    Ok(text)
+    Ok(())
+}
+
+fn add_names(text: &mut String, reading: &Reading<'_>, list: &[usize]) -> Result<(), AllocError> {
+    for named in list {
+        text.push(' ')?;
+        text.push_str(reading.word(reading.name(*named)))?;
+    }
+    Ok(())
+}
+
+/// The declarations of the source, and those that each names.
+fn text_of(rt: &impl Abort, alloc: Global, source: &str) -> String {
+    let reading = reading_of(rt, alloc, source);
+    let lists = reading.uses(alloc).expect(rt, "memory");
+    let mut text = String::new(alloc);
+    add_uses(&mut text, &reading, lists.as_slice()).expect(rt, "memory");
+    drop(lists);
+    drop(reading);
+    text
+}
+
+fn assert_uses(rt: &impl Abort, alloc: Global, rows: &[(&str, &str)]) {
+    for (source, wanted) in rows {
+        let text = text_of(rt, alloc, source);
+        assert_text(rt, text, wanted, source);
+    }
 }
 
 #[test]
 fn declarations_name_what_they_look_up(rt: HostRuntime) {
-    for (source, wanted) in &DECLARATIONS {
-        let text = text_of(rt.alloc(), source).expect(&rt, "memory");
-        assert_eq!(rt; text.as_str(), *wanted, "of {source}");
-    }
+    assert_uses(&rt, rt.alloc(), &DECLARATIONS);
 }
 
 #[test]
 fn functions_name_what_stands_in_them(rt: HostRuntime) {
-    for (source, wanted) in &BODIES {
-        let text = text_of(rt.alloc(), source).expect(&rt, "memory");
-        assert_eq!(rt; text.as_str(), *wanted, "of {source}");
-    }
+    assert_uses(&rt, rt.alloc(), &BODIES);
 }
 
 #[test]
 fn names_of_functions_are_known_in_their_blocks(rt: HostRuntime) {
-    for (source, wanted) in &SCOPES {
-        let text = text_of(rt.alloc(), source).expect(&rt, "memory");
-        assert_eq!(rt; text.as_str(), *wanted, "of {source}");
-    }
+    assert_uses(&rt, rt.alloc(), &SCOPES);
 }
 
 #[test]
@@ -154,4 +170,6 @@ fn expressions_name_nothing(rt: HostRuntime) {
     let reading = Reading::of_expression(rt.alloc(), "a + b").expect(&rt, "memory");
     let lists = reading.uses(rt.alloc()).expect(&rt, "memory");
     assert!(rt; lists.is_empty());
+    drop(lists);
+    drop(reading);
 }
