@@ -26,4 +26,5 @@ macro_rules! answered {
 mod answers;
 mod growth;
 mod made;
+mod rows;
 mod sorts;

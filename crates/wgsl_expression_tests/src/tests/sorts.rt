@@ -3,7 +3,6 @@
 use crate::tests::answers::{assert_answer, joined, turned};
 use std::alloc::Global;
 use std::process::Abort;
-use wgsl_rules::BinaryOperator;
 use wgsl_rules::BinaryOperator::{
     Addition, BitwiseAnd, BitwiseOr, BitwiseXor, Division, Equality, GreaterThan, GreaterThanEqual,
     Inequality, LessThan, LessThanEqual, Multiplication, Remainder, ShiftLeft, ShiftRight,
@@ -11,6 +10,7 @@ use wgsl_rules::BinaryOperator::{
 };
 use wgsl_rules::ShaderStage::{Const, Exec, Override};
 use wgsl_rules::UnaryOperator::{BitwiseComplement, LogicalNegation, Negation};
+use wgsl_rules::{BinaryOperator, UnaryOperator};
 use wgsl_samples::operands::Sample;
 use wgsl_scalar::LiteralInstance::{I32, U32};
 
@@ -53,6 +53,20 @@ const OTHERS: [(Sample, &str); 7] = [
 ];
 
 /// Asserts that the operator refuses the two in each stage.
+fn assert_refused_in_each_stage(
+    rt: &impl Abort,
+    alloc: Global,
+    operator: BinaryOperator,
+    (left, right): (Sample, Sample),
+    wanted: &str,
+) {
+    for stage in [Const, Override, Exec] {
+        let answer = joined(rt, alloc, operator, stage, left, right);
+        assert_answer(rt, alloc, 0, answer, wanted);
+    }
+}
+
+/// Asserts that the operator refuses the two with their types.
 fn assert_refused(
     rt: &impl Abort,
     alloc: Global,
@@ -62,9 +76,23 @@ fn assert_refused(
 ) {
     let wanted = format!(in alloc; "Binary {operator} {}, {}", left.1, right.1);
     let wanted = wanted.expect(rt, "memory");
-    for stage in [Const, Override, Exec] {
-        let answer = joined(rt, alloc, operator, stage, left.0, right.0);
-        assert_answer(rt, alloc, 0, answer, wanted.as_str());
+    assert_refused_in_each_stage(rt, alloc, operator, (left.0, right.0), wanted.as_str());
+    drop(wanted);
+}
+
+/// Asserts that the operator refuses the value at each side.
+fn assert_refused_at_each_side(
+    rt: &impl Abort,
+    alloc: Global,
+    operator: BinaryOperator,
+    other: (Sample, &str),
+) {
+    for taken in TAKEN {
+        assert_refused(rt, alloc, operator, taken, other);
+        assert_refused(rt, alloc, operator, other, taken);
+    }
+    for second in OTHERS {
+        assert_refused(rt, alloc, operator, other, second);
     }
 }
 
@@ -73,25 +101,30 @@ fn other_operands_are_refused_with_their_types(rt: HostRuntime) {
     let alloc = rt.alloc();
     for operator in OPERATORS {
         for other in OTHERS {
-            for taken in TAKEN {
-                assert_refused(&rt, alloc, operator, taken, other);
-                assert_refused(&rt, alloc, operator, other, taken);
-            }
-            for second in OTHERS {
-                assert_refused(&rt, alloc, operator, other, second);
-            }
+            assert_refused_at_each_side(&rt, alloc, operator, other);
         }
     }
+}
+
+/// Asserts that the operator refuses the value with its type.
+fn assert_one_refused(
+    rt: &impl Abort,
+    alloc: Global,
+    operator: UnaryOperator,
+    (value, ty): (Sample, &str),
+) {
+    let wanted = format!(in alloc; "Unary {operator} {ty}").expect(rt, "memory");
+    let answer = turned(rt, alloc, operator, value);
+    assert_answer(rt, alloc, 0, answer, wanted.as_str());
+    drop(wanted);
 }
 
 #[test]
 fn other_operands_of_one_operator_are_refused(rt: HostRuntime) {
     let alloc = rt.alloc();
     for operator in [LogicalNegation, Negation, BitwiseComplement] {
-        for (value, ty) in OTHERS {
-            let wanted = format!(in alloc; "Unary {operator} {ty}").expect(&rt, "memory");
-            let answer = turned(&rt, alloc, operator, value);
-            assert_answer(&rt, alloc, 0, answer, wanted.as_str());
+        for other in OTHERS {
+            assert_one_refused(&rt, alloc, operator, other);
         }
     }
 }

@@ -1,6 +1,7 @@
 //! Operators on literals and vectors, in each stage where stages differ: what each two sorts of them give.
 
 use crate::tests::answers::{assert_answer, joined, turned};
+use crate::tests::rows::{parted, sample, stage, two_samples};
 use std::alloc::Global;
 use std::process::Abort;
 use wgsl_rules::BinaryOperator::{
@@ -8,555 +9,264 @@ use wgsl_rules::BinaryOperator::{
     Inequality, LessThan, LessThanEqual, Multiplication, Remainder, ShiftLeft, ShiftRight,
     ShortCircuitAnd, ShortCircuitOr, Subtraction,
 };
-use wgsl_rules::ShaderStage::{Const, Exec, Override};
 use wgsl_rules::UnaryOperator::{BitwiseComplement, LogicalNegation, Negation};
-use wgsl_rules::{BinaryOperator, ShaderStage};
-use wgsl_samples::operands::{Sample, b, b2, i, i2, i3, l, l2, n, n2, u, u2, u3};
+use wgsl_rules::{BinaryOperator, UnaryOperator};
 
-/// The least number of 64 bits.
-const LEAST: i64 = -9223372036854775808;
+/// Asserts each row: `stage left; right -> wanted`.
+fn assert_rows(rt: &impl Abort, alloc: Global, operator: BinaryOperator, rows: &str) {
+    for (row, line) in rows.lines().enumerate() {
+        let (operands, wanted) = parted(rt, line, " -> ");
+        let (name, operands) = parted(rt, operands, " ");
+        let (left, right) = two_samples(rt, operands);
+        let answer = joined(rt, alloc, operator, stage(rt, name), left, right);
+        assert_answer(rt, alloc, row, answer, wanted);
+    }
+}
 
-/// The greatest number of 64 bits.
-const GREATEST: i64 = 9223372036854775807;
-
-type Row = (BinaryOperator, ShaderStage, Sample, Sample, &'static str);
-
-fn assert_rows(rt: &impl Abort, alloc: Global, rows: &[Row]) {
-    for (row, (operator, stage, left, right, wanted)) in rows.iter().enumerate() {
-        let answer = joined(rt, alloc, *operator, *stage, *left, *right);
+/// Asserts each row: `value -> wanted`.
+fn assert_rows_of_one(rt: &impl Abort, alloc: Global, operator: UnaryOperator, rows: &str) {
+    for (row, line) in rows.lines().enumerate() {
+        let (value, wanted) = parted(rt, line, " -> ");
+        let answer = turned(rt, alloc, operator, sample(rt, value));
         assert_answer(rt, alloc, row, answer, wanted);
     }
 }
 
 #[test]
 fn sums_and_differences(rt: HostRuntime) {
-    let rows = [
-        (Addition, Const, i(2), i(3), "5i"),
-        (Addition, Const, i2(1, 2), i2(3, 4), "vec2(4i, 6i)"),
-        (Addition, Const, i2(1, 2), i(3), "vec2(4i, 5i)"),
-        (Addition, Const, i(3), i2(1, 2), "vec2(4i, 5i)"),
-        (Addition, Override, n2(1, 2), u(3), "vec2(4u, 5u)"),
-        (Addition, Exec, n(3), u2(1, 2), "vec2(4u, 5u)"),
-        (Addition, Exec, n2(1, 2), u2(3, 4), "vec2(4u, 6u)"),
-        (
-            Addition,
-            Const,
-            i2(2147483647, 0),
-            i(1),
-            "vec2(-2147483648i, 1i)",
-        ),
-        // unequal counts, kinds without a common type, numbers out of range
-        (
-            Addition,
-            Const,
-            u2(1, 2),
-            u3(1, 2, 3),
-            "Binary + vec2<u32>, vec3<u32>",
-        ),
-        (
-            Addition,
-            Const,
-            u2(1, 2),
-            i2(1, 2),
-            "Binary + vec2<u32>, vec2<i32>",
-        ),
-        (Addition, Const, i2(1, 2), u(2), "Binary + vec2<i32>, u32"),
-        (Addition, Const, u(2), i2(1, 2), "Binary + vec2<i32>, u32"),
-        (
-            Addition,
-            Const,
-            n2(1, 4294967295),
-            i2(3, 4),
-            "Binary + vec2<AbstractInt>, vec2<i32>",
-        ),
-        (
-            Addition,
-            Const,
-            i2(3, 4),
-            n(4294967295),
-            "Binary + vec2<i32>, AbstractInt",
-        ),
-        (
-            Addition,
-            Const,
-            b2(true, false),
-            b2(true, true),
-            "Binary + bool, bool",
-        ),
-        (
-            Addition,
-            Const,
-            b2(true, false),
-            b(true),
-            "Binary + bool, bool",
-        ),
-        (Addition, Exec, n2(GREATEST, 1), n2(1, 1), "AddOverflow"),
-        (Subtraction, Const, i(3), i2(1, 5), "vec2(2i, -2i)"),
-        (Subtraction, Const, i2(1, 5), i(3), "vec2(-2i, 2i)"),
-        (
-            Subtraction,
-            Const,
-            u2(0, 1),
-            u2(1, 1),
-            "vec2(4294967295u, 0u)",
-        ),
-        (
-            Subtraction,
-            Const,
-            u(2),
-            i2(1, 2),
-            "Binary - u32, vec2<i32>",
-        ),
-        (
-            Subtraction,
-            Const,
-            i2(1, 2),
-            u(2),
-            "Binary - vec2<i32>, u32",
-        ),
-        (Subtraction, Override, n2(LEAST, 0), n(1), "SubOverflow"),
-    ];
-    assert_rows(&rt, rt.alloc(), &rows);
+    let alloc = rt.alloc();
+    let rows = "\
+        Const 2i; 3i -> 5i
+        Const vec2(1i, 2i); vec2(3i, 4i) -> vec2(4i, 6i)
+        Const vec2(1i, 2i); 3i -> vec2(4i, 5i)
+        Const 3i; vec2(1i, 2i) -> vec2(4i, 5i)
+        Override vec2(1, 2); 3u -> vec2(4u, 5u)
+        Exec 3; vec2(1u, 2u) -> vec2(4u, 5u)
+        Exec vec2(1, 2); vec2(3u, 4u) -> vec2(4u, 6u)
+        Const vec2(2147483647i, 0i); 1i -> vec2(-2147483648i, 1i)";
+    assert_rows(&rt, alloc, Addition, rows);
+    // unequal counts, kinds without a common type, numbers out of range
+    let rows = "\
+        Const vec2(1u, 2u); vec3(1u, 2u, 3u) -> Binary + vec2<u32>, vec3<u32>
+        Const vec2(1u, 2u); vec2(1i, 2i) -> Binary + vec2<u32>, vec2<i32>
+        Const vec2(1i, 2i); 2u -> Binary + vec2<i32>, u32
+        Const 2u; vec2(1i, 2i) -> Binary + vec2<i32>, u32
+        Const vec2(1, 4294967295); vec2(3i, 4i) -> Binary + vec2<AbstractInt>, vec2<i32>
+        Const vec2(3i, 4i); 4294967295 -> Binary + vec2<i32>, AbstractInt
+        Const vec2(true, false); vec2(true, true) -> Binary + bool, bool
+        Const vec2(true, false); true -> Binary + bool, bool
+        Exec vec2(9223372036854775807, 1); vec2(1, 1) -> AddOverflow";
+    assert_rows(&rt, alloc, Addition, rows);
+    let rows = "\
+        Const 3i; vec2(1i, 5i) -> vec2(2i, -2i)
+        Const vec2(1i, 5i); 3i -> vec2(-2i, 2i)
+        Const vec2(0u, 1u); vec2(1u, 1u) -> vec2(4294967295u, 0u)
+        Const 2u; vec2(1i, 2i) -> Binary - u32, vec2<i32>
+        Const vec2(1i, 2i); 2u -> Binary - vec2<i32>, u32
+        Override vec2(-9223372036854775808, 0); 1 -> SubOverflow";
+    assert_rows(&rt, alloc, Subtraction, rows);
 }
 
 #[test]
 fn products(rt: HostRuntime) {
-    let rows = [
-        (Multiplication, Const, i2(1, -5), i2(2, 3), "vec2(2i, -15i)"),
-        (Multiplication, Const, i(3), i2(1, -5), "vec2(3i, -15i)"),
-        (Multiplication, Const, i2(1, -5), i(3), "vec2(3i, -15i)"),
-        (
-            Multiplication,
-            Const,
-            u(2),
-            i2(1, 2),
-            "Binary * vec2<i32>, u32",
-        ),
-        (
-            Multiplication,
-            Const,
-            i2(1, 2),
-            u(2),
-            "Binary * vec2<i32>, u32",
-        ),
-        (Multiplication, Exec, n2(GREATEST, 1), n(2), "MulOverflow"),
-        (
-            Multiplication,
-            Exec,
-            u2(4294967295, 3),
-            u(2),
-            "vec2(4294967294u, 6u)",
-        ),
-    ];
-    assert_rows(&rt, rt.alloc(), &rows);
+    let rows = "\
+        Const vec2(1i, -5i); vec2(2i, 3i) -> vec2(2i, -15i)
+        Const 3i; vec2(1i, -5i) -> vec2(3i, -15i)
+        Const vec2(1i, -5i); 3i -> vec2(3i, -15i)
+        Const 2u; vec2(1i, 2i) -> Binary * vec2<i32>, u32
+        Const vec2(1i, 2i); 2u -> Binary * vec2<i32>, u32
+        Exec vec2(9223372036854775807, 1); 2 -> MulOverflow
+        Exec vec2(4294967295u, 3u); 2u -> vec2(4294967294u, 6u)";
+    assert_rows(&rt, rt.alloc(), Multiplication, rows);
 }
 
 #[test]
 fn quotients(rt: HostRuntime) {
-    let rows = [
-        (Division, Const, i2(7, -7), i(2), "vec2(3i, -3i)"),
-        (Division, Const, n2(7, 7), i(2), "vec2(3i, 3i)"),
-        (Division, Exec, n2(7, 7), i(0), "vec2(7i, 7i)"),
-        (Division, Const, n2(7, 7), i(0), "DivByZero"),
-        (Division, Override, n2(7, 7), i(0), "DivByZero"),
-        (Division, Const, i(7), i2(2, 0), "DivByZero"),
-        (Division, Exec, i(7), i2(2, 0), "vec2(3i, 7i)"),
-        (Division, Exec, n2(7, 8), i2(2, 0), "vec2(3i, 8i)"),
-        (Division, Const, i2(-2147483648, 6), i2(-1, 4), "DivByZero"),
-        (
-            Division,
-            Override,
-            i2(-2147483648, 6),
-            i2(-1, 4),
-            "DivByZero",
-        ),
-        (
-            Division,
-            Exec,
-            i2(-2147483648, 6),
-            i2(-1, 4),
-            "vec2(-2147483648i, 1i)",
-        ),
-        (
-            Division,
-            Const,
-            l2(LEAST, 1),
-            l(-1),
-            "vec2(-9223372036854775808li, -1li)",
-        ),
-        // a component by itself and the scalar: a refusal names scalar types
-        (Division, Exec, i2(7, 8), u(2), "Binary / i32, u32"),
-        (Division, Exec, u(2), i2(7, 8), "Binary / u32, i32"),
-        (
-            Division,
-            Exec,
-            n2(7, 4294967295),
-            i(2),
-            "Binary / AbstractInt, i32",
-        ),
-        (
-            Division,
-            Exec,
-            i2(7, 8),
-            u2(2, 2),
-            "Binary / vec2<i32>, vec2<u32>",
-        ),
-        (
-            Division,
-            Exec,
-            b2(true, true),
-            b(true),
-            "Binary / bool, bool",
-        ),
-    ];
-    assert_rows(&rt, rt.alloc(), &rows);
+    let alloc = rt.alloc();
+    let rows = "\
+        Const vec2(7i, -7i); 2i -> vec2(3i, -3i)
+        Const vec2(7, 7); 2i -> vec2(3i, 3i)
+        Exec vec2(7, 7); 0i -> vec2(7i, 7i)
+        Const vec2(7, 7); 0i -> DivByZero
+        Override vec2(7, 7); 0i -> DivByZero
+        Const 7i; vec2(2i, 0i) -> DivByZero
+        Exec 7i; vec2(2i, 0i) -> vec2(3i, 7i)
+        Exec vec2(7, 8); vec2(2i, 0i) -> vec2(3i, 8i)
+        Const vec2(-2147483648i, 6i); vec2(-1i, 4i) -> DivByZero
+        Override vec2(-2147483648i, 6i); vec2(-1i, 4i) -> DivByZero
+        Exec vec2(-2147483648i, 6i); vec2(-1i, 4i) -> vec2(-2147483648i, 1i)
+        Const vec2(-9223372036854775808li, 1li); -1li -> vec2(-9223372036854775808li, -1li)";
+    assert_rows(&rt, alloc, Division, rows);
+    // a component by itself and the scalar: a refusal names scalar types
+    let rows = "\
+        Exec vec2(7i, 8i); 2u -> Binary / i32, u32
+        Exec 2u; vec2(7i, 8i) -> Binary / u32, i32
+        Exec vec2(7, 4294967295); 2i -> Binary / AbstractInt, i32
+        Exec vec2(7i, 8i); vec2(2u, 2u) -> Binary / vec2<i32>, vec2<u32>
+        Exec vec2(true, true); true -> Binary / bool, bool";
+    assert_rows(&rt, alloc, Division, rows);
 }
 
 #[test]
 fn remainders(rt: HostRuntime) {
-    let rows = [
-        (Remainder, Const, i2(7, -7), i(2), "vec2(1i, -1i)"),
-        (Remainder, Const, n2(7, 8), n2(2, 3), "vec2(1, 2)"),
-        (Remainder, Const, i2(7, 8), i(0), "RemZeroDiv"),
-        (Remainder, Override, i2(7, 8), i(0), "vec2(0i, 0i)"),
-        (Remainder, Exec, i2(7, 8), i(0), "vec2(0i, 0i)"),
-        (Remainder, Const, i(7), i2(4, 0), "RemZeroDiv"),
-        (Remainder, Override, i(7), i2(4, 0), "vec2(3i, 0i)"),
-        (Remainder, Const, i2(7, 8), u(2), "Binary % i32, u32"),
-        (Remainder, Const, u(2), i2(7, 8), "Binary % u32, i32"),
-        (
-            Remainder,
-            Const,
-            i2(7, 8),
-            i3(1, 2, 3),
-            "Binary % vec2<i32>, vec3<i32>",
-        ),
-    ];
-    assert_rows(&rt, rt.alloc(), &rows);
+    let rows = "\
+        Const vec2(7i, -7i); 2i -> vec2(1i, -1i)
+        Const vec2(7, 8); vec2(2, 3) -> vec2(1, 2)
+        Const vec2(7i, 8i); 0i -> RemZeroDiv
+        Override vec2(7i, 8i); 0i -> vec2(0i, 0i)
+        Exec vec2(7i, 8i); 0i -> vec2(0i, 0i)
+        Const 7i; vec2(4i, 0i) -> RemZeroDiv
+        Override 7i; vec2(4i, 0i) -> vec2(3i, 0i)
+        Const vec2(7i, 8i); 2u -> Binary % i32, u32
+        Const 2u; vec2(7i, 8i) -> Binary % u32, i32
+        Const vec2(7i, 8i); vec3(1i, 2i, 3i) -> Binary % vec2<i32>, vec3<i32>";
+    assert_rows(&rt, rt.alloc(), Remainder, rows);
 }
 
 #[test]
 fn comparisons(rt: HostRuntime) {
-    let rows = [
-        (Equality, Const, u2(1, 2), u2(1, 3), "vec2(true, false)"),
-        (Inequality, Const, u2(1, 2), u2(1, 3), "vec2(false, true)"),
-        (LessThan, Const, u2(1, 2), u2(2, 2), "vec2(true, false)"),
-        (
-            LessThanEqual,
-            Const,
-            u2(1, 3),
-            u2(1, 2),
-            "vec2(true, false)",
-        ),
-        (GreaterThan, Const, u2(1, 3), u2(1, 2), "vec2(false, true)"),
-        (
-            GreaterThanEqual,
-            Const,
-            u2(1, 1),
-            u2(1, 2),
-            "vec2(true, false)",
-        ),
-        (Equality, Const, n2(1, 2), u2(1, 3), "vec2(true, false)"),
-        (
-            LessThan,
-            Const,
-            b2(false, true),
-            b2(true, true),
-            "vec2(true, false)",
-        ),
-        (LessThan, Const, i(1), n(2), "true"),
-        (LessThan, Const, b(false), b(true), "true"),
-        (GreaterThanEqual, Const, b(false), b(true), "false"),
-        (
-            Equality,
-            Const,
-            u2(1, 2),
-            i2(1, 2),
-            "Binary == vec2<u32>, vec2<i32>",
-        ),
-        (
-            Inequality,
-            Const,
-            u2(1, 2),
-            u3(1, 2, 3),
-            "Binary != vec2<u32>, vec3<u32>",
-        ),
-        (Equality, Const, u2(1, 2), u(2), "Binary == vec2<u32>, u32"),
-        (
-            Inequality,
-            Const,
-            u2(1, 2),
-            u(2),
-            "Binary != vec2<u32>, u32",
-        ),
-        (LessThan, Const, u2(1, 2), u(2), "Binary < vec2<u32>, u32"),
-        (
-            LessThanEqual,
-            Const,
-            u2(1, 2),
-            u(2),
-            "Binary <= vec2<u32>, u32",
-        ),
-        (
-            GreaterThan,
-            Const,
-            u(2),
-            u2(1, 2),
-            "Binary > u32, vec2<u32>",
-        ),
-        (
-            GreaterThanEqual,
-            Const,
-            u(2),
-            u2(1, 2),
-            "Binary >= u32, vec2<u32>",
-        ),
-        (Equality, Const, u(2), u2(1, 2), "Binary == u32, vec2<u32>"),
-        (
-            Inequality,
-            Const,
-            u(2),
-            u2(1, 2),
-            "Binary != u32, vec2<u32>",
-        ),
-        (LessThan, Const, u(2), u2(1, 2), "Binary < u32, vec2<u32>"),
-        (
-            LessThanEqual,
-            Const,
-            u(2),
-            u2(1, 2),
-            "Binary <= u32, vec2<u32>",
-        ),
-        (
-            GreaterThan,
-            Const,
-            u2(1, 2),
-            u(2),
-            "Binary > vec2<u32>, u32",
-        ),
-        (
-            GreaterThanEqual,
-            Const,
-            u2(1, 2),
-            u(2),
-            "Binary >= vec2<u32>, u32",
-        ),
-    ];
-    assert_rows(&rt, rt.alloc(), &rows);
+    let alloc = rt.alloc();
+    let rows = "\
+        Const vec2(1u, 2u); vec2(1u, 3u) -> vec2(true, false)
+        Const vec2(1, 2); vec2(1u, 3u) -> vec2(true, false)
+        Const vec2(1u, 2u); vec2(1i, 2i) -> Binary == vec2<u32>, vec2<i32>
+        Const vec2(1u, 2u); 2u -> Binary == vec2<u32>, u32
+        Const 2u; vec2(1u, 2u) -> Binary == u32, vec2<u32>";
+    assert_rows(&rt, alloc, Equality, rows);
+    let rows = "\
+        Const vec2(1u, 2u); vec2(1u, 3u) -> vec2(false, true)
+        Const vec2(1u, 2u); vec3(1u, 2u, 3u) -> Binary != vec2<u32>, vec3<u32>
+        Const vec2(1u, 2u); 2u -> Binary != vec2<u32>, u32
+        Const 2u; vec2(1u, 2u) -> Binary != u32, vec2<u32>";
+    assert_rows(&rt, alloc, Inequality, rows);
+    let rows = "\
+        Const vec2(1u, 2u); vec2(2u, 2u) -> vec2(true, false)
+        Const vec2(false, true); vec2(true, true) -> vec2(true, false)
+        Const 1i; 2 -> true
+        Const false; true -> true
+        Const vec2(1u, 2u); 2u -> Binary < vec2<u32>, u32
+        Const 2u; vec2(1u, 2u) -> Binary < u32, vec2<u32>";
+    assert_rows(&rt, alloc, LessThan, rows);
+    let rows = "\
+        Const vec2(1u, 3u); vec2(1u, 2u) -> vec2(true, false)
+        Const vec2(1u, 2u); 2u -> Binary <= vec2<u32>, u32
+        Const 2u; vec2(1u, 2u) -> Binary <= u32, vec2<u32>";
+    assert_rows(&rt, alloc, LessThanEqual, rows);
+    let rows = "\
+        Const vec2(1u, 3u); vec2(1u, 2u) -> vec2(false, true)
+        Const 2u; vec2(1u, 2u) -> Binary > u32, vec2<u32>
+        Const vec2(1u, 2u); 2u -> Binary > vec2<u32>, u32";
+    assert_rows(&rt, alloc, GreaterThan, rows);
+    let rows = "\
+        Const vec2(1u, 1u); vec2(1u, 2u) -> vec2(true, false)
+        Const false; true -> false
+        Const 2u; vec2(1u, 2u) -> Binary >= u32, vec2<u32>
+        Const vec2(1u, 2u); 2u -> Binary >= vec2<u32>, u32";
+    assert_rows(&rt, alloc, GreaterThanEqual, rows);
 }
 
 #[test]
 fn bits(rt: HostRuntime) {
-    let rows = [
-        (BitwiseOr, Const, i2(12, 10), i2(10, 5), "vec2(14i, 15i)"),
-        (BitwiseAnd, Const, i2(12, 10), i2(10, 5), "vec2(8i, 0i)"),
-        (BitwiseXor, Const, i2(12, 10), i2(10, 5), "vec2(6i, 15i)"),
-        (
-            BitwiseOr,
-            Const,
-            b2(true, false),
-            b2(false, false),
-            "vec2(true, false)",
-        ),
-        (
-            BitwiseAnd,
-            Const,
-            b2(true, false),
-            b2(false, false),
-            "vec2(false, false)",
-        ),
-        (
-            BitwiseXor,
-            Const,
-            b2(true, false),
-            b2(false, false),
-            "Binary ^ bool, bool",
-        ),
-        (BitwiseOr, Const, u(12), u(10), "14u"),
-        (BitwiseXor, Const, n2(1, 2), i2(3, 4), "vec2(2i, 6i)"),
-        // each component by itself: a refusal names scalar types
-        (BitwiseOr, Const, i2(1, 2), u2(3, 4), "Binary | i32, u32"),
-        (
-            BitwiseAnd,
-            Const,
-            n2(1, 4294967295),
-            i2(3, 4),
-            "Binary & AbstractInt, i32",
-        ),
-        (
-            BitwiseOr,
-            Const,
-            u2(1, 2),
-            u3(1, 2, 3),
-            "CompwiseBinary vec2<u32>, vec3<u32>",
-        ),
-        (
-            BitwiseAnd,
-            Const,
-            u3(1, 2, 3),
-            i2(1, 2),
-            "CompwiseBinary vec3<u32>, vec2<i32>",
-        ),
-        (
-            BitwiseXor,
-            Const,
-            u2(1, 2),
-            u3(1, 2, 3),
-            "CompwiseBinary vec2<u32>, vec3<u32>",
-        ),
-        (BitwiseOr, Const, u2(1, 2), u(1), "Binary | vec2<u32>, u32"),
-        (BitwiseOr, Const, u(1), u2(1, 2), "Binary | u32, vec2<u32>"),
-        (BitwiseAnd, Const, u2(1, 2), u(1), "Binary & vec2<u32>, u32"),
-        (BitwiseAnd, Const, u(1), u2(1, 2), "Binary & u32, vec2<u32>"),
-        (BitwiseXor, Const, u2(1, 2), u(1), "Binary ^ vec2<u32>, u32"),
-        (BitwiseXor, Const, u(1), u2(1, 2), "Binary ^ u32, vec2<u32>"),
-    ];
-    assert_rows(&rt, rt.alloc(), &rows);
+    let alloc = rt.alloc();
+    let rows = "\
+        Const vec2(12i, 10i); vec2(10i, 5i) -> vec2(14i, 15i)
+        Const vec2(true, false); vec2(false, false) -> vec2(true, false)
+        Const 12u; 10u -> 14u";
+    assert_rows(&rt, alloc, BitwiseOr, rows);
+    let rows = "\
+        Const vec2(12i, 10i); vec2(10i, 5i) -> vec2(8i, 0i)
+        Const vec2(true, false); vec2(false, false) -> vec2(false, false)";
+    assert_rows(&rt, alloc, BitwiseAnd, rows);
+    let rows = "\
+        Const vec2(12i, 10i); vec2(10i, 5i) -> vec2(6i, 15i)
+        Const vec2(true, false); vec2(false, false) -> Binary ^ bool, bool
+        Const vec2(1, 2); vec2(3i, 4i) -> vec2(2i, 6i)";
+    assert_rows(&rt, alloc, BitwiseXor, rows);
+    // each component by itself: a refusal names scalar types
+    let rows = "\
+        Const vec2(1i, 2i); vec2(3u, 4u) -> Binary | i32, u32
+        Const vec2(1u, 2u); vec3(1u, 2u, 3u) -> CompwiseBinary vec2<u32>, vec3<u32>
+        Const vec2(1u, 2u); 1u -> Binary | vec2<u32>, u32
+        Const 1u; vec2(1u, 2u) -> Binary | u32, vec2<u32>";
+    assert_rows(&rt, alloc, BitwiseOr, rows);
+    let rows = "\
+        Const vec2(1, 4294967295); vec2(3i, 4i) -> Binary & AbstractInt, i32
+        Const vec3(1u, 2u, 3u); vec2(1i, 2i) -> CompwiseBinary vec3<u32>, vec2<i32>
+        Const vec2(1u, 2u); 1u -> Binary & vec2<u32>, u32
+        Const 1u; vec2(1u, 2u) -> Binary & u32, vec2<u32>";
+    assert_rows(&rt, alloc, BitwiseAnd, rows);
+    let rows = "\
+        Const vec2(1u, 2u); vec3(1u, 2u, 3u) -> CompwiseBinary vec2<u32>, vec3<u32>
+        Const vec2(1u, 2u); 1u -> Binary ^ vec2<u32>, u32
+        Const 1u; vec2(1u, 2u) -> Binary ^ u32, vec2<u32>";
+    assert_rows(&rt, alloc, BitwiseXor, rows);
 }
 
 #[test]
 fn shifts(rt: HostRuntime) {
-    let rows = [
-        (
-            ShiftLeft,
-            Const,
-            i2(1, -1),
-            u2(1, 31),
-            "vec2(2i, -2147483648i)",
-        ),
-        (ShiftLeft, Const, i2(1, 2), u2(0, 31), "ShlOverflow 31, 2i"),
-        (
-            ShiftLeft,
-            Override,
-            i2(1, 2),
-            u2(0, 31),
-            "ShlOverflow 31, 2i",
-        ),
-        (ShiftLeft, Exec, i2(1, 2), u2(0, 31), "vec2(1i, 0i)"),
-        (ShiftLeft, Const, n2(1, 1), n2(3, 64), "vec2(8, 0)"),
-        (ShiftLeft, Const, i2(1, 2), i2(1, 1), "Binary << i32, i32"),
-        (
-            ShiftLeft,
-            Const,
-            u2(1, 2),
-            u3(1, 2, 3),
-            "CompwiseBinary vec2<u32>, vec3<u32>",
-        ),
-        (ShiftLeft, Const, u2(1, 2), u(1), "Binary << vec2<u32>, u32"),
-        (ShiftLeft, Const, u(1), u2(1, 2), "Binary << u32, vec2<u32>"),
-        (ShiftLeft, Const, b(true), u(0), "Binary << bool, u32"),
-        (ShiftRight, Const, u2(8, 8), u2(1, 32), "ShrOverflow 32, 8u"),
-        (
-            ShiftRight,
-            Override,
-            u2(8, 8),
-            u2(1, 32),
-            "ShrOverflow 32, 8u",
-        ),
-        (ShiftRight, Exec, u2(8, 8), u2(1, 32), "vec2(4u, 8u)"),
-        (ShiftRight, Const, i2(-1, -8), u2(31, 1), "vec2(-1i, -4i)"),
-        (
-            ShiftRight,
-            Const,
-            u3(1, 2, 3),
-            u2(1, 2),
-            "CompwiseBinary vec3<u32>, vec2<u32>",
-        ),
-        (
-            ShiftRight,
-            Const,
-            u2(1, 2),
-            u(1),
-            "Binary >> vec2<u32>, u32",
-        ),
-        (
-            ShiftRight,
-            Const,
-            u(1),
-            u2(1, 2),
-            "Binary >> u32, vec2<u32>",
-        ),
-    ];
-    assert_rows(&rt, rt.alloc(), &rows);
+    let alloc = rt.alloc();
+    let rows = "\
+        Const vec2(1i, -1i); vec2(1u, 31u) -> vec2(2i, -2147483648i)
+        Const vec2(1i, 2i); vec2(0u, 31u) -> ShlOverflow 31, 2i
+        Override vec2(1i, 2i); vec2(0u, 31u) -> ShlOverflow 31, 2i
+        Exec vec2(1i, 2i); vec2(0u, 31u) -> vec2(1i, 0i)
+        Const vec2(1, 1); vec2(3, 64) -> vec2(8, 0)
+        Const vec2(1i, 2i); vec2(1i, 1i) -> Binary << i32, i32
+        Const vec2(1u, 2u); vec3(1u, 2u, 3u) -> CompwiseBinary vec2<u32>, vec3<u32>
+        Const vec2(1u, 2u); 1u -> Binary << vec2<u32>, u32
+        Const 1u; vec2(1u, 2u) -> Binary << u32, vec2<u32>
+        Const true; 0u -> Binary << bool, u32";
+    assert_rows(&rt, alloc, ShiftLeft, rows);
+    let rows = "\
+        Const vec2(8u, 8u); vec2(1u, 32u) -> ShrOverflow 32, 8u
+        Override vec2(8u, 8u); vec2(1u, 32u) -> ShrOverflow 32, 8u
+        Exec vec2(8u, 8u); vec2(1u, 32u) -> vec2(4u, 8u)
+        Const vec2(-1i, -8i); vec2(31u, 1u) -> vec2(-1i, -4i)
+        Const vec3(1u, 2u, 3u); vec2(1u, 2u) -> CompwiseBinary vec3<u32>, vec2<u32>
+        Const vec2(1u, 2u); 1u -> Binary >> vec2<u32>, u32
+        Const 1u; vec2(1u, 2u) -> Binary >> u32, vec2<u32>";
+    assert_rows(&rt, alloc, ShiftRight, rows);
 }
 
 #[test]
 fn truths(rt: HostRuntime) {
-    let rows = [
-        (ShortCircuitOr, Exec, b(true), b(false), "true"),
-        (ShortCircuitOr, Exec, b(false), b(false), "false"),
-        (ShortCircuitAnd, Exec, b(true), b(false), "false"),
-        (ShortCircuitAnd, Exec, b(true), b(true), "true"),
-        (ShortCircuitOr, Exec, i(1), i(1), "Binary || i32, i32"),
-        (ShortCircuitAnd, Exec, b(true), u(1), "Binary && bool, u32"),
-        (
-            ShortCircuitOr,
-            Exec,
-            b2(true, true),
-            b2(true, true),
-            "Binary || vec2<bool>, vec2<bool>",
-        ),
-        (
-            ShortCircuitAnd,
-            Exec,
-            b2(true, true),
-            b2(true, true),
-            "Binary && vec2<bool>, vec2<bool>",
-        ),
-        (
-            ShortCircuitOr,
-            Exec,
-            b(true),
-            b2(true, true),
-            "Binary || bool, vec2<bool>",
-        ),
-        (
-            ShortCircuitOr,
-            Exec,
-            b2(true, true),
-            b(true),
-            "Binary || vec2<bool>, bool",
-        ),
-        (
-            ShortCircuitAnd,
-            Exec,
-            b(true),
-            b2(true, true),
-            "Binary && bool, vec2<bool>",
-        ),
-        (
-            ShortCircuitAnd,
-            Exec,
-            b2(true, true),
-            b(true),
-            "Binary && vec2<bool>, bool",
-        ),
-    ];
-    assert_rows(&rt, rt.alloc(), &rows);
+    let alloc = rt.alloc();
+    let rows = "\
+        Exec true; false -> true
+        Exec false; false -> false
+        Exec 1i; 1i -> Binary || i32, i32
+        Exec vec2(true, true); vec2(true, true) -> Binary || vec2<bool>, vec2<bool>
+        Exec true; vec2(true, true) -> Binary || bool, vec2<bool>
+        Exec vec2(true, true); true -> Binary || vec2<bool>, bool";
+    assert_rows(&rt, alloc, ShortCircuitOr, rows);
+    let rows = "\
+        Exec true; false -> false
+        Exec true; true -> true
+        Exec true; 1u -> Binary && bool, u32
+        Exec vec2(true, true); vec2(true, true) -> Binary && vec2<bool>, vec2<bool>
+        Exec true; vec2(true, true) -> Binary && bool, vec2<bool>
+        Exec vec2(true, true); true -> Binary && vec2<bool>, bool";
+    assert_rows(&rt, alloc, ShortCircuitAnd, rows);
 }
 
 #[test]
 fn one_operand(rt: HostRuntime) {
-    let rows = [
-        (LogicalNegation, b(true), "false"),
-        (LogicalNegation, b2(true, false), "vec2(false, true)"),
-        (LogicalNegation, i(1), "Unary ! i32"),
-        (LogicalNegation, i2(1, 2), "Unary ! i32"),
-        (Negation, i(5), "-5i"),
-        (Negation, i2(1, -2147483648), "vec2(-1i, -2147483648i)"),
-        (Negation, u2(1, 2), "Unary - u32"),
-        (Negation, b(true), "Unary - bool"),
-        (
-            BitwiseComplement,
-            u2(0, 4294967295),
-            "vec2(4294967295u, 0u)",
-        ),
-        (BitwiseComplement, i(0), "-1i"),
-        (BitwiseComplement, b2(true, false), "Unary ~ bool"),
-    ];
     let alloc = rt.alloc();
-    for (row, (operator, value, wanted)) in rows.iter().enumerate() {
-        let answer = turned(&rt, alloc, *operator, *value);
-        assert_answer(&rt, alloc, row, answer, wanted);
-    }
+    let rows = "\
+        true -> false
+        vec2(true, false) -> vec2(false, true)
+        1i -> Unary ! i32
+        vec2(1i, 2i) -> Unary ! i32";
+    assert_rows_of_one(&rt, alloc, LogicalNegation, rows);
+    let rows = "\
+        5i -> -5i
+        vec2(1i, -2147483648i) -> vec2(-1i, -2147483648i)
+        vec2(1u, 2u) -> Unary - u32
+        true -> Unary - bool";
+    assert_rows_of_one(&rt, alloc, Negation, rows);
+    let rows = "\
+        vec2(0u, 4294967295u) -> vec2(4294967295u, 0u)
+        0i -> -1i
+        vec2(true, false) -> Unary ~ bool";
+    assert_rows_of_one(&rt, alloc, BitwiseComplement, rows);
 }

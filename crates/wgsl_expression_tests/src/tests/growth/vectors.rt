@@ -5,6 +5,7 @@ ghost use Rattle.wgsl_values.specs.View.{vec_view};
 
 use crate::tests::answers::{answer_of_one, answer_of_two, assert_answer};
 use crate::tests::made::made_vector;
+use crate::tests::rows::{parted, sample, stage, two_samples};
 use std::alloc::Global;
 use std::process::Abort;
 use wgsl_ops::{ScalarOperators, VecOperators};
@@ -13,11 +14,10 @@ use wgsl_rules::BinaryOperator::{
     Inequality, LessThan, LessThanEqual, Multiplication, Remainder, ShiftLeft, ShiftRight,
     Subtraction,
 };
-use wgsl_rules::ShaderStage::{Const, Exec, Override};
+use wgsl_rules::ShaderStage::Const;
 use wgsl_rules::UnaryOperator::{BitwiseComplement, LogicalNegation, Negation};
-use wgsl_rules::{BinaryOperator, ShaderStage};
-use wgsl_samples::operands::{Sample, b2, i2, n2, u2, u3};
-use wgsl_scalar::LiteralInstance::{AbstractInt, I32, U32};
+use wgsl_rules::{BinaryOperator, ShaderStage, UnaryOperator};
+use wgsl_samples::operands::{Sample, i2};
 use wgsl_scalar::{Error, LiteralInstance};
 use wgsl_values::VecInstance;
 
@@ -63,125 +63,151 @@ fn with_vector(
     }
 }
 
+/// The scalar of the text.
+fn scalar_of(rt: &impl Abort, text: &str) -> LiteralInstance {
+    match sample(rt, text) {
+        Sample::One(literal) => literal,
+        _ => panic!(rt; "{text} is no scalar"),
+    }
+}
+
+/// What the operator gives for `stage vector; scalar`.
+fn answer_with_scalar(
+    rt: &impl Abort,
+    alloc: Global,
+    operator: BinaryOperator,
+    call: &str,
+) -> Result<VecInstance, Error> {
+    let (name, operands) = parted(rt, call, " ");
+    let (vector, scalar) = parted(rt, operands, "; ");
+    let (stage, scalar) = (stage(rt, name), scalar_of(rt, scalar));
+    let vector = made_vector(rt, alloc, sample(rt, vector));
+    let answer = answered!(with_scalar(rt, alloc, operator, stage, &vector, &scalar));
+    drop(vector);
+    answer
+}
+
+/// Asserts each row: `stage vector; scalar -> wanted`.
+fn assert_with_scalar(rt: &impl Abort, alloc: Global, operator: BinaryOperator, rows: &str) {
+    for (row, line) in rows.lines().enumerate() {
+        let (call, wanted) = parted(rt, line, " -> ");
+        let answer = answer_with_scalar(rt, alloc, operator, call);
+        assert_answer(rt, alloc, row, answer, wanted);
+    }
+}
+
 #[test]
 fn a_vector_and_a_scalar_have_a_common_type_first(rt: HostRuntime) {
-    let rows = [
-        (Addition, Const, n2(1, 2), U32(3), "vec2(4u, 5u)"),
-        (Addition, Const, i2(1, 2), U32(3), "Binary + vec2<i32>, u32"),
-        (Subtraction, Const, i2(1, 5), I32(3), "vec2(-2i, 2i)"),
-        (
-            Subtraction,
-            Const,
-            i2(1, 5),
-            AbstractInt(3),
-            "vec2(-2i, 2i)",
-        ),
-        (Multiplication, Const, u2(1, 5), U32(3), "vec2(3u, 15u)"),
-        (Division, Const, i2(7, -7), I32(2), "vec2(3i, -3i)"),
-        (Division, Exec, n2(7, 8), I32(0), "vec2(7i, 8i)"),
-        (Division, Override, i2(7, 8), I32(0), "DivByZero"),
-        (Division, Exec, i2(7, 8), U32(2), "Binary / vec2<i32>, u32"),
-        (Remainder, Const, n2(7, 8), I32(3), "vec2(1i, 2i)"),
-        (Remainder, Const, i2(7, 8), I32(0), "RemZeroDiv"),
-        (Remainder, Override, i2(7, 8), I32(0), "vec2(0i, 0i)"),
-        (
-            Addition,
-            Const,
-            i2(7, 8),
-            AbstractInt(4294967295),
-            "Binary + vec2<i32>, AbstractInt",
-        ),
-    ];
     let alloc = rt.alloc();
-    for (row, (operator, stage, vector, scalar, wanted)) in rows.iter().enumerate() {
-        let vector = made_vector(&rt, alloc, *vector);
-        let answer = answered!(with_scalar(&rt, alloc, *operator, *stage, &vector, scalar));
-        drop(vector);
-        assert_answer(&rt, alloc, row, answer, wanted);
+    let rows = "\
+        Const vec2(1, 2); 3u -> vec2(4u, 5u)
+        Const vec2(1i, 2i); 3u -> Binary + vec2<i32>, u32
+        Const vec2(7i, 8i); 4294967295 -> Binary + vec2<i32>, AbstractInt";
+    assert_with_scalar(&rt, alloc, Addition, rows);
+    let rows = "\
+        Const vec2(1i, 5i); 3i -> vec2(-2i, 2i)
+        Const vec2(1i, 5i); 3 -> vec2(-2i, 2i)";
+    assert_with_scalar(&rt, alloc, Subtraction, rows);
+    let rows = "Const vec2(1u, 5u); 3u -> vec2(3u, 15u)";
+    assert_with_scalar(&rt, alloc, Multiplication, rows);
+    let rows = "\
+        Const vec2(7i, -7i); 2i -> vec2(3i, -3i)
+        Exec vec2(7, 8); 0i -> vec2(7i, 8i)
+        Override vec2(7i, 8i); 0i -> DivByZero
+        Exec vec2(7i, 8i); 2u -> Binary / vec2<i32>, u32";
+    assert_with_scalar(&rt, alloc, Division, rows);
+    let rows = "\
+        Const vec2(7, 8); 3i -> vec2(1i, 2i)
+        Const vec2(7i, 8i); 0i -> RemZeroDiv
+        Override vec2(7i, 8i); 0i -> vec2(0i, 0i)";
+    assert_with_scalar(&rt, alloc, Remainder, rows);
+}
+
+/// What the operator gives for `stage scalar; vector`.
+fn answer_with_vector(
+    rt: &impl Abort,
+    alloc: Global,
+    operator: BinaryOperator,
+    call: &str,
+) -> Result<VecInstance, Error> {
+    let (name, operands) = parted(rt, call, " ");
+    let (scalar, vector) = parted(rt, operands, "; ");
+    let (stage, scalar) = (stage(rt, name), scalar_of(rt, scalar));
+    let vector = made_vector(rt, alloc, sample(rt, vector));
+    let answer = answered!(with_vector(rt, alloc, operator, stage, &scalar, &vector));
+    drop(vector);
+    answer
+}
+
+/// Asserts each row: `stage scalar; vector -> wanted`.
+fn assert_with_vector(rt: &impl Abort, alloc: Global, operator: BinaryOperator, rows: &str) {
+    for (row, line) in rows.lines().enumerate() {
+        let (call, wanted) = parted(rt, line, " -> ");
+        let answer = answer_with_vector(rt, alloc, operator, call);
+        assert_answer(rt, alloc, row, answer, wanted);
     }
 }
 
 #[test]
 fn a_scalar_and_a_vector_have_a_common_type_first(rt: HostRuntime) {
-    let rows = [
-        (Addition, Const, U32(3), n2(1, 2), "vec2(4u, 5u)"),
-        // a sum and a product are those of the vector and the scalar
-        (Addition, Const, U32(2), i2(1, 2), "Binary + vec2<i32>, u32"),
-        (
-            Multiplication,
-            Const,
-            U32(2),
-            i2(1, 2),
-            "Binary * vec2<i32>, u32",
-        ),
-        (
-            Subtraction,
-            Const,
-            U32(2),
-            i2(1, 2),
-            "Binary - u32, vec2<i32>",
-        ),
-        (Division, Const, U32(2), i2(1, 2), "Binary / u32, vec2<i32>"),
-        (
-            Remainder,
-            Const,
-            U32(2),
-            i2(1, 2),
-            "Binary % u32, vec2<i32>",
-        ),
-        (Subtraction, Const, I32(3), i2(1, 5), "vec2(2i, -2i)"),
-        (Multiplication, Const, I32(3), n2(1, 5), "vec2(3i, 15i)"),
-        (Division, Const, I32(7), i2(2, -2), "vec2(3i, -3i)"),
-        (Division, Exec, AbstractInt(7), i2(2, 0), "vec2(3i, 7i)"),
-        (Remainder, Const, I32(7), i2(4, 5), "vec2(3i, 2i)"),
-    ];
     let alloc = rt.alloc();
-    for (row, (operator, stage, scalar, vector, wanted)) in rows.iter().enumerate() {
-        let vector = made_vector(&rt, alloc, *vector);
-        let answer = answered!(with_vector(&rt, alloc, *operator, *stage, scalar, &vector));
-        drop(vector);
-        assert_answer(&rt, alloc, row, answer, wanted);
-    }
+    let rows = "Const 3u; vec2(1, 2) -> vec2(4u, 5u)";
+    assert_with_vector(&rt, alloc, Addition, rows);
+    // a sum and a product are those of the vector and the scalar
+    let rows = "Const 2u; vec2(1i, 2i) -> Binary + vec2<i32>, u32";
+    assert_with_vector(&rt, alloc, Addition, rows);
+    let rows = "\
+        Const 2u; vec2(1i, 2i) -> Binary * vec2<i32>, u32
+        Const 3i; vec2(1, 5) -> vec2(3i, 15i)";
+    assert_with_vector(&rt, alloc, Multiplication, rows);
+    let rows = "\
+        Const 2u; vec2(1i, 2i) -> Binary - u32, vec2<i32>
+        Const 3i; vec2(1i, 5i) -> vec2(2i, -2i)";
+    assert_with_vector(&rt, alloc, Subtraction, rows);
+    let rows = "\
+        Const 2u; vec2(1i, 2i) -> Binary / u32, vec2<i32>
+        Const 7i; vec2(2i, -2i) -> vec2(3i, -3i)
+        Exec 7; vec2(2i, 0i) -> vec2(3i, 7i)";
+    assert_with_vector(&rt, alloc, Division, rows);
+    let rows = "\
+        Const 2u; vec2(1i, 2i) -> Binary % u32, vec2<i32>
+        Const 7i; vec2(4i, 5i) -> vec2(3i, 2i)";
+    assert_with_vector(&rt, alloc, Remainder, rows);
 }
 
-/// The sum of the products of the components.
-fn dot(
-    rt: &impl Abort,
-    alloc: Global,
-    stage: ShaderStage,
-    left: Sample,
-    right: Sample,
-) -> Result<LiteralInstance, Error> {
+/// The sum of the products of the components of `stage left; right`.
+fn dot(rt: &impl Abort, alloc: Global, call: &str) -> Result<LiteralInstance, Error> {
+    let (name, operands) = parted(rt, call, " ");
+    let (left, right) = two_samples(rt, operands);
     let left = made_vector(rt, alloc, left);
     let right = made_vector(rt, alloc, right);
+    let stage = stage(rt, name);
     let answer = answered!(left.dot(alloc, &right, stage));
     drop((left, right));
     answer
 }
 
+/// Asserts each row: `stage left; right -> wanted`.
+fn assert_dots(rt: &impl Abort, alloc: Global, rows: &str) {
+    for (row, line) in rows.lines().enumerate() {
+        let (call, wanted) = parted(rt, line, " -> ");
+        assert_answer(rt, alloc, row, dot(rt, alloc, call), wanted);
+    }
+}
+
 #[test]
 fn dot_products(rt: HostRuntime) {
-    let rows = [
-        (Const, i2(3, 4), i2(5, 6), "39i"),
-        (Const, n2(1, 2), i2(3, 4), "11i"),
-        (Exec, i2(2147483647, 1), i2(2, 1), "-1i"),
-        (Const, u3(1, 2, 3), u3(4, 5, 6), "32u"),
-        (Const, n2(9223372036854775807, 1), n2(1, 1), "AddOverflow"),
-        (Const, n2(9223372036854775807, 1), n2(2, 1), "MulOverflow"),
-        (
-            Const,
-            u2(1, 2),
-            u3(1, 2, 3),
-            "CompwiseBinary vec2<u32>, vec3<u32>",
-        ),
-        (Const, i2(1, 2), u2(1, 2), "Binary * i32, u32"),
-        (Const, b2(true, true), b2(true, true), "Binary * bool, bool"),
-    ];
-    let alloc = rt.alloc();
-    for (row, (stage, left, right, wanted)) in rows.iter().enumerate() {
-        let answer = dot(&rt, alloc, *stage, *left, *right);
-        assert_answer(&rt, alloc, row, answer, wanted);
-    }
+    let rows = "\
+        Const vec2(3i, 4i); vec2(5i, 6i) -> 39i
+        Const vec2(1, 2); vec2(3i, 4i) -> 11i
+        Exec vec2(2147483647i, 1i); vec2(2i, 1i) -> -1i
+        Const vec3(1u, 2u, 3u); vec3(4u, 5u, 6u) -> 32u
+        Const vec2(9223372036854775807, 1); vec2(1, 1) -> AddOverflow
+        Const vec2(9223372036854775807, 1); vec2(2, 1) -> MulOverflow
+        Const vec2(1u, 2u); vec3(1u, 2u, 3u) -> CompwiseBinary vec2<u32>, vec3<u32>
+        Const vec2(1i, 2i); vec2(1u, 2u) -> Binary * i32, u32
+        Const vec2(true, true); vec2(true, true) -> Binary * bool, bool";
+    assert_dots(&rt, rt.alloc(), rows);
 }
 
 /// What the operator gives for the two vectors.
@@ -198,48 +224,48 @@ fn joined(
     answered!(answer_of_two(rt, alloc, operator, Const, left, right))
 }
 
+/// Asserts the text of what the operator gives for two vectors.
+fn assert_joined(rt: &impl Abort, alloc: Global, operator: BinaryOperator, wanted: &str) {
+    let left = made_vector(rt, alloc, i2(12, 10));
+    let right = made_vector(rt, alloc, i2(10, 5));
+    let answer = joined(rt, alloc, operator, &left, &right);
+    drop((left, right));
+    assert_answer(rt, alloc, 0, answer, wanted);
+}
+
 #[test]
 fn operators_of_two_vectors(rt: HostRuntime) {
     let alloc = rt.alloc();
-    let left = made_vector(&rt, alloc, i2(12, 10));
-    let right = made_vector(&rt, alloc, i2(10, 5));
-    let rows = [
-        (Addition, "vec2(22i, 15i)"),
-        (Subtraction, "vec2(2i, 5i)"),
-        (Multiplication, "vec2(120i, 50i)"),
-        (Division, "vec2(1i, 2i)"),
-        (Remainder, "vec2(2i, 0i)"),
-        (Equality, "vec2(false, false)"),
-        (Inequality, "vec2(true, true)"),
-        (LessThan, "vec2(false, false)"),
-        (LessThanEqual, "vec2(false, false)"),
-        (GreaterThan, "vec2(true, true)"),
-        (GreaterThanEqual, "vec2(true, true)"),
-        (BitwiseOr, "vec2(14i, 15i)"),
-        (BitwiseAnd, "vec2(8i, 0i)"),
-        (BitwiseXor, "vec2(6i, 15i)"),
-        (ShiftLeft, "Binary << i32, i32"),
-        (ShiftRight, "Binary >> i32, i32"),
-    ];
-    for (row, (operator, wanted)) in rows.iter().enumerate() {
-        let answer = joined(&rt, alloc, *operator, &left, &right);
-        assert_answer(&rt, alloc, row, answer, wanted);
-    }
-    drop((left, right));
+    assert_joined(&rt, alloc, Addition, "vec2(22i, 15i)");
+    assert_joined(&rt, alloc, Subtraction, "vec2(2i, 5i)");
+    assert_joined(&rt, alloc, Multiplication, "vec2(120i, 50i)");
+    assert_joined(&rt, alloc, Division, "vec2(1i, 2i)");
+    assert_joined(&rt, alloc, Remainder, "vec2(2i, 0i)");
+    assert_joined(&rt, alloc, Equality, "vec2(false, false)");
+    assert_joined(&rt, alloc, Inequality, "vec2(true, true)");
+    assert_joined(&rt, alloc, LessThan, "vec2(false, false)");
+    assert_joined(&rt, alloc, LessThanEqual, "vec2(false, false)");
+    assert_joined(&rt, alloc, GreaterThan, "vec2(true, true)");
+    assert_joined(&rt, alloc, GreaterThanEqual, "vec2(true, true)");
+    assert_joined(&rt, alloc, BitwiseOr, "vec2(14i, 15i)");
+    assert_joined(&rt, alloc, BitwiseAnd, "vec2(8i, 0i)");
+    assert_joined(&rt, alloc, BitwiseXor, "vec2(6i, 15i)");
+    assert_joined(&rt, alloc, ShiftLeft, "Binary << i32, i32");
+    assert_joined(&rt, alloc, ShiftRight, "Binary >> i32, i32");
+}
+
+/// Asserts the text of what the operator gives for a vector.
+fn assert_turned(rt: &impl Abort, alloc: Global, operator: UnaryOperator, wanted: &str) {
+    let vector = made_vector(rt, alloc, i2(12, 10));
+    let answer = answered!(answer_of_one(rt, alloc, operator, &vector));
+    drop(vector);
+    assert_answer(rt, alloc, 0, answer, wanted);
 }
 
 #[test]
 fn operators_of_one_vector(rt: HostRuntime) {
     let alloc = rt.alloc();
-    let vector = made_vector(&rt, alloc, i2(12, 10));
-    let rows = [
-        (Negation, "vec2(-12i, -10i)"),
-        (BitwiseComplement, "vec2(-13i, -11i)"),
-        (LogicalNegation, "Unary ! i32"),
-    ];
-    for (row, (operator, wanted)) in rows.iter().enumerate() {
-        let answer = answered!(answer_of_one(&rt, alloc, *operator, &vector));
-        assert_answer(&rt, alloc, row, answer, wanted);
-    }
-    drop(vector);
+    assert_turned(&rt, alloc, Negation, "vec2(-12i, -10i)");
+    assert_turned(&rt, alloc, BitwiseComplement, "vec2(-13i, -11i)");
+    assert_turned(&rt, alloc, LogicalNegation, "Unary ! i32");
 }
