@@ -1,12 +1,15 @@
 //! What an expression is in the scope of a module.
 
 ghost use Rattle.std.specs.Prelude.{◌≡◌, ◌<◌, ◌≤◌, IfOk, IfSome, string_bytes};
+ghost use Rattle.wgsl_rules.specs.Text.{type_text};
+ghost use Rattle.wgsl_rules.specs.Values.{IsWellFormed, type_of};
+ghost use Rattle.wgsl_values.specs.View.{value_of};
 ghost use Rattle.wgsl_c.specs.Answers.{IsAnswer, TellsNumbers};
 ghost use Rattle.wgsl_c.specs.Expressions.{IsTypeText, IsValueText, IsWorth, AreBytes};
 
 use crate::answer::{Answer, Refusal, Stop, given};
 use crate::asked::{settings_of, text_of, values_in};
-use std::alloc::Global;
+use std::alloc::{AllocError, Global};
 use wgsl_eval::Outcome;
 use wgsl_report::{Found, outcome_in_scope};
 use wgsl_rules::Ty;
@@ -121,7 +124,19 @@ fn type_text(alloc: Global, asked: Asked<'_>) -> Result<(String, usize), Stop>
     let Some(value) = value else {
         return Ok((String::new(alloc), faults));
     };
-    Ok((value.ty(alloc)?.to_string(alloc)?, faults))
+    let text = text_of_type(alloc, &value);
+    drop(value);
+    Ok((text?, faults))
+}
+
+fn text_of_type(alloc: Global, value: &Instance) -> Result<String, AllocError>
+    requires { IsWellFormed (value_of value.now) }
+    ensures { IfOk result (λ text. string_bytes text ≡ type_text (type_of (value_of value.now))) }
+{
+    let ty = value.ty(alloc)?;
+    let text = ty.to_string(alloc);
+    drop(ty);
+    text
 }
 
 #[tactic(auto, using(crate::proofs::Values::spelled))]
@@ -134,7 +149,9 @@ fn value_text(alloc: Global, asked: Asked<'_>) -> Result<(String, usize), Stop>
     let Some(value) = value else {
         return Ok((String::new(alloc), faults));
     };
-    Ok((value.to_string(alloc)?, faults))
+    let text = value.to_string(alloc);
+    drop(value);
+    Ok((text?, faults))
 }
 
 #[tactic(auto, using(crate::proofs::Values::laid))]
@@ -147,7 +164,9 @@ fn value_bytes(alloc: Global, asked: Asked<'_>) -> Result<(Vec<u8>, usize), Stop
     let Some(value) = value else {
         return Ok((Vec::new(alloc), faults));
     };
-    match value.to_buffer(alloc) {
+    let bytes = value.to_buffer(alloc);
+    drop(value);
+    match bytes {
         Ok(Some(bytes)) => Ok((bytes, faults)),
         Ok(None) => Err(Stop::Refused(Refusal::NoBytes)),
         Err(_) => Err(Stop::Memory),
@@ -172,9 +191,12 @@ fn worth_of(alloc: Global, asked: Asked<'_>) -> Result<Worth, Stop>
             faults,
         }),
         Some(Outcome::Skipped(skip)) => Err(Stop::Refused(skip.need.into())),
-        _ => Ok(Worth {
-            value: None,
-            faults: faults.max(1),
-        }),
+        other => {
+            drop(other);
+            Ok(Worth {
+                value: None,
+                faults: faults.max(1),
+            })
+        }
     }
 }
