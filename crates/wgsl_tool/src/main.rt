@@ -79,12 +79,25 @@ fn run<R: AllocGlobal + Input + Print + Eprint + Files + Env>(rt: &R) -> io::Res
             Ok(End::Well)
         }
         Asked::Sources(arguments) => {
-            let (defines, settings) = (arguments.defines.as_slice(), arguments.request.settings);
-            match values_given(rt.alloc(), defines, settings)? {
-                Ok(defined) => print_sources(rt, &arguments, &defined),
-                Err(Define { name, value }) => print_misuse(rt, Misuse::Value(name, value)),
-            }
+            let end = print_asked(rt, &arguments);
+            drop(arguments);
+            end
         }
+    }
+}
+
+fn print_asked<R: AllocGlobal + Input + Print + Eprint + Files>(
+    rt: &R,
+    arguments: &Arguments<'_>,
+) -> io::Result<End> {
+    let (defines, settings) = (arguments.defines.as_slice(), arguments.request.settings);
+    match values_given(rt.alloc(), defines, settings)? {
+        Ok(defined) => {
+            let end = print_sources(rt, arguments, &defined);
+            drop(defined);
+            end
+        }
+        Err(Define { name, value }) => print_misuse(rt, Misuse::Value(name, value)),
     }
 }
 
@@ -101,7 +114,7 @@ fn print_sources<R: AllocGlobal + Input + Print + Eprint + Files>(
 ) -> io::Result<End> {
     if let (true, Some(expression)) = (arguments.files.is_empty(), arguments.expression) {
         let value = expression_value(rt.alloc(), expression, &arguments.request)?;
-        return print_report(rt, &value);
+        return print_report(rt, value);
     }
     let is_list = arguments.files.len() > 1 && arguments.request.format == Format::Json;
     if is_list {
@@ -159,26 +172,38 @@ fn print_source<R: AllocGlobal + Print + Eprint>(
     let request = &arguments.request;
     match (arguments.command, arguments.expression) {
         (Command::Layout, _) => {
-            print_report(rt, &layouts_of(alloc, file, text, request, defined)?)
+            print_report(rt, layouts_of(alloc, file, text, request, defined)?)
         }
         (Command::Eval, None) => {
-            print_report(rt, &values_of(alloc, file, text, request, defined)?)
+            print_report(rt, values_of(alloc, file, text, request, defined)?)
         }
         (Command::Eval, Some(expression)) => {
             if !is_expression(alloc, expression)? {
-                return print_report(rt, &expression_value(alloc, expression, request)?);
+                return print_report(rt, expression_value(alloc, expression, request)?);
             }
             let (told, value) = value_in_scope(alloc, file, text, expression, request, defined)?;
-            let end = print_report(rt, &told)?;
-            Ok(end.or_worse(print_report(rt, &value)?))
+            match print_report(rt, told) {
+                Ok(end) => Ok(end.or_worse(print_report(rt, value)?)),
+                Err(error) => {
+                    drop(value);
+                    Err(error)
+                }
+            }
         }
     }
 }
 
-fn print_report<R: Print + Eprint>(rt: &R, report: &Report) -> io::Result<End> {
+fn print_report<R: Print + Eprint>(rt: &R, report: Report) -> io::Result<End> {
+    let printed = print_texts(rt, &report);
+    let end = report.end();
+    drop(report);
+    printed?;
+    Ok(end)
+}
+
+fn print_texts<R: Print + Eprint>(rt: &R, report: &Report) -> io::Result<()> {
     print!(rt; "{}", report.output)?;
-    eprint!(rt; "{}", report.errors)?;
-    Ok(report.end())
+    eprint!(rt; "{}", report.errors)
 }
 
 fn read<R: AllocGlobal + Input + Files>(rt: &R, file: &str) -> io::Result<String> {
