@@ -3,7 +3,7 @@
 use std::alloc::{AllocError, Global};
 use std::process::Abort;
 use wgsl_places::{Place, Places};
-use wgsl_rules::Type;
+use wgsl_rules::{StructMemberType, Type};
 use wgsl_samples::types::{array, matrix, member, structure, vector};
 use wgsl_values::MemView;
 
@@ -89,11 +89,43 @@ fn atomic(alloc: Global, content: Type) -> Result<Type, AllocError> {
     Ok(Type::Atomic(Box::new(alloc, content)?))
 }
 
+pub(super) fn add_member(
+    alloc: Global,
+    members: &mut Vec<StructMemberType>,
+    name: &str,
+    ty: Type,
+) -> Result<(), AllocError> {
+    members.push(member(alloc, name, ty, None)?)?;
+    Ok(())
+}
+
+fn add_members_of_span(
+    alloc: Global,
+    members: &mut Vec<StructMemberType>,
+) -> Result<(), AllocError> {
+    add_member(alloc, members, "low", Type::I64)?;
+    add_member(alloc, members, "high", Type::U64)
+}
+
 /// struct Span { low: i64, high: u64 }
 fn span(alloc: Global) -> Result<Type, AllocError> {
-    let low = member(alloc, "low", Type::I64, None)?;
-    let high = member(alloc, "high", Type::U64, None)?;
-    structure(alloc, "Span", vec![in alloc; low, high]?)
+    let mut members = Vec::new(alloc);
+    add_members_of_span(alloc, &mut members)?;
+    structure(alloc, "Span", members)
+}
+
+fn add_members_of_scene(
+    alloc: Global,
+    members: &mut Vec<StructMemberType>,
+) -> Result<(), AllocError> {
+    add_member(alloc, members, "a", Type::U32)?;
+    add_member(alloc, members, "b", vector(alloc, 3, Type::I32)?)?;
+    add_member(alloc, members, "grid", matrix(alloc, Type::U32)?)?;
+    let spans = array(alloc, span(alloc)?, Some(2))?;
+    add_member(alloc, members, "spans", spans)?;
+    add_member(alloc, members, "total", atomic(alloc, Type::I32)?)?;
+    let tail = array(alloc, atomic(alloc, Type::U32)?, None)?;
+    add_member(alloc, members, "tail", tail)
 }
 
 /// struct Scene {
@@ -101,14 +133,7 @@ fn span(alloc: Global) -> Result<Type, AllocError> {
 /// }
 pub(super) fn scene(alloc: Global) -> Result<Type, AllocError> {
     let mut members = Vec::new(alloc);
-    members.push(member(alloc, "a", Type::U32, None)?)?;
-    members.push(member(alloc, "b", vector(alloc, 3, Type::I32)?, None)?)?;
-    members.push(member(alloc, "grid", matrix(alloc, Type::U32)?, None)?)?;
-    let spans = array(alloc, span(alloc)?, Some(2))?;
-    members.push(member(alloc, "spans", spans, None)?)?;
-    members.push(member(alloc, "total", atomic(alloc, Type::I32)?, None)?)?;
-    let tail = array(alloc, atomic(alloc, Type::U32)?, None)?;
-    members.push(member(alloc, "tail", tail, None)?)?;
+    add_members_of_scene(alloc, &mut members)?;
     structure(alloc, "Scene", members)
 }
 

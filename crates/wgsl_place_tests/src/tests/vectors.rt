@@ -1,12 +1,12 @@
 //! Vectors are loaded and stored where they stand, whole or not at all.
 
 use crate::tests::samples::Step::{self, Index, Member};
-use crate::tests::samples::stepped_in;
+use crate::tests::samples::{add_member, stepped_in};
 use std::alloc::{AllocError, Global};
 use std::process::Abort;
 use wgsl_places::Places;
-use wgsl_rules::Type;
-use wgsl_samples::types::{array, matrix, member, structure, vector};
+use wgsl_rules::{StructMemberType, Type};
+use wgsl_samples::types::{array, matrix, structure, vector};
 use wgsl_scalar::LiteralInstance::{self, AbstractInt, Bool, I32, I64, U32, U64};
 
 /// A vector of `Lot`: the steps to it, where its bytes begin and end, and its components in bytes of which each is its own
@@ -91,22 +91,29 @@ const OTHERS: &[&[Step]] = &[
     &[Member("tail", 7)],
 ];
 
+fn add_members_of_lot(
+    alloc: Global,
+    members: &mut Vec<StructMemberType>,
+) -> Result<(), AllocError> {
+    add_member(alloc, members, "pair", vector(alloc, 2, Type::I64)?)?;
+    add_member(alloc, members, "triple", vector(alloc, 3, Type::U32)?)?;
+    add_member(alloc, members, "word", Type::U32)?;
+    add_member(alloc, members, "long", vector(alloc, 3, Type::U64)?)?;
+    add_member(alloc, members, "grid", matrix(alloc, Type::I32)?)?;
+    let rows = array(alloc, vector(alloc, 4, Type::U32)?, Some(2))?;
+    add_member(alloc, members, "rows", rows)?;
+    add_member(alloc, members, "wide", vector(alloc, 4, Type::U64)?)?;
+    let tail = array(alloc, vector(alloc, 2, Type::I32)?, None)?;
+    add_member(alloc, members, "tail", tail)
+}
+
 /// struct Lot {
 ///     pair: vec2<i64>, triple: vec3<u32>, word: u32, long: vec3<u64>, grid: mat2x3<i32>, rows: array<vec4<u32>, 2>,
 ///     wide: vec4<u64>, tail: array<vec2<i32>>
 /// }
 fn lot(alloc: Global) -> Result<Type, AllocError> {
     let mut members = Vec::new(alloc);
-    members.push(member(alloc, "pair", vector(alloc, 2, Type::I64)?, None)?)?;
-    members.push(member(alloc, "triple", vector(alloc, 3, Type::U32)?, None)?)?;
-    members.push(member(alloc, "word", Type::U32, None)?)?;
-    members.push(member(alloc, "long", vector(alloc, 3, Type::U64)?, None)?)?;
-    members.push(member(alloc, "grid", matrix(alloc, Type::I32)?, None)?)?;
-    let rows = array(alloc, vector(alloc, 4, Type::U32)?, Some(2))?;
-    members.push(member(alloc, "rows", rows, None)?)?;
-    members.push(member(alloc, "wide", vector(alloc, 4, Type::U64)?, None)?)?;
-    let tail = array(alloc, vector(alloc, 2, Type::I32)?, None)?;
-    members.push(member(alloc, "tail", tail, None)?)?;
+    add_members_of_lot(alloc, &mut members)?;
     structure(alloc, "Lot", members)
 }
 
