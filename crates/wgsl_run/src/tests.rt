@@ -22,23 +22,42 @@ fn output_of(alloc: Global, script: &[u8]) -> Result<Vec<u8>, RunFault> {
     Ok(output)
 }
 
-/// Asserts what a script prints.
-fn assert_prints(rt: &impl Abort, alloc: Global, script: &[u8], wanted: &[u8]) {
+/// Asserts what a script prints, which shows this.
+fn assert_shows(rt: &impl Abort, alloc: Global, shows: &str, script: &[u8], wanted: &[u8]) {
     let output = output_of(alloc, script).expect(rt, "a run to its end");
-    assert_eq!(rt; output.as_slice(), wanted);
+    assert_eq!(rt; output.as_slice(), wanted, "{shows}");
 }
 
-/// Asserts what each line of a script prints, and nothing where the answer is empty.
-fn assert_answers(rt: &impl Abort, alloc: Global, lines: &[(&str, &str)]) {
-    let mut script = String::new(alloc);
+/// Asserts what a script prints.
+fn assert_prints(rt: &impl Abort, alloc: Global, script: &[u8], wanted: &[u8]) {
+    assert_shows(rt, alloc, "a script", script, wanted);
+}
+
+/// What a script shows, and its lines with what each prints: nothing where that is empty.
+struct Script {
+    shows: &'static str,
+    lines: &'static [(&'static str, &'static str)],
+}
+
+/// Asserts what each line of a script prints.
+fn assert_answers(rt: &impl Abort, alloc: Global, script: &Script) {
+    let mut text = String::new(alloc);
     let mut wanted = String::new(alloc);
-    for (line, answer) in lines {
-        writeln!(script, "{line}").expect(rt, "memory");
+    for (line, answer) in script.lines {
+        writeln!(text, "{line}").expect(rt, "memory");
         if !answer.is_empty() {
             writeln!(wanted, "{answer}").expect(rt, "memory");
         }
     }
-    assert_prints(rt, alloc, script.as_bytes(), wanted.as_bytes());
+    let (text, wanted) = (text.as_bytes(), wanted.as_bytes());
+    assert_shows(rt, alloc, script.shows, text, wanted);
+}
+
+/// Asserts what each line of each of the scripts prints.
+fn assert_scripts(rt: &impl Abort, alloc: Global, scripts: &[Script]) {
+    for script in scripts {
+        assert_answers(rt, alloc, script);
+    }
 }
 
 /// Asserts that each line, with one of the words in the place of its star, prints the answer.
@@ -50,5 +69,5 @@ fn assert_each(rt: &impl Abort, alloc: Global, line: &str, words: &[&str], answe
         writeln!(script, "{before}{word}{after}").expect(rt, "memory");
         writeln!(wanted, "{answer}").expect(rt, "memory");
     }
-    assert_prints(rt, alloc, script.as_bytes(), wanted.as_bytes());
+    assert_shows(rt, alloc, line, script.as_bytes(), wanted.as_bytes());
 }

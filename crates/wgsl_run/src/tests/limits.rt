@@ -1,4 +1,4 @@
-use crate::tests::{assert_answers, assert_each, assert_prints, output_of};
+use crate::tests::{Script, assert_answers, assert_each, assert_prints, output_of};
 use std::alloc::{AllocError, Global};
 use std::fmt::Write;
 use std::process::Abort;
@@ -280,9 +280,9 @@ refused BadLine
     assert_prints(&rt, alloc, script.as_bytes(), wanted);
 }
 
-#[test]
-fn counts_reach_to_4294967295(rt: HostRuntime) {
-    let lines = [
+const COUNTS: Script = Script {
+    shows: "counts reach to 4294967295",
+    lines: &[
         (
             "new array<u32,4294967295> storage read 00",
             "refused NoValue",
@@ -301,8 +301,12 @@ fn counts_reach_to_4294967295(rt: HostRuntime) {
         ),
         ("struct S a:array<u32,4294967295>", "done"),
         ("struct T a:array<u32,4294967296>", "refused BadLine"),
-    ];
-    assert_answers(&rt, rt.alloc(), &lines);
+    ],
+};
+
+#[test]
+fn counts_reach_to_4294967295(rt: HostRuntime) {
+    assert_answers(&rt, rt.alloc(), &COUNTS);
 }
 
 #[test]
