@@ -2,7 +2,7 @@
 use Rattle.std.proofs.Common.{◌≡◌, ℕ, List, Some, inr}
 use Rattle.wgsl_rules.specs.Text.{type_text}
 use Rattle.wgsl_rules.specs.Values.{type_of}
-use Rattle.wgsl_store.specs.Buffers.{buffer_of}
+use Rattle.wgsl_layout.specs.Buffers.{buffer_of}
 use Rattle.wgsl_values.specs.Texts.{text_of_value}
 use Rattle.wgsl_values.specs.View.{value_of}
 use Rattle.wgsl_values.specs.declared.inst.Instance.{Instance}

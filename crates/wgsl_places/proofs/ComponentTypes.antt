@@ -15,10 +15,10 @@ use Rattle.wgsl_scalar.specs.declared.literal.LiteralInstance.{LiteralInstance}
 use Rattle.wgsl_scalar.specs.declared.literal.LiteralInstance.TheVariants as literals
 use Rattle.wgsl_nodes.specs.HostTypes.{kind_of}
 use Rattle.wgsl_values.specs.View.{vals_of}
-use Rattle.wgsl_store.specs.Buffers.{buffer, made_of_number}
-use Rattle.wgsl_store.specs.Layouts.{written_in}
-use Rattle.wgsl_store.specs.Ranges.{Range, overwritten}
-use Rattle.wgsl_store.specs.Walk.{number_bytes}
+use Rattle.wgsl_layout.specs.Buffers.{buffer, made_of_number}
+use Rattle.wgsl_layout.specs.Layouts.{written_in}
+use Rattle.wgsl_layout.specs.Ranges.{Range, overwritten}
+use Rattle.wgsl_layout.specs.Walk.{number_bytes}
 use Rattle.wgsl_places.specs.Numbers.{kind_named, stored_kind}
 use Rattle.wgsl_places.specs.Places.{stored}
 use Rattle.wgsl_places.proofs.SideBySide.{le-tells}

@@ -11,17 +11,18 @@ use Rattle.wgsl_rules.specs.Types.{Ty}
 use Rattle.wgsl_rules.specs.Values.{Reference, Step, Val, type_of, IsStorable}
 use Rattle.wgsl_scalar.specs.Literals.{literal_of}
 use Rattle.wgsl_scalar.specs.declared.literal.LiteralInstance.{LiteralInstance}
-use Rattle.wgsl_store.specs.Buffers.{buffer}
+use Rattle.wgsl_layout.specs.Buffers.{buffer}
 use Rattle.wgsl_store.specs.Copies.{in_bytes, is_bytes}
 use Rattle.wgsl_store.specs.HeldBytes.{bytes_at, held_bytes}
-use Rattle.wgsl_store.specs.Layouts.{Answer, answer_then, or_refused, part_in}
+use Rattle.wgsl_layout.specs.Layouts.{Answer, answer_then, or_refused, part_in}
 use Rattle.wgsl_store.specs.Memory.{held, IsKept, IsSound, put_cells}
-use Rattle.wgsl_store.specs.NumbersIn.{AreFrom, HasNumberAt, IsNumberAt, number_put}
-use Rattle.wgsl_store.specs.Ranges.{Range, path_in, range_in, view_range}
-use Rattle.wgsl_store.specs.declared.layout.LayoutRefusal.TheVariants.{TooFewBytes, NoPart}
-use Rattle.wgsl_store.proofs.lemmas.Compose.{compose}
-use Rattle.wgsl_store.proofs.lemmas.Held.{has-cell, has-path, held-value, kept-is, sound-at}
-use Rattle.wgsl_store.proofs.lemmas.Roundtrip.{lays-itself}
+use Rattle.wgsl_layout.specs.NumbersIn.{AreFrom, HasNumberAt, IsNumberAt, number_put}
+use Rattle.wgsl_layout.specs.Ranges.{Range, path_in, range_in, view_range}
+use Rattle.wgsl_layout.specs.declared.layout.LayoutRefusal.TheVariants.{TooFewBytes, NoPart}
+use Rattle.wgsl_layout.proofs.lemmas.Compose.{compose}
+use Rattle.wgsl_layout.proofs.lemmas.ViewedPaths.{has-path}
+use Rattle.wgsl_store.proofs.lemmas.Held.{has-cell, held-value, kept-is, sound-at}
+use Rattle.wgsl_layout.proofs.lemmas.Roundtrip.{lays-itself}
 use Rattle.wgsl_places.specs.Memory.{IsPlaceAt, IsPlaceIn, IsPlaceOf, range_viewed}
 use Rattle.wgsl_places.specs.Numbers.{width_with}
 use Rattle.wgsl_places.specs.Places.{ArePlaces, IsPlace, IsPlaceAnswer}

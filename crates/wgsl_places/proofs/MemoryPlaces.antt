@@ -16,22 +16,22 @@ use Rattle.wgsl_scalar.specs.Literals.{literal_of}
 use Rattle.wgsl_scalar.specs.declared.literal.LiteralInstance.{LiteralInstance}
 use Rattle.wgsl_scalar.specs.declared.literal.LiteralInstance.TheVariants as literals
 use Rattle.wgsl_nodes.specs.Places.{number_kind, numbers_in}
-use Rattle.wgsl_store.specs.Buffers.{buffer, decode, decoded, made_of_number, made_of_parts, read_number}
+use Rattle.wgsl_layout.specs.Buffers.{buffer, decode, decoded, made_of_number, made_of_parts, read_number}
 use Rattle.wgsl_store.specs.Memory.{held, IsKept}
 use Rattle.wgsl_store.specs.MemoryLaws.{KeepsLayouts, layout_held}
-use Rattle.wgsl_store.specs.NumbersIn.{IsLikeNumber, IsNumberAt}
-use Rattle.wgsl_store.specs.Plan.{plan_of}
-use Rattle.wgsl_store.specs.Ranges.{Range, bytes_in, further, part_at, parts_in, range_in}
-use Rattle.wgsl_store.proofs.lemmas.Compose.{compose, laid-decodes}
-use Rattle.wgsl_store.proofs.lemmas.Follows.{Follows, FollowAll, follows, parts-follow}
+use Rattle.wgsl_layout.specs.NumbersIn.{IsLikeNumber, IsNumberAt}
+use Rattle.wgsl_layout.specs.Plan.{plan_of}
+use Rattle.wgsl_layout.specs.Ranges.{Range, bytes_in, further, part_at, parts_in, range_in}
+use Rattle.wgsl_layout.proofs.lemmas.Compose.{compose, laid-decodes}
+use Rattle.wgsl_layout.proofs.lemmas.Follows.{Follows, FollowAll, follows, parts-follow}
 use Rattle.wgsl_store.proofs.lemmas.Held.{kept-is}
-use Rattle.wgsl_store.proofs.lemmas.InRange.{there-decodes}
-use Rattle.wgsl_store.proofs.lemmas.Known.{and-both}
-use Rattle.wgsl_store.proofs.lemmas.PathRanges.{range_in-append}
-use Rattle.wgsl_store.proofs.lemmas.Places.{part-storable}
-use Rattle.wgsl_store.proofs.lemmas.Roundtrip.{lays-itself}
-use Rattle.wgsl_store.proofs.lemmas.Tidy.{counts}
-use Rattle.wgsl_store.proofs.lemmas.ViewPaths.{layout-type}
+use Rattle.wgsl_layout.proofs.lemmas.InRange.{there-decodes}
+use Rattle.wgsl_layout.proofs.lemmas.Known.{and-both}
+use Rattle.wgsl_layout.proofs.lemmas.PathRanges.{range_in-append}
+use Rattle.wgsl_layout.proofs.lemmas.Places.{part-storable}
+use Rattle.wgsl_layout.proofs.lemmas.Roundtrip.{lays-itself}
+use Rattle.wgsl_layout.proofs.lemmas.Tidy.{counts}
+use Rattle.wgsl_layout.proofs.lemmas.ViewPaths.{layout-type}
 use Rattle.wgsl_places.specs.Laws.{number_in}
 use Rattle.wgsl_places.specs.Memory.{IsPlaceAt, IsPlaceIn, IsPlaceOf, takes_at}
 use Rattle.wgsl_places.specs.Numbers.{width_with}

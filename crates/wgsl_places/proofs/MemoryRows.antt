@@ -16,20 +16,20 @@ use Rattle.wgsl_scalar.specs.declared.literal.LiteralInstance.TheVariants as lit
 use Rattle.wgsl_values.specs.Iterators.{listed}
 use Rattle.wgsl_values.specs.View.{vals_of}
 use Rattle.wgsl_values.proofs.lemmas.PutTwice.{put-twice}
-use Rattle.wgsl_store.specs.Buffers.{buffer}
+use Rattle.wgsl_layout.specs.Buffers.{buffer}
 use Rattle.wgsl_store.specs.Copies.{in_bytes, is_bytes}
 use Rattle.wgsl_store.specs.Memory.{held, IsKept, IsSound, at_position, put_cells}
 use Rattle.wgsl_store.specs.MemoryLaws.{KeepsLayouts, StaysKept}
-use Rattle.wgsl_store.specs.NumbersIn.{HasNumberAt, IsLikeNumber, IsNumberAt, number_put, with_number}
-use Rattle.wgsl_store.specs.Plan.{plan_of}
-use Rattle.wgsl_store.specs.Ranges.{Range, range_in}
-use Rattle.wgsl_store.specs.Walk.{put}
-use Rattle.wgsl_store.proofs.lemmas.Alike.{parts-replaced}
-use Rattle.wgsl_store.proofs.lemmas.Compose.{value-below}
-use Rattle.wgsl_store.proofs.lemmas.Flat.{IsPut, fits-laid, put-at-path}
+use Rattle.wgsl_layout.specs.NumbersIn.{HasNumberAt, IsLikeNumber, IsNumberAt, number_put, with_number}
+use Rattle.wgsl_layout.specs.Plan.{plan_of}
+use Rattle.wgsl_layout.specs.Ranges.{Range, range_in}
+use Rattle.wgsl_layout.specs.Walk.{put}
+use Rattle.wgsl_layout.proofs.lemmas.Alike.{parts-replaced}
+use Rattle.wgsl_layout.proofs.lemmas.Compose.{value-below}
+use Rattle.wgsl_layout.proofs.lemmas.Flat.{IsPut, fits-laid, put-at-path}
 use Rattle.wgsl_store.proofs.lemmas.Held.{held-value}
-use Rattle.wgsl_store.proofs.lemmas.Places.{part-storable, put-type}
-use Rattle.wgsl_store.proofs.lemmas.ViewPaths.{layout-type}
+use Rattle.wgsl_layout.proofs.lemmas.Places.{part-storable, put-type}
+use Rattle.wgsl_layout.proofs.lemmas.ViewPaths.{layout-type}
 use Rattle.wgsl_store.proofs.lemmas.Writes.{accepts, at-own, held-after, put-cell, written-back}
 use Rattle.wgsl_places.specs.Laws.{components_in}
 use Rattle.wgsl_places.specs.Rows.{HasRow, IsRow}

@@ -19,14 +19,14 @@ use Rattle.wgsl_scalar.specs.declared.literal.LiteralInstance.{LiteralInstance}
 use Rattle.wgsl_nodes.specs.HostTypes.{is_number, kind_of}
 use Rattle.wgsl_nodes.specs.Places.{number_kind, numbers_in}
 use Rattle.wgsl_values.specs.View.{vals_of}
-use Rattle.wgsl_store.specs.Buffers.{buffer}
+use Rattle.wgsl_layout.specs.Buffers.{buffer}
 use Rattle.wgsl_store.specs.Memory.{held, IsSound, put_cells}
-use Rattle.wgsl_store.specs.NumbersIn.{IsNumberAt}
-use Rattle.wgsl_store.specs.Ranges.{Range, further, part_at, parts_in, range_in}
-use Rattle.wgsl_store.proofs.lemmas.Follows.{Follows, FollowAll, follows}
+use Rattle.wgsl_layout.specs.NumbersIn.{IsNumberAt}
+use Rattle.wgsl_layout.specs.Ranges.{Range, further, part_at, parts_in, range_in}
+use Rattle.wgsl_layout.proofs.lemmas.Follows.{Follows, FollowAll, follows}
 use Rattle.wgsl_store.proofs.lemmas.Held.{held-value}
-use Rattle.wgsl_store.proofs.lemmas.Known.{and-both}
-use Rattle.wgsl_store.proofs.lemmas.Tidy.{counts}
+use Rattle.wgsl_layout.proofs.lemmas.Known.{and-both}
+use Rattle.wgsl_layout.proofs.lemmas.Tidy.{counts}
 use Rattle.wgsl_places.specs.Laws.{components_in}
 use Rattle.wgsl_places.specs.Memory.{IsPlaceAt, IsPlaceIn, IsPlaceOf, is_vector_of, takes_vec_at}
 use Rattle.wgsl_places.specs.Numbers.{is_of_kind, row_width, width_of}

@@ -7,8 +7,8 @@ use Rattle.wgsl_rules.specs.Paths.{index_named}
 use Rattle.wgsl_rules.specs.View.{type_view, struct_view as struct_type_view, member_view, members_view}
 use Rattle.wgsl_rules.specs.declared.ty.StructMemberType.{StructMemberType}
 use Rattle.wgsl_rules.specs.declared.ty.StructType.{StructType, out-StructType}
-use Rattle.wgsl_store.proofs.Making.{type-is}
-use Rattle.wgsl_store.proofs.Reading.{struct-of}
+use Rattle.wgsl_layout.proofs.Making.{type-is}
+use Rattle.wgsl_layout.proofs.Reading.{struct-of}
 use Rattle.wgsl_places.specs.Steps.{field_at, step_to}
 
 pub named-below : (name : List ℕ) (ms : List StructMemberType) (i : ℕ) → index_named name (members_view ms) ≡ Some i → i < length ms

@@ -11,13 +11,13 @@ use Rattle.wgsl_rules.specs.Layout.{size, align, stride, scalar_kind, known_stri
 use Rattle.wgsl_nodes.specs.Canonical.{table}
 use Rattle.wgsl_nodes.specs.Places.{Part, part_if, part_with, member_in, IsPartAt, IsPlaceOf}
 use Rattle.wgsl_nodes.specs.declared.places.Place.{«Place» as NodePlace}
-use Rattle.wgsl_store.specs.Ranges.{Range, further, part_at, parts_in}
-use Rattle.wgsl_store.proofs.lemmas.Known.{and-both}
-use Rattle.wgsl_store.proofs.lemmas.Fixed.{first-fixed, fixed-array, fixed-mat, last-runtime, array-runtime}
-use Rattle.wgsl_store.proofs.lemmas.Positive.{tail-stride}
-use Rattle.wgsl_store.proofs.lemmas.Ranges.{IsTidy, AreTidy, tidy-length}
-use Rattle.wgsl_store.proofs.lemmas.Tidy.{tidy}
-use Rattle.wgsl_store.proofs.lemmas.ViewPaths.{layout-type}
+use Rattle.wgsl_layout.specs.Ranges.{Range, further, part_at, parts_in}
+use Rattle.wgsl_layout.proofs.lemmas.Known.{and-both}
+use Rattle.wgsl_layout.proofs.lemmas.Fixed.{first-fixed, fixed-array, fixed-mat, last-runtime, array-runtime}
+use Rattle.wgsl_layout.proofs.lemmas.Positive.{tail-stride}
+use Rattle.wgsl_layout.proofs.lemmas.Ranges.{IsTidy, AreTidy, tidy-length}
+use Rattle.wgsl_layout.proofs.lemmas.Tidy.{tidy}
+use Rattle.wgsl_layout.proofs.lemmas.ViewPaths.{layout-type}
 use Rattle.wgsl_places.specs.Places.{IsPlace, ArePlaces}
 use Rattle.wgsl_places.specs.declared.place.Place.{Place}
 

@@ -16,10 +16,10 @@ use Rattle.wgsl_scalar.specs.Literals.{literal_of}
 use Rattle.wgsl_scalar.specs.declared.literal.LiteralInstance.{LiteralInstance}
 use Rattle.wgsl_scalar.specs.declared.literal.LiteralInstance.TheVariants as literals
 use Rattle.wgsl_values.specs.View.{vals_of}
-use Rattle.wgsl_store.specs.Plan.{scalar}
-use Rattle.wgsl_store.specs.Walk.{Stands, StandInRow, number_bytes, put, put_row}
-use Rattle.wgsl_store.proofs.lemmas.Known.{and-both}
-use Rattle.wgsl_store.proofs.lemmas.Leaves.{over-length}
+use Rattle.wgsl_layout.specs.Plan.{scalar}
+use Rattle.wgsl_layout.specs.Walk.{Stands, StandInRow, number_bytes, put, put_row}
+use Rattle.wgsl_layout.proofs.lemmas.Known.{and-both}
+use Rattle.wgsl_layout.proofs.lemmas.Leaves.{over-length}
 use Rattle.wgsl_places.specs.Numbers.{is_of_kind, loaded_far, loaded_kind, loaded_row, number_put, stored_far, stored_in, stored_kind, stored_row, width_of, width_with}
 
 pub le-tells : (a b : ℕ) → nat_le a b ≡ true → a ≤ b

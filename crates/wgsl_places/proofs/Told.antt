@@ -9,12 +9,12 @@ use Rattle.wgsl_nodes.specs.Nodes.{IsNodeOf}
 use Rattle.wgsl_nodes.specs.Places.{IsPartAt, IsPlaceOf, part_with}
 use Rattle.wgsl_nodes.specs.declared.nodes.Node.{Node}
 use Rattle.wgsl_nodes.specs.declared.places.Place.{«Place» as NodePlace}
-use Rattle.wgsl_store.specs.Plan.{plan_of}
-use Rattle.wgsl_store.specs.Layouts.{Answer, answer_then, or_refused, part_in}
-use Rattle.wgsl_store.specs.Ranges.{Range, further, part_at, parts_in, view_range}
-use Rattle.wgsl_store.specs.declared.layout.LayoutRefusal.TheVariants.{TooFewBytes, NoPart}
-use Rattle.wgsl_store.proofs.Reading.{counted-there}
-use Rattle.wgsl_store.proofs.lemmas.ViewPaths.{layout-type}
+use Rattle.wgsl_layout.specs.Plan.{plan_of}
+use Rattle.wgsl_layout.specs.Layouts.{Answer, answer_then, or_refused, part_in}
+use Rattle.wgsl_layout.specs.Ranges.{Range, further, part_at, parts_in, view_range}
+use Rattle.wgsl_layout.specs.declared.layout.LayoutRefusal.TheVariants.{TooFewBytes, NoPart}
+use Rattle.wgsl_layout.proofs.Reading.{counted-there}
+use Rattle.wgsl_layout.proofs.lemmas.ViewPaths.{layout-type}
 use Rattle.wgsl_places.specs.Places.{ArePlaces, IsPlace, IsPlaceAnswer, whole_of}
 use Rattle.wgsl_places.specs.declared.place.Place.{Place}
 use Rattle.wgsl_places.proofs.Host.{host}

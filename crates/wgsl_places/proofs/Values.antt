@@ -8,9 +8,9 @@ use Rattle.wgsl_rules.specs.Types as types
 use Rattle.wgsl_rules.specs.Types.{Ty, struct, array, vec, mat, atomic}
 use Rattle.wgsl_rules.specs.Values.{Val, Vals, number, atomic_of, type_of}
 use Rattle.wgsl_rules.specs.Layout.{has_layout, Layout, scalar, composite, layout, type_in}
-use Rattle.wgsl_store.specs.Buffers.{buffer, decoded, decoded_parts, made_of_parts, made_of_number, read_number}
-use Rattle.wgsl_store.specs.Layouts.{Answer, written_in}
-use Rattle.wgsl_store.specs.Ranges.{Range, overwritten}
+use Rattle.wgsl_layout.specs.Buffers.{buffer, decoded, decoded_parts, made_of_parts, made_of_number, read_number}
+use Rattle.wgsl_layout.specs.Layouts.{Answer, written_in}
+use Rattle.wgsl_layout.specs.Ranges.{Range, overwritten}
 use Rattle.wgsl_places.specs.Places.{is_inside, number_there, stored, takes}
 use Rattle.wgsl_places.specs.Laws.{number_in, value_with, LoadsAreReads, StoresAreWrites}
 

@@ -12,11 +12,11 @@ use Rattle.wgsl_rules.specs.Values.{Val, Vals, number, vector, AreLiterals}
 use Rattle.wgsl_rules.specs.Layout.{has_layout, Layout, scalar, composite, Parts, layout, length_in, type_in, repeated}
 use Rattle.wgsl_values.specs.Iterators.{listed}
 use Rattle.wgsl_values.specs.View.{vals_of}
-use Rattle.wgsl_store.specs.Buffers.{byte_of, decoded, decoded_parts, made_of_number, made_of_parts, read_number}
-use Rattle.wgsl_store.specs.Layouts.{written_in}
-use Rattle.wgsl_store.specs.Ranges.{overwritten, parts_in}
-use Rattle.wgsl_store.specs.Walk.{number_bytes}
-use Rattle.wgsl_store.proofs.lemmas.Tidy.{counts}
+use Rattle.wgsl_layout.specs.Buffers.{byte_of, decoded, decoded_parts, made_of_number, made_of_parts, read_number}
+use Rattle.wgsl_layout.specs.Layouts.{written_in}
+use Rattle.wgsl_layout.specs.Ranges.{overwritten, parts_in}
+use Rattle.wgsl_layout.specs.Walk.{number_bytes}
+use Rattle.wgsl_layout.proofs.lemmas.Tidy.{counts}
 use Rattle.wgsl_places.specs.Laws.{components_in, VectorLoadsAreReads, VectorStoresAreWrites}
 use Rattle.wgsl_places.specs.Places.{stored}
 use Rattle.wgsl_places.specs.Vectors.{is_vector, loaded_parts, stored_parts}

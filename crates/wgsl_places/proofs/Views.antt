@@ -7,8 +7,8 @@ use Rattle.wgsl_rules.specs.Size.{extent_in, end_after}
 use Rattle.wgsl_rules.specs.Values.{Step}
 use Rattle.wgsl_rules.specs.Layout.{size, align, stride, has_layout, Layout, layout, type_in}
 use Rattle.wgsl_nodes.specs.Places.{Part, part_with, member_in}
-use Rattle.wgsl_store.specs.Ranges.{Range, further, part_at, parts_in, path_in, range_in, step_in, view_range}
-use Rattle.wgsl_store.proofs.lemmas.ViewPaths.{layout-type}
+use Rattle.wgsl_layout.specs.Ranges.{Range, further, part_at, parts_in, path_in, range_in, step_in, view_range}
+use Rattle.wgsl_layout.proofs.lemmas.ViewPaths.{layout-type}
 use Rattle.wgsl_places.specs.Places.{IsPlace, ArePlaces}
 use Rattle.wgsl_places.specs.Steps.{field_at, step_to, type_at}
 use Rattle.wgsl_places.specs.declared.place.Place.{Place}

@@ -4,9 +4,9 @@ use Rattle.wgsl_rules.specs.Kinds.{Kind}
 use Rattle.wgsl_rules.specs.Layout.{HasLayout, layout, type_in}
 use Rattle.wgsl_rules.specs.Types.{Ty, atomic}
 use Rattle.wgsl_rules.specs.Values.{Val, number, vector, atomic_of, AreLiterals}
-use Rattle.wgsl_store.specs.Buffers.{decoded}
-use Rattle.wgsl_store.specs.Layouts.{written_in}
-use Rattle.wgsl_store.specs.Ranges.{Range}
+use Rattle.wgsl_layout.specs.Buffers.{decoded}
+use Rattle.wgsl_layout.specs.Layouts.{written_in}
+use Rattle.wgsl_layout.specs.Ranges.{Range}
 use Rattle.wgsl_values.specs.Iterators.{listed}
 use Rattle.wgsl_values.specs.View.{vals_of}
 use Rattle.wgsl_places.specs.Places.{is_inside, loaded, stored}

@@ -8,7 +8,7 @@ use Rattle.wgsl_rules.specs.Same.{same}
 use Rattle.wgsl_rules.specs.Types.{Ty, vec}
 use Rattle.wgsl_rules.specs.Values.{Reference, Step, Val, type_of}
 use Rattle.wgsl_store.specs.Memory.{held}
-use Rattle.wgsl_store.specs.Ranges.{Range, range_in, view_range}
+use Rattle.wgsl_layout.specs.Ranges.{Range, range_in, view_range}
 use Rattle.wgsl_places.specs.Laws.{components_in, number_in}
 use Rattle.wgsl_places.specs.Places.{IsPlace, takes}
 use Rattle.wgsl_places.specs.declared.place.Place.{Place}

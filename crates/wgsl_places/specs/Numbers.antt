@@ -8,9 +8,9 @@ use Rattle.wgsl_rules.specs.Layout.{is_from_2_to_4}
 use Rattle.wgsl_rules.specs.Values.{Val, number}
 use Rattle.wgsl_scalar.specs.Literals.{literal_of}
 use Rattle.wgsl_scalar.specs.declared.literal.LiteralInstance.{LiteralInstance}
-use Rattle.wgsl_store.specs.Buffers.{number_from, read_number}
-use Rattle.wgsl_store.specs.Ranges.{overwritten}
-use Rattle.wgsl_store.specs.Walk.{number_bytes}
+use Rattle.wgsl_layout.specs.Buffers.{number_from, read_number}
+use Rattle.wgsl_layout.specs.Ranges.{overwritten}
+use Rattle.wgsl_layout.specs.Walk.{number_bytes}
 
 -- the kind of the numbers that a record of a number says, an atomic's too
 abbrev pub kind_named : ℕ → Option Kind

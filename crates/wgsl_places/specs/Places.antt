@@ -7,9 +7,9 @@ use Rattle.wgsl_rules.specs.Types.{Ty, atomic}
 use Rattle.wgsl_rules.specs.Values.{Val, number, type_of}
 use Rattle.wgsl_nodes.specs.Canonical.{table}
 use Rattle.wgsl_nodes.specs.Places.{IsPlaceOf}
-use Rattle.wgsl_store.specs.Buffers.{buffer, read_number}
-use Rattle.wgsl_store.specs.Layouts.{Answer}
-use Rattle.wgsl_store.specs.Ranges.{Range, overwritten}
+use Rattle.wgsl_layout.specs.Buffers.{buffer, read_number}
+use Rattle.wgsl_layout.specs.Layouts.{Answer}
+use Rattle.wgsl_layout.specs.Ranges.{Range, overwritten}
 use Rattle.wgsl_places.specs.declared.place.Place.{Place}
 
 -- ---- places

@@ -2,7 +2,7 @@
 use Rattle.std.specs.Prelude.{◌≡◌, ℕ, ◌+◌, ◌*◌, List, [], ◌∷◌, ◌++◌, length, slice_get, Some, IfSome, option_and_then, option_map}
 use Rattle.wgsl_rules.specs.Paths.{value_at}
 use Rattle.wgsl_rules.specs.Values.{Val}
-use Rattle.wgsl_store.specs.NumbersIn.{IsNumberAt}
+use Rattle.wgsl_layout.specs.NumbersIn.{IsNumberAt}
 use Rattle.wgsl_places.specs.Laws.{components_in}
 
 -- a vector of as many numbers like these stands at the path of x: the first begins so many bytes behind the first of x,

@@ -4,7 +4,7 @@ use Rattle.std.specs.Prelude.{ℕ, zero, suc, Option, Some, None, option_and_the
 use Rattle.wgsl_rules.specs.Types.{Ty, struct, array, vec, mat, Fields, no_fields, field}
 use Rattle.wgsl_rules.specs.Values.{Step}
 use Rattle.wgsl_rules.specs.View.{type_view}
-use Rattle.wgsl_store.specs.Ranges.{step_in}
+use Rattle.wgsl_layout.specs.Ranges.{step_in}
 use Rattle.wgsl_places.specs.declared.shape.Shape.{Shape}
 use Rattle.wgsl_places.specs.declared.shape.Shape.TheVariants as shapes
 

@@ -5,7 +5,7 @@ use Rattle.wgsl_rules.specs.InCommon.{prepended}
 use Rattle.wgsl_rules.specs.Layout.{Parts, no_parts, part, type_in}
 use Rattle.wgsl_rules.specs.Types.{Ty, vec}
 use Rattle.wgsl_rules.specs.Values.{Val}
-use Rattle.wgsl_store.specs.Ranges.{Range, further, parts_in}
+use Rattle.wgsl_layout.specs.Ranges.{Range, further, parts_in}
 use Rattle.wgsl_places.specs.Places.{loaded, stored}
 
 abbrev pub is_vector : Ty → Bool

@@ -40,7 +40,7 @@ ghost use Rattle.wgsl_scalar.specs.Literals.{literal_of};
 ghost use Rattle.wgsl_store.specs.Copies.{in_bytes};
 ghost use Rattle.wgsl_store.specs.Memory.{IsKept, IsSound, held, put_cells};
 ghost use Rattle.wgsl_store.specs.MemoryLaws.{KeepsLayouts};
-ghost use Rattle.wgsl_store.specs.NumbersIn.{number_put};
+ghost use Rattle.wgsl_layout.specs.NumbersIn.{number_put};
 ghost use Rattle.wgsl_values.specs.View.{reference_of, steps_of, vals_of};
 
 use crate::components::Components;

@@ -11,8 +11,8 @@ ghost use Rattle.wgsl_places.specs.Numbers.{
   width_with,
 };
 ghost use Rattle.wgsl_scalar.specs.Literals.{literal_of};
-ghost use Rattle.wgsl_store.specs.Plan.{scalar};
-ghost use Rattle.wgsl_store.specs.Walk.{Stands};
+ghost use Rattle.wgsl_layout.specs.Plan.{scalar};
+ghost use Rattle.wgsl_layout.specs.Walk.{Stands};
 
 use wgsl_scalar::LiteralInstance;
 

@@ -4,7 +4,7 @@ ghost use Rattle.std.specs.Prelude.{◌≡◌};
 ghost use Rattle.wgsl_places.specs.Places.{IsPlace};
 ghost use Rattle.wgsl_rules.specs.Layout.{is_from_2_to_4};
 ghost use Rattle.wgsl_rules.specs.Types.{Ty};
-ghost use Rattle.wgsl_store.specs.Ranges.{Range};
+ghost use Rattle.wgsl_layout.specs.Ranges.{Range};
 
 /// Where a part of a value stands in bytes that hold the value from their first byte on. It is a few numbers: it holds
 /// for each [`Places`](crate::Places) of the same type, and any bytes with as many elements in a runtime-sized array.

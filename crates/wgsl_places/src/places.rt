@@ -13,8 +13,8 @@ ghost use Rattle.wgsl_rules.specs.Layout.{HasLayout, count_in, has_layout, type_
 ghost use Rattle.wgsl_rules.specs.Values.{Reference, Val};
 ghost use Rattle.wgsl_rules.specs.View.{type_view};
 ghost use Rattle.wgsl_scalar.specs.Literals.{literal_of};
-ghost use Rattle.wgsl_store.specs.Layouts.{part_in};
-ghost use Rattle.wgsl_store.specs.Ranges.{Range, further, part_at, parts_in, view_range};
+ghost use Rattle.wgsl_layout.specs.Layouts.{part_in};
+ghost use Rattle.wgsl_layout.specs.Ranges.{Range, further, part_at, parts_in, view_range};
 ghost use Rattle.wgsl_values.specs.View.{steps_of};
 
 use crate::components::Components;

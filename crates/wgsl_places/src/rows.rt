@@ -18,8 +18,8 @@ ghost use Rattle.wgsl_places.specs.Numbers.{
   width_of,
 };
 ghost use Rattle.wgsl_scalar.specs.Literals.{literal_of};
-ghost use Rattle.wgsl_store.specs.Plan.{scalar};
-ghost use Rattle.wgsl_store.specs.Walk.{StandInRow, put_row};
+ghost use Rattle.wgsl_layout.specs.Plan.{scalar};
+ghost use Rattle.wgsl_layout.specs.Walk.{StandInRow, put_row};
 ghost use Rattle.wgsl_values.specs.View.{vals_of};
 
 use crate::components::Components;

@@ -1,7 +1,7 @@
 -- What a session answers where bytes lay out a value, and where they lay out none.
 use Rattle.std.proofs.Common.{◌≡◌, ℕ, List, slice_get, Option, Some, None, IsSomeAnd, Ok, Err, Result, refl, subst}
 use Rattle.wgsl_rules.specs.Values.{Reference, Val}
-use Rattle.wgsl_store.specs.Buffers.{decode}
+use Rattle.wgsl_layout.specs.Buffers.{decode}
 use Rattle.wgsl_session.specs.Calls.{State, Call, write, IsStep}
 use Rattle.wgsl_session.specs.LaidOut.{IsStepOf, IsWriteOf}
 use Rattle.wgsl_session.specs.View.{reply_of}

@@ -6,7 +6,7 @@ ghost use Rattle.wgsl_script.specs.Lines.{answer_text};
 ghost use Rattle.wgsl_session.specs.Calls as model;
 ghost use Rattle.wgsl_session.specs.Calls.{IsStep};
 ghost use Rattle.wgsl_session.specs.View.{reply_of};
-ghost use Rattle.wgsl_store.specs.Buffers.{buffer, decode};
+ghost use Rattle.wgsl_layout.specs.Buffers.{buffer, decode};
 ghost use Rattle.wgsl_store.specs.Memory.{IsKept, held};
 ghost use Rattle.wgsl_store.specs.ReferenceCalls.{read};
 ghost use Rattle.wgsl_rules.specs.View.{type_view};

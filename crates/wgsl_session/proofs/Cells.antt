@@ -8,17 +8,17 @@ use Rattle.wgsl_rules.specs.Refusals.{not_read, Outcome, and_then}
 use Rattle.wgsl_rules.specs.Paths.{viewed, put_tree, put_viewed, fits, FitsPlace, or_refused}
 use Rattle.wgsl_rules.proofs.lemmas.Paths.{fits-Decides}
 use Rattle.wgsl_rules.specs.Layout.{has_layout, amount, layout, layout_of, runtime_count, layout_len, type_in}
-use Rattle.wgsl_store.specs.Buffers.{buffer, decode}
-use Rattle.wgsl_store.specs.Ranges.{Range, range_in, view_range, bytes_in, overwritten}
-use Rattle.wgsl_store.proofs.lemmas.Follows.{follows}
-use Rattle.wgsl_store.proofs.lemmas.Places.{part-storable, put-type}
-use Rattle.wgsl_store.proofs.lemmas.Counts.{counted-in}
-use Rattle.wgsl_store.proofs.lemmas.Positive.{tail-stride}
-use Rattle.wgsl_store.proofs.lemmas.Compose.{laid-decodes, compose}
-use Rattle.wgsl_store.proofs.lemmas.Roundtrip.{length-buffer, lays-itself}
-use Rattle.wgsl_store.proofs.lemmas.Overwritten.{put-overwritten}
-use Rattle.wgsl_store.proofs.lemmas.ViewPaths.{path-in-is, layout-type}
-use Rattle.wgsl_store.proofs.lemmas.Held.{HasPath, has-path}
+use Rattle.wgsl_layout.specs.Buffers.{buffer, decode}
+use Rattle.wgsl_layout.specs.Ranges.{Range, range_in, view_range, bytes_in, overwritten}
+use Rattle.wgsl_layout.proofs.lemmas.Follows.{follows}
+use Rattle.wgsl_layout.proofs.lemmas.Places.{part-storable, put-type}
+use Rattle.wgsl_layout.proofs.lemmas.Counts.{counted-in}
+use Rattle.wgsl_layout.proofs.lemmas.Positive.{tail-stride}
+use Rattle.wgsl_layout.proofs.lemmas.Compose.{laid-decodes, compose}
+use Rattle.wgsl_layout.proofs.lemmas.Roundtrip.{length-buffer, lays-itself}
+use Rattle.wgsl_layout.proofs.lemmas.Overwritten.{put-overwritten}
+use Rattle.wgsl_layout.proofs.lemmas.ViewPaths.{path-in-is, layout-type}
+use Rattle.wgsl_layout.proofs.lemmas.ViewedPaths.{HasPath, has-path}
 use Rattle.wgsl_session.specs.Flat.{bytes, tree, cell_of, layout_in, decoded_at, of_type, found_in, put_in}
 
 same-own : (t u : Ty) → t ≡ u → same t u ≡ true

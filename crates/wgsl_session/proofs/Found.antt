@@ -10,10 +10,10 @@ use Rattle.wgsl_rules.specs.Values.{Reference, Val, type_of}
 use Rattle.wgsl_rules.specs.Refusals.{Refusal, not_read, Outcome, and_then}
 use Rattle.wgsl_rules.specs.Paths.{viewed, or_refused}
 use Rattle.wgsl_rules.specs.Layout.{type_in}
-use Rattle.wgsl_store.specs.Buffers.{decode, IsReadOf, Lays}
-use Rattle.wgsl_store.specs.Ranges.{Range, view_range, bytes_in}
-use Rattle.wgsl_store.proofs.lemmas.Compose.{laid-once}
-use Rattle.wgsl_store.proofs.lemmas.Decoded.{decoding-is-reading}
+use Rattle.wgsl_layout.specs.Buffers.{decode, IsReadOf, Lays}
+use Rattle.wgsl_layout.specs.Ranges.{Range, view_range, bytes_in}
+use Rattle.wgsl_layout.proofs.lemmas.Compose.{laid-once}
+use Rattle.wgsl_layout.proofs.lemmas.Decoded.{decoding-is-reading}
 use Rattle.wgsl_session.specs.Flat.{Cell, bytes, tree, layout_in, NamesIn, Names, IsNamed, decoded_at, of_type, found_in}
 use Rattle.wgsl_session.specs.Laws.{AReferenceNamesOneValue, DecodingFindsWhatIsHeld}
 

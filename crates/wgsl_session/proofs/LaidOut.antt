@@ -16,13 +16,13 @@ use Rattle.wgsl_rules.specs.declared.syntax.AccessMode.{AccessMode}
 use Rattle.wgsl_scalar.specs.Answers.{refusal_of}
 use Rattle.wgsl_scalar.specs.declared.error.Error.{Error}
 use Rattle.wgsl_scalar.specs.declared.error.Error.TheVariants.{Memory}
-use Rattle.wgsl_store.specs.Buffers.{decode, IsReadOf, Lays}
+use Rattle.wgsl_layout.specs.Buffers.{decode, IsReadOf, Lays}
 use Rattle.wgsl_store.specs.Copies.{in_bytes}
 use Rattle.wgsl_store.specs.LaidOut.{IsNewOf, written_of}
 use Rattle.wgsl_store.specs.Memory.{IsKept, AllKept, references}
 use Rattle.wgsl_store.specs.ReferenceCalls.{whole_of_new, written}
-use Rattle.wgsl_store.proofs.lemmas.Compose.{compose}
-use Rattle.wgsl_store.proofs.lemmas.Decoded.{decoding-is-reading}
+use Rattle.wgsl_layout.proofs.lemmas.Compose.{compose}
+use Rattle.wgsl_layout.proofs.lemmas.Decoded.{decoding-is-reading}
 use Rattle.wgsl_store.proofs.lemmas.HeldPaths.{held-by-paths}
 use Rattle.wgsl_session.specs.Calls.{State, Call, Answer, new, write, handle, done, refused, After, with_handle, IsPlain, IsSoundCall, IsStep, IsAcceptedWrite, IsGood}
 use Rattle.wgsl_session.specs.Flat.{IsFlatStep, flat_of}

@@ -11,7 +11,7 @@ use Rattle.wgsl_rules.specs.declared.syntax.AddressSpace.TheVariants as space
 use Rattle.wgsl_rules.specs.declared.syntax.AccessMode.TheVariants as mode
 use Rattle.wgsl_session.specs.Calls.{State, Call, Answer, step, of_values, new, new_of, member, index, read_of, write, replace, copy, load_of, handle, value, done, no_handle, refused}
 use Rattle.wgsl_session.specs.Flat.{Cell, bytes, tree, of_bytes, found}
-use Rattle.wgsl_store.proofs.lemmas.Made.{word, all, plain, words3, words}
+use Rattle.wgsl_layout.proofs.lemmas.Made.{word, all, plain, words3, words}
 
 abbrev run : State Val → List Call → List Answer
 run s [] = []

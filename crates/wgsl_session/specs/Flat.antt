@@ -7,8 +7,8 @@ use Rattle.wgsl_rules.specs.Values.{Reference, Step, Val, type_of}
 use Rattle.wgsl_rules.specs.Refusals.{not_read, Outcome, and_then}
 use Rattle.wgsl_rules.specs.Paths.{or_refused, viewed, put_viewed}
 use Rattle.wgsl_rules.specs.Layout.{has_layout, amount, count_in, Layout, layout, type_in}
-use Rattle.wgsl_store.specs.Buffers.{buffer, Lays, decode}
-use Rattle.wgsl_store.specs.Ranges.{Range, view_range, bytes_in, overwritten}
+use Rattle.wgsl_layout.specs.Buffers.{buffer, Lays, decode}
+use Rattle.wgsl_layout.specs.Ranges.{Range, view_range, bytes_in, overwritten}
 use Rattle.wgsl_store.specs.Memory.{at_position}
 use Rattle.wgsl_session.specs.Calls.{State, Call, Answer, Memory, step, IsRunOf}
 

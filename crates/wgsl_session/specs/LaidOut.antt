@@ -1,7 +1,7 @@
 -- Calls with the values that bytes lay out (WGSL: internal layout of values; assignment statement).
 use Rattle.std.specs.Prelude.{◌≡◌, ℕ, List, slice_get, Option, Some, None, Result, Ok, Err}
 use Rattle.wgsl_rules.specs.Values.{Reference, Val}
-use Rattle.wgsl_store.specs.Buffers.{decode}
+use Rattle.wgsl_layout.specs.Buffers.{decode}
 use Rattle.wgsl_session.specs.Calls.{Call, Answer, write}
 use Rattle.wgsl_session.specs.View.{fault_of, reply_of}
 use Rattle.wgsl_session.specs.declared.call.Reply.{Reply}

@@ -57,7 +57,7 @@ impl Session {
     ghost use Rattle.wgsl_session.specs.Flat.{IsFlatRun, IsFlatStep, flat_of};
     ghost use Rattle.wgsl_session.specs.LaidOut.{IsStepOf, IsWriteOf};
     ghost use Rattle.wgsl_session.specs.View.{IsContentReply, answer_of, call_of};
-    ghost use Rattle.wgsl_store.specs.Buffers.{decode};
+    ghost use Rattle.wgsl_layout.specs.Buffers.{decode};
     ghost use Rattle.wgsl_store.specs.Copies.{in_bytes};
     ghost use Rattle.wgsl_store.specs.Memory.{IsContent, IsKept};
     ghost use Rattle.wgsl_values.specs.View.{reference_of, value_of};

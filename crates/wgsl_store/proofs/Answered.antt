@@ -9,7 +9,7 @@ use Rattle.wgsl_rules.specs.Types.{Ty}
 use Rattle.wgsl_rules.specs.Values.{Step, index, Reference, Val, type_of, IsStorable}
 use Rattle.wgsl_rules.specs.Refusals.{not_read_write, write_ref_type, Outcome, and_then}
 use Rattle.wgsl_rules.specs.Paths.{parts, viewed, member_named, part_at, same_paths, fits}
-use Rattle.wgsl_store.specs.Fitting.{FitsAt}
+use Rattle.wgsl_layout.specs.Fitting.{FitsAt}
 use Rattle.wgsl_store.specs.Memory.{held, IsKept, put_cells}
 use Rattle.wgsl_store.specs.ReferenceCalls.{going_on, read, deeper, old_value, read_written}
 use Rattle.wgsl_store.proofs.lemmas.Sound.{deeper-kept, whole-kept-new}

@@ -4,14 +4,14 @@ use Rattle.std.specs.Prelude.{IsSomeAnd}
 use Rattle.wgsl_rules.specs.Paths.{put_viewed, viewed}
 use Rattle.wgsl_rules.specs.Refusals.{Outcome, and_then}
 use Rattle.wgsl_rules.specs.Values.{Val}
-use Rattle.wgsl_store.specs.Buffers.{buffer}
+use Rattle.wgsl_layout.specs.Buffers.{buffer}
 use Rattle.wgsl_store.specs.Memory.{held, at_position}
 use Rattle.wgsl_store.specs.MemoryLaws.{ACopyOverwritesItsRange, HasNewBytes}
-use Rattle.wgsl_store.specs.Ranges.{bytes_in, overwritten}
+use Rattle.wgsl_layout.specs.Ranges.{bytes_in, overwritten}
 use Rattle.wgsl_store.specs.ReferenceCalls.{read, written}
 use Rattle.wgsl_store.proofs.CopiedCells.{held-is}
-use Rattle.wgsl_store.proofs.Copies.{copied-in-place}
-use Rattle.wgsl_store.proofs.HeldBytes.{part-bytes}
+use Rattle.wgsl_layout.proofs.Copies.{copied-in-place}
+use Rattle.wgsl_layout.proofs.HeldBytes.{part-bytes}
 use Rattle.wgsl_store.proofs.lemmas.Held.{held-value, sound-at}
 use Rattle.wgsl_store.proofs.lemmas.Writes.{at-own, read-holds, write-is}
 use Rattle.wgsl_store.proofs.lemmas.WritesApart.{at-other}

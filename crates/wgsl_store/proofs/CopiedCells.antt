@@ -6,13 +6,14 @@ use Rattle.wgsl_rules.specs.Access.{can_read, can_write}
 use Rattle.wgsl_rules.specs.Paths.{fits, or_refused, put_viewed, viewed}
 use Rattle.wgsl_rules.specs.Refusals.{not_read, not_write, write_ref_type, Outcome, and_then}
 use Rattle.wgsl_rules.specs.Values.{Step, Reference, Val, type_of}
-use Rattle.wgsl_store.specs.Copies.{AreCopied, IsCopied, are_in_bytes, copied, in_bytes, is_bytes}
-use Rattle.wgsl_store.specs.Fitting.{FitsAt}
+use Rattle.wgsl_layout.specs.Copies.{IsCopied}
+use Rattle.wgsl_store.specs.Copies.{AreCopied, are_in_bytes, copied, in_bytes, is_bytes}
+use Rattle.wgsl_layout.specs.Fitting.{FitsAt}
 use Rattle.wgsl_store.specs.Memory.{held, IsKept, IsSound, put_cells}
 use Rattle.wgsl_store.specs.MemoryLaws.{StaysKept}
 use Rattle.wgsl_store.specs.ReferenceCalls.{old_value, written}
-use Rattle.wgsl_store.specs.declared.in_place.InPlace.{InPlace}
-use Rattle.wgsl_store.specs.declared.in_place.InPlace.TheVariants as in_place
+use Rattle.wgsl_layout.specs.declared.in_place.InPlace.{InPlace}
+use Rattle.wgsl_layout.specs.declared.in_place.InPlace.TheVariants as in_place
 use Rattle.wgsl_store.proofs.StoreCells.{cell-is, map-set, same-set, replaced-good}
 use Rattle.wgsl_store.proofs.lemmas.Held.{has-cell, held-value}
 use Rattle.wgsl_store.proofs.lemmas.Writes.{accepts}

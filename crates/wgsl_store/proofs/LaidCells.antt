@@ -9,18 +9,19 @@ use Rattle.wgsl_rules.specs.Types.{Ty}
 use Rattle.wgsl_rules.specs.Values.{Reference, Val, type_of}
 use Rattle.wgsl_rules.specs.declared.syntax.AccessMode.{AccessMode}
 use Rattle.wgsl_rules.specs.declared.syntax.AddressSpace.{AddressSpace}
-use Rattle.wgsl_store.specs.Buffers.{decode}
+use Rattle.wgsl_layout.specs.Buffers.{decode}
 use Rattle.wgsl_store.specs.Copies.{in_bytes, is_bytes}
-use Rattle.wgsl_store.specs.LaidOut.{CameTo, IsAdded, IsNewOf, written_of}
+use Rattle.wgsl_layout.specs.LaidOut.{CameTo}
+use Rattle.wgsl_store.specs.LaidOut.{IsAdded, IsNewOf, written_of}
 use Rattle.wgsl_store.specs.Memory.{held, IsContent, IsKept, IsSound, put_cells}
 use Rattle.wgsl_store.specs.MemoryLaws.{StaysKept}
 use Rattle.wgsl_store.specs.ReferenceCalls.{whole_of_new, written}
-use Rattle.wgsl_store.specs.declared.in_place.BytesWrite.{BytesWrite}
-use Rattle.wgsl_store.specs.declared.in_place.BytesWrite.TheVariants as bytes_write
+use Rattle.wgsl_layout.specs.declared.in_place.BytesWrite.{BytesWrite}
+use Rattle.wgsl_layout.specs.declared.in_place.BytesWrite.TheVariants as bytes_write
 use Rattle.wgsl_store.proofs.Answered.{new-kept}
 use Rattle.wgsl_store.proofs.CopiedCells.{bytes-is, cell-there, written-done, written-misfit}
-use Rattle.wgsl_store.proofs.LaidOut.{decode-lays}
-use Rattle.wgsl_store.proofs.LaidParts.{leads-ok}
+use Rattle.wgsl_layout.proofs.LaidValues.{decode-lays}
+use Rattle.wgsl_layout.proofs.LaidParts.{leads-ok}
 use Rattle.wgsl_store.proofs.StoreCells.{held-there, replaced-cells, replaced-good, same-cells}
 
 -- ---- a new cell

@@ -1,22 +1,41 @@
 -- The cells of a store after a number is put in a scalar or an atomic inside what a reference names.
-use Rattle.std.proofs.Common.{◌≡◌, ℕ, List, map, get_or, set, slice_get, Some, Ok, Bool, true, false, refl, sym, ap, ◌∙◌, subst}
+use Rattle.std.proofs.Common.{◌≡◌, ℕ, List, map, get_or, set, slice_get, Option, Some, None, Ok, Bool, true, false, refl, sym, ap, ◌∙◌, subst}
 use Rattle.std.specs.Bool.{OnFalse, OnTrue}
 use Rattle.std.specs.Prelude.{IsOkAnd}
 use Rattle.wgsl_rules.specs.Layout.{has_layout}
-use Rattle.wgsl_rules.specs.Paths.{put_viewed, viewed}
+use Rattle.wgsl_rules.specs.Paths.{put_tree, put_viewed, value_at, viewed}
 use Rattle.wgsl_rules.specs.Refusals.{Outcome}
-use Rattle.wgsl_rules.specs.Values.{Reference, Step, Val, type_of, IsLiteral, IsStorable}
+use Rattle.wgsl_rules.specs.Values.{Reference, Step, Val, truth, number, atomic_of, type_of, IsLiteral, IsStorable}
 use Rattle.wgsl_store.specs.Copies.{in_bytes, is_bytes}
-use Rattle.wgsl_store.specs.Fitting.{FitsAt}
-use Rattle.wgsl_store.specs.Memory.{held, IsKept, IsSound, put_cells}
+use Rattle.wgsl_layout.specs.Fitting.{FitsAt}
+use Rattle.wgsl_store.specs.Memory.{held, AllKept, IsKept, IsSound, put_cells, references}
 use Rattle.wgsl_store.specs.MemoryLaws.{KeepsLayouts, StaysKept}
-use Rattle.wgsl_store.specs.NumbersIn.{HasNumberAt, IsNumberAt, number_put}
+use Rattle.wgsl_layout.specs.NumbersIn.{HasNumberAt, IsLikeNumber, IsNumberAt, number_put, with_number}
 use Rattle.wgsl_store.proofs.CopiedCells.{bytes-is}
-use Rattle.wgsl_store.proofs.NumberPuts.{number-changed, number-kept}
-use Rattle.wgsl_store.proofs.StoreCells.{answered, cell-is, held-there, replaced-cells, replaced-good, same-cells}
-use Rattle.wgsl_store.proofs.lemmas.Compose.{compose}
-use Rattle.wgsl_store.proofs.lemmas.Held.{has-cell, has-path, kept-is, held-value, sound-at}
+use Rattle.wgsl_layout.proofs.NumberPuts.{number-changed, some-is}
+use Rattle.wgsl_layout.proofs.Outcomes.{answered}
+use Rattle.wgsl_store.proofs.StoreCells.{cell-is, held-there, replaced-cells, replaced-good, same-cells}
+use Rattle.wgsl_layout.proofs.lemmas.Compose.{compose}
+use Rattle.wgsl_layout.proofs.lemmas.ViewedPaths.{has-path}
+use Rattle.wgsl_store.proofs.lemmas.Held.{has-cell, kept-is, held-value, sound-at}
 use Rattle.wgsl_store.proofs.lemmas.KeptLayouts.{put-layouts}
+use Rattle.wgsl_store.proofs.lemmas.Sound.{put-kept}
+
+-- a number holds no references, nor does an atomic
+no-references : (cells : List Val) (w y : Val) → IsLiteral w → IsLikeNumber w y → AllKept cells (references (with_number w y))
+no-references cells (truth b) (number k z) l e = tt
+no-references cells (number j x) (number k z) l e = tt
+no-references cells w (atomic_of u) l e = tt
+no-references cells (number j x) y l e = absurd e
+no-references cells (truth b) y l e = absurd e
+no-references cells w y l e = absurd l
+
+-- it holds the references that it held
+pub number-kept : (cells : List Val) (x w : Val) (path : List ℕ) (at : ℕ) → IsLiteral w → IsNumberAt x path at w → AllKept cells (references x) → AllKept cells (references (number_put path w x))
+number-kept cells x w path at lit n k =
+    let led = some-is (value_at path x) (IsLikeNumber w) n.there in
+    let is : put_tree path (with_number w led.0) x ≡ number_put path w x = ap (λ (o : Option Val). elim o [ Some z ↦ put_tree path (with_number w z) x | None ↦ x ]) (sym led.1) in
+    subst (λ (u : Val). AllKept cells (references u)) is (put-kept cells path (with_number w led.0) x k (no-references cells w led.0 lit led.2))
 
 -- the cells after a call that says whether it put the number
 pub record AreNumberCells (done : Bool) (cells after : List Val) (r : Reference) (at : ℕ) (w : Val) : Type 0 where

@@ -9,22 +9,14 @@ use Rattle.wgsl_rules.specs.Values.{Step, Reference, Val, type_of}
 use Rattle.wgsl_rules.specs.Refusals.{not_read, Outcome, and_then}
 use Rattle.wgsl_rules.specs.Paths.{or_refused, viewed, put_tree, put_viewed, fits}
 use Rattle.wgsl_rules.proofs.lemmas.Paths.{fits-Decides}
-use Rattle.wgsl_store.specs.Fitting.{FitsAt}
+use Rattle.wgsl_layout.specs.Fitting.{FitsAt}
+use Rattle.wgsl_layout.proofs.Outcomes.{answered}
 use Rattle.wgsl_store.specs.Memory.{held, references, IsContent, IsSound, at_position, put_cells}
-use Rattle.wgsl_store.proofs.lemmas.Held.{has-cell, has-path, held-value}
-use Rattle.wgsl_store.proofs.lemmas.Places.{put-type}
+use Rattle.wgsl_layout.proofs.lemmas.ViewedPaths.{has-path}
+use Rattle.wgsl_store.proofs.lemmas.Held.{has-cell, held-value}
+use Rattle.wgsl_layout.proofs.lemmas.Places.{put-type}
 use Rattle.wgsl_store.proofs.lemmas.Sound.{append-sound, append-keeps, put-good, all-keep}
 use Rattle.wgsl_store.specs.MemoryLaws.{StaysKept}
-
--- an outcome that is an answer, with a fact
-pub record Answered {A : Type 0} (o : Outcome A) (P : A → Type 0) : Type 0 where
-  pub answer : A
-  pub is : o ≡ Ok answer
-  pub fact : P answer
-
-pub answered : {A : Type 0} (o : Outcome A) (P : A → Type 0) → IsOkAnd o P → Answered o P
-answered (Ok x) P h = record { answer = x; is = refl; fact = h }
-answered (Err e) P h = absurd h
 
 -- ---- a tree stays of a type without a layout
 

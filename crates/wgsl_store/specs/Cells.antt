@@ -1,18 +1,18 @@
 -- The cells of a store and the parts of them that are lent, each as bytes or as a tree (WGSL: memory locations;
 -- memory views).
-use Rattle.std.specs.Prelude.{◌≡◌, false, List, map, IsOkAnd}
+use Rattle.std.specs.Prelude.{◌≡◌, false, List, map}
 use Rattle.std.specs.List.{All}
 use Rattle.wgsl_rules.specs.Layout.{has_layout}
-use Rattle.wgsl_rules.specs.Paths.{viewed}
-use Rattle.wgsl_rules.specs.Values.{Reference, Val, type_of}
-use Rattle.wgsl_store.specs.FlatCells as flat
-use Rattle.wgsl_store.specs.FlatCells.{IsFlatPart}
+use Rattle.wgsl_rules.specs.Values.{Val, type_of}
+use Rattle.wgsl_layout.specs.FlatCells as flat
+use Rattle.wgsl_layout.specs.FlatCells.{IsFlatPart}
 use Rattle.wgsl_store.specs.Memory.{IsSound}
 use Rattle.wgsl_store.specs.declared.cell.Cell.{Cell}
 use Rattle.wgsl_store.specs.declared.cell.Cell.TheVariants as cell
 use Rattle.wgsl_store.specs.declared.cell.Part.{Part}
 use Rattle.wgsl_store.specs.declared.cell.Part.TheVariants as part
 use Rattle.wgsl_values.specs.View.{value_of}
+pub use Rattle.wgsl_layout.specs.Fitting.{LeadsIn}
 
 -- ---- cells
 
@@ -30,10 +30,6 @@ IsCell (cell.Tree t) = has_layout (type_of (value_of t)) ≡ false
 pub record AreCells (cells : List Cell) : Type 0 where
   pub sound : IsSound (map cell_value cells)
   pub forms : All IsCell cells
-
--- the view of the reference leads to a value of its type, in this value
-abbrev pub LeadsIn : Val → Reference → Type 0
-LeadsIn v r = IsOkAnd (viewed r.view v) (λ x. type_of x ≡ r.ty)
 
 -- ---- parts
 

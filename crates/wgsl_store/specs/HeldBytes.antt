@@ -4,7 +4,7 @@ use Rattle.std.specs.Prelude.{ℕ, List, Option, Some, None, Ok, option_and_then
 use Rattle.wgsl_rules.specs.Layout.{has_layout}
 use Rattle.wgsl_rules.specs.Refusals.{Outcome, and_then}
 use Rattle.wgsl_rules.specs.Values.{Reference, Val, type_of}
-use Rattle.wgsl_store.specs.Buffers.{buffer}
+use Rattle.wgsl_layout.specs.Buffers.{buffer}
 use Rattle.wgsl_store.specs.Memory.{held}
 use Rattle.wgsl_store.specs.ReferenceCalls.{read}
 

@@ -1,13 +1,11 @@
 -- Cells and writes of the values that bytes lay out (WGSL: internal layout of values; assignment statement).
-use Rattle.std.specs.Prelude.{◌≡◌, Bool, true, false, List, [], ◌∷◌, ◌++◌, Option, Some, None, IsSome, IsSomeAnd, Ok, if◌then◌else◌}
+use Rattle.std.specs.Prelude.{◌≡◌, Bool, true, false, List, [], ◌∷◌, ◌++◌, Option, Some, None, Ok, if◌then◌else◌}
 use Rattle.wgsl_rules.specs.Refusals.{Outcome, and_then}
 use Rattle.wgsl_rules.specs.Values.{Reference, Val}
 use Rattle.wgsl_rules.specs.declared.syntax.AddressSpace.{AddressSpace}
 use Rattle.wgsl_rules.specs.declared.syntax.AccessMode.{AccessMode}
-use Rattle.wgsl_store.specs.Fitting.{FitsAt}
 use Rattle.wgsl_store.specs.ReferenceCalls.{whole_of_new, written}
-use Rattle.wgsl_store.specs.declared.in_place.BytesWrite.{BytesWrite}
-use Rattle.wgsl_store.specs.declared.in_place.BytesWrite.TheVariants as bytes_write
+pub use Rattle.wgsl_layout.specs.LaidOut.{CameTo}
 
 -- a new last cell with the value that bytes lay out, and a reference to the whole of it; nothing where they lay out none
 abbrev pub IsNewOf : Option Val → AddressSpace → AccessMode → List Val → List Val → Option Reference → Type 0
@@ -27,15 +25,3 @@ written_of cells r (Some v) = and_then (written cells r v) (λ after. Ok (Some a
 -- the cells that are left by a call which says whether there was a value to write
 abbrev pub left_by : List Val → Bool → Option (List Val)
 left_by cells wrote = if wrote then Some cells else None
-
--- ---- a write of numbers alone
-
--- what a write of the value that bytes lay out came to, in a place: whether it stands in bytes, whether it may be
--- written, and what it leads to. `put w` is all that is there with w in the place; where w is not put there, nothing
--- changes
-abbrev pub CameTo : {C : Type 0} → BytesWrite → Bool → Bool → Outcome Val → (Val → C) → C → C → Option Val → Type 0
-CameTo bytes_write.Done flat may place put before after laid = (flat ≡ true) × (may ≡ true) × IsSomeAnd laid (λ w. FitsAt w place × (after ≡ put w))
-CameTo bytes_write.NoValue flat may place put before after laid = (flat ≡ true) × (laid ≡ None) × (after ≡ before)
-CameTo bytes_write.NotWrite flat may place put before after laid = (flat ≡ true) × (may ≡ false) × IsSome laid × (after ≡ before)
-CameTo bytes_write.Misfit flat may place put before after laid = (flat ≡ true) × (may ≡ true) × IsSomeAnd laid (λ w. ¬ FitsAt w place) × (after ≡ before)
-CameTo bytes_write.NotBytes flat may place put before after laid = (flat ≡ false) × (after ≡ before)

@@ -8,10 +8,10 @@ use Rattle.wgsl_rules.specs.Paths.{value_at, path_of}
 use Rattle.wgsl_rules.specs.Laws.{Apart}
 use Rattle.wgsl_rules.specs.declared.syntax.AddressSpace.{AddressSpace}
 use Rattle.wgsl_rules.specs.declared.syntax.AccessMode.{AccessMode}
-use Rattle.wgsl_store.specs.Buffers.{buffer}
+use Rattle.wgsl_layout.specs.Buffers.{buffer}
 use Rattle.wgsl_store.specs.Copies.{copied}
 use Rattle.wgsl_store.specs.Memory.{held, IsKept, HoldsValue, IsContent, IsSound}
-use Rattle.wgsl_store.specs.Ranges.{Range, bytes_in, overwritten, view_range}
+use Rattle.wgsl_layout.specs.Ranges.{Range, bytes_in, overwritten, view_range}
 use Rattle.wgsl_store.specs.ReferenceCalls.{whole_of_new, read, deeper, written, load, loaded}
 
 -- ---- references that are kept

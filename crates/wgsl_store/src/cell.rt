@@ -30,26 +30,27 @@ ghost use Rattle.wgsl_rules.specs.Values.{IsStorable, IsWellFormed, atomic_of, t
 ghost use Rattle.wgsl_rules.specs.View.{type_view};
 ghost use Rattle.wgsl_scalar.specs.Answers.{refusal_of};
 ghost use Rattle.wgsl_scalar.specs.Literals.{literal_of};
-ghost use Rattle.wgsl_store.specs.Arrays.{elements_in};
-ghost use Rattle.wgsl_store.specs.Atomics.{IsAtomicOf, number_in};
-ghost use Rattle.wgsl_store.specs.Buffers.{decode};
-ghost use Rattle.wgsl_store.specs.Cells.{IsCell, IsPart, LeadsIn, cell_value, part_value};
-ghost use Rattle.wgsl_store.specs.Components.{has_steps, is_vector, leads_to_component};
-ghost use Rattle.wgsl_store.specs.Copies.{IsCopied, is_bytes};
-ghost use Rattle.wgsl_store.specs.Fitting.{FitsAt};
+ghost use Rattle.wgsl_layout.specs.Arrays.{elements_in};
+ghost use Rattle.wgsl_layout.specs.Atomics.{IsAtomicOf, number_in};
+ghost use Rattle.wgsl_layout.specs.Buffers.{decode};
+ghost use Rattle.wgsl_layout.specs.Fitting.{LeadsIn};
+ghost use Rattle.wgsl_store.specs.Cells.{IsCell, IsPart, cell_value, part_value};
+ghost use Rattle.wgsl_layout.specs.Components.{is_vector};
+ghost use Rattle.wgsl_store.specs.Components.{has_steps, leads_to_component};
+ghost use Rattle.wgsl_layout.specs.Copies.{IsCopied};
+ghost use Rattle.wgsl_store.specs.Copies.{is_bytes};
+ghost use Rattle.wgsl_layout.specs.Fitting.{FitsAt};
 ghost use Rattle.wgsl_store.specs.HeldBytes.{bytes_at};
-ghost use Rattle.wgsl_store.specs.LaidOut.{CameTo};
-ghost use Rattle.wgsl_store.specs.NumbersIn.{AreFrom, HasNumberAt, IsNumberAt, number_put};
+ghost use Rattle.wgsl_layout.specs.LaidOut.{CameTo};
+ghost use Rattle.wgsl_layout.specs.NumbersIn.{AreFrom, HasNumberAt, IsNumberAt, number_put};
 ghost use Rattle.wgsl_values.specs.View.{reference_of, steps_of, value_of};
 
-use crate::flat::{FlatCell, FlatPart};
-use crate::in_place::{BytesWrite, InPlace};
-use crate::layout::Layout;
 use crate::parts::{
     atomic_number, element_count, fits_place, indexed, member, no_part, part_viewed, with_number,
 };
 use std::alloc::{AllocError, Global};
 use std::sync::Arc;
+use wgsl_layout::{BytesWrite, FlatCell, FlatPart, InPlace, Layout};
 use wgsl_rules::{Convert, Ty, Type};
 use wgsl_scalar::{Error, LiteralInstance};
 use wgsl_values::{Instance, MemView, RefInstance};

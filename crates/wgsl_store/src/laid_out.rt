@@ -1,12 +1,10 @@
 //! Cells and writes of the values that bytes lay out (WGSL: internal layout of values; assignment statement).
 
-use crate::in_place::BytesWrite;
-use crate::layout::Layout;
-use crate::reader::read_buffer;
 use crate::references::{References, misfit_of_part};
 use crate::store::Store;
 use std::alloc::{AllocError, Global};
 use std::sync::Arc;
+use wgsl_layout::{BytesWrite, Layout, read_buffer};
 use wgsl_rules::{AccessMode, AddressSpace, Type};
 use wgsl_scalar::Error;
 use wgsl_values::{MemView, RefInstance};
@@ -16,7 +14,7 @@ impl Store {
     ghost use Rattle.wgsl_rules.specs.Values.{Reference};
     ghost use Rattle.wgsl_rules.specs.View.{type_view};
     ghost use Rattle.wgsl_scalar.specs.Answers.{Gives};
-    ghost use Rattle.wgsl_store.specs.Buffers.{decode};
+    ghost use Rattle.wgsl_layout.specs.Buffers.{decode};
     ghost use Rattle.wgsl_store.specs.Copies.{in_bytes};
     ghost use Rattle.wgsl_store.specs.LaidOut.{IsNewOf, left_by, written_of};
     ghost use Rattle.wgsl_store.specs.Memory.{IsKept, IsSound};

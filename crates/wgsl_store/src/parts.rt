@@ -7,8 +7,8 @@ ghost use Rattle.wgsl_rules.specs.Values.{IsStorable, atomic_of, count, item, ty
 ghost use Rattle.wgsl_rules.specs.View.{type_view};
 ghost use Rattle.wgsl_scalar.specs.Answers.{refusal_of};
 ghost use Rattle.wgsl_scalar.specs.Literals.{literal_of};
-ghost use Rattle.wgsl_store.specs.Arrays.{elements_in};
-ghost use Rattle.wgsl_store.specs.Atomics.{IsAtomicOf, number_in};
+ghost use Rattle.wgsl_layout.specs.Arrays.{elements_in};
+ghost use Rattle.wgsl_layout.specs.Atomics.{IsAtomicOf, number_in};
 ghost use Rattle.wgsl_values.specs.View.{value_of, steps_of};
 
 use std::alloc::{AllocError, Global};

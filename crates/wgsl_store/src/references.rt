@@ -35,7 +35,7 @@ ghost use Rattle.wgsl_scalar.specs.Literals.{literal_of};
 ghost use Rattle.wgsl_store.specs.Atomics.{atomic_number};
 ghost use Rattle.wgsl_store.specs.Components.{names_component};
 ghost use Rattle.wgsl_store.specs.Copies.{are_in_bytes, copied};
-ghost use Rattle.wgsl_store.specs.Fitting.{FitsAt};
+ghost use Rattle.wgsl_layout.specs.Fitting.{FitsAt};
 ghost use Rattle.wgsl_store.specs.Memory.{HoldsValue, IsContent, IsKept, IsSound, held, put_cells};
 ghost use Rattle.wgsl_store.specs.ReferenceCalls.{
   deeper,
@@ -46,9 +46,9 @@ ghost use Rattle.wgsl_store.specs.ReferenceCalls.{
 };
 ghost use Rattle.wgsl_values.specs.View.{reference_of, value_of};
 
-use crate::in_place::InPlace;
 use crate::store::Store;
 use std::alloc::{AllocError, Global};
+use wgsl_layout::InPlace;
 use wgsl_rules::{AccessMode, AddressSpace, Ty};
 use wgsl_scalar::{Error, LiteralInstance};
 use wgsl_values::{Instance, MemView, RefInstance};

@@ -1,13 +1,14 @@
 //! The cells that references name (WGSL: memory locations).
 
+ghost use Rattle.wgsl_rules.specs.Values.{IsStorable};
+ghost use Rattle.wgsl_scalar.specs.Literals.{literal_of};
+
 use crate::cell::{Cell, Part};
-use crate::flat::attest;
-use crate::in_place::{BytesWrite, InPlace};
-use crate::layout::Layout;
 use crate::parts::{part, part_count};
 use std::alloc::{AllocError, Global};
 use std::marker::Model;
 use std::sync::Arc;
+use wgsl_layout::{BytesWrite, InPlace, Layout};
 use wgsl_rules::Type;
 use wgsl_scalar::{Error, LiteralInstance};
 use wgsl_values::{Instance, RefInstance};
@@ -71,13 +72,14 @@ impl Store {
     ghost use Rattle.wgsl_rules.specs.View.{type_view};
     ghost use Rattle.wgsl_store.specs.Arrays.{element_count};
     ghost use Rattle.wgsl_store.specs.Atomics.{atomic_number};
-    ghost use Rattle.wgsl_store.specs.Buffers.{decode};
+    ghost use Rattle.wgsl_layout.specs.Buffers.{decode};
     ghost use Rattle.wgsl_store.specs.Cells.{IsPart, part_value};
     ghost use Rattle.wgsl_store.specs.Components.{names_component};
     ghost use Rattle.wgsl_store.specs.Copies.{AreCopied, are_in_bytes, in_bytes};
-    ghost use Rattle.wgsl_store.specs.Fitting.{FitsAt};
+    ghost use Rattle.wgsl_layout.specs.Fitting.{FitsAt};
     ghost use Rattle.wgsl_store.specs.HeldBytes.{held_bytes, read_bytes};
-    ghost use Rattle.wgsl_store.specs.LaidOut.{CameTo, IsAdded};
+    ghost use Rattle.wgsl_layout.specs.LaidOut.{CameTo};
+    ghost use Rattle.wgsl_store.specs.LaidOut.{IsAdded};
     ghost use Rattle.wgsl_store.specs.Memory.{
       AllKept,
       HoldsValue,
@@ -89,7 +91,7 @@ impl Store {
       references_in,
     };
     ghost use Rattle.wgsl_store.specs.MemoryLaws.{KeepsLayouts};
-    ghost use Rattle.wgsl_store.specs.NumbersIn.{AreFrom, HasNumberAt, IsNumberAt, number_put};
+    ghost use Rattle.wgsl_layout.specs.NumbersIn.{AreFrom, HasNumberAt, IsNumberAt, number_put};
     ghost use Rattle.wgsl_store.specs.ReferenceCalls.{read};
     ghost use Rattle.wgsl_scalar.specs.Answers.{Answers, Gives};
     ghost use Rattle.wgsl_scalar.specs.Literals.{literal_of};
@@ -484,4 +486,11 @@ fn copy_back(cells: &mut [Cell], from: &RefInstance, to: &RefInstance) -> InPlac
     let source = &back[0];
     let target = &mut front[to.cell()];
     target.copy_from(source, from.view(), to.view())
+}
+
+// Does nothing: its contract says what holds of every literal.
+fn attest(number: LiteralInstance)
+    ensures { IsStorable (literal_of number) }
+{
+    let _ = number.literal_ty();
 }

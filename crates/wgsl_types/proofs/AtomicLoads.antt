@@ -5,7 +5,8 @@ use Rattle.wgsl_rules.specs.Access.{can_read}
 use Rattle.wgsl_rules.specs.Refusals.{Outcome, and_then, builtin, not_read}
 use Rattle.wgsl_rules.specs.Kinds as kinds
 use Rattle.wgsl_rules.specs.Values.{Reference, Val, number, atomic_of, pointer, IsAtomicContent, IsLiteral}
-use Rattle.wgsl_store.specs.Atomics.{atomic_number, number_in}
+use Rattle.wgsl_layout.specs.Atomics.{number_in}
+use Rattle.wgsl_store.specs.Atomics.{atomic_number}
 use Rattle.wgsl_store.specs.Memory.{IsKept, held}
 use Rattle.wgsl_store.specs.ReferenceCalls.{read}
 use Rattle.wgsl_store.proofs.lemmas.Held.{kept-is}

@@ -13,15 +13,15 @@ use Rattle.wgsl_rules.specs.Types as types
 use Rattle.wgsl_rules.specs.Types.{Ty}
 use Rattle.wgsl_rules.specs.Values.{Val, truth, number, record_of, array_of, vector, matrix, atomic_of, pointer, reference, deferred, Vals, no_vals, val, count, first_type, matrix_type, type_of, AllOfType, AreLiterals, IsLiteral, IsStorable}
 use Rattle.wgsl_scalar.specs.Operands.{ok_or}
-use Rattle.wgsl_store.proofs.lemmas.Compose.{laid-decodes}
-use Rattle.wgsl_store.proofs.lemmas.Counts.{count-fixed}
-use Rattle.wgsl_store.proofs.lemmas.Decoded.{decoding-is-reading}
-use Rattle.wgsl_store.proofs.lemmas.Known.{and-both}
-use Rattle.wgsl_store.proofs.lemmas.Padding.{has-the-bytes}
-use Rattle.wgsl_store.proofs.lemmas.Roundtrip.{length-buffer, lays-itself}
-use Rattle.wgsl_store.proofs.lemmas.Tidy.{fixed-length}
-use Rattle.wgsl_store.specs.Buffers.{covers, byte_of, byte_at, number_at, buffer, decode, decoded, without_padding, Lays, IsReadOf}
-use Rattle.wgsl_store.specs.Laws.{AreBytes}
+use Rattle.wgsl_layout.proofs.lemmas.Compose.{laid-decodes}
+use Rattle.wgsl_layout.proofs.lemmas.Counts.{count-fixed}
+use Rattle.wgsl_layout.proofs.lemmas.Decoded.{decoding-is-reading}
+use Rattle.wgsl_layout.proofs.lemmas.Known.{and-both}
+use Rattle.wgsl_layout.proofs.lemmas.Padding.{has-the-bytes}
+use Rattle.wgsl_layout.proofs.lemmas.Roundtrip.{length-buffer, lays-itself}
+use Rattle.wgsl_layout.proofs.lemmas.Tidy.{fixed-length}
+use Rattle.wgsl_layout.specs.Buffers.{covers, byte_of, byte_at, number_at, buffer, decode, decoded, without_padding, Lays, IsReadOf}
+use Rattle.wgsl_layout.specs.Laws.{AreBytes}
 use Rattle.wgsl_types.proofs.Bytes.{cast_read}
 use Rattle.wgsl_types.proofs.PackedBytes.{byte_of-lt}
 use Rattle.wgsl_types.specs.Bitcast.{IsBitcastTarget, is_word_type, taken_as, with_bytes_of, bitcast}

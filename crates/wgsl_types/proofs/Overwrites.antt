@@ -9,12 +9,12 @@ use Rattle.wgsl_rules.specs.Paths.{put_viewed, put_tree}
 use Rattle.wgsl_rules.specs.Refusals.{Outcome}
 use Rattle.wgsl_rules.specs.Values.{Reference, Val, number, atomic_of, type_of, IsAtomicContent, IsWellFormed}
 use Rattle.wgsl_store.proofs.lemmas.Held.{held-value, sound-at}
-use Rattle.wgsl_store.proofs.lemmas.Overwritten.{put-overwritten}
-use Rattle.wgsl_store.proofs.lemmas.ViewPaths.{view-range-is}
+use Rattle.wgsl_layout.proofs.lemmas.Overwritten.{put-overwritten}
+use Rattle.wgsl_layout.proofs.lemmas.ViewPaths.{view-range-is}
 use Rattle.wgsl_store.proofs.lemmas.Writes.{PutCell, at-own, put-cell, held-after}
-use Rattle.wgsl_store.specs.Buffers.{buffer}
+use Rattle.wgsl_layout.specs.Buffers.{buffer}
 use Rattle.wgsl_store.specs.Memory.{IsSound, held, at_position, put_cells}
-use Rattle.wgsl_store.specs.Ranges.{range, view_range}
+use Rattle.wgsl_layout.specs.Ranges.{range, view_range}
 use Rattle.wgsl_values.specs.Same.{same_value}
 use Rattle.wgsl_types.proofs.MemoryAnswers.{exchange-is, of-changes}
 use Rattle.wgsl_types.proofs.Outcomes.{ok-is}

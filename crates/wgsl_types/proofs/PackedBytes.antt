@@ -13,7 +13,7 @@ use Rattle.wgsl_rules.specs.Types.{Ty}
 use Rattle.wgsl_rules.specs.Values.{Val, vector, Vals, no_vals, val, count, first_type, type_of, AllOfType, AreLiterals, IsLiteral, IsStorable, IsWellFormed}
 use Rattle.wgsl_scalar.specs.Literals.{literal_of}
 use Rattle.wgsl_scalar.specs.declared.literal.LiteralInstance.{LiteralInstance}
-use Rattle.wgsl_store.specs.Buffers.{byte_of}
+use Rattle.wgsl_layout.specs.Buffers.{byte_of}
 use Rattle.wgsl_types.proofs.ComponentLemmas.{components-are}
 use Rattle.wgsl_types.specs.Components.{components_of}
 use Rattle.wgsl_types.specs.Packing.{four_bytes, limited_signed, signed_byte, unsigned_byte}

@@ -15,7 +15,7 @@ ghost use Rattle.wgsl_rules.specs.Values.{
 ghost use Rattle.wgsl_rules.specs.View.{type_view};
 ghost use Rattle.wgsl_scalar.specs.Answers.{Answers, Gives};
 ghost use Rattle.wgsl_scalar.specs.Literals.{literal_of};
-ghost use Rattle.wgsl_store.specs.Buffers.{byte_of};
+ghost use Rattle.wgsl_layout.specs.Buffers.{byte_of};
 ghost use Rattle.wgsl_types.specs.Packing.{
   byte_product,
   byte_products,

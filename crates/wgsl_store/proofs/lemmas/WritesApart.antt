@@ -13,10 +13,11 @@ use Rattle.wgsl_values.proofs.lemmas.Replaced.{a_part_replaced}
 use Rattle.wgsl_store.specs.Memory.{held, IsKept, IsSound, at_position, put_cells}
 use Rattle.wgsl_store.specs.ReferenceCalls.{written}
 use Rattle.wgsl_store.specs.MemoryLaws.{AreApart, WritesApartCommute}
-use Rattle.wgsl_store.proofs.lemmas.Places.{part-storable}
-use Rattle.wgsl_store.proofs.lemmas.Held.{has-path, leads-to, has-cell, sound-at, kept-is}
-use Rattle.wgsl_store.proofs.lemmas.Alike.{put-like, fits-like}
-use Rattle.wgsl_store.proofs.lemmas.LikeViews.{path-like}
+use Rattle.wgsl_layout.proofs.lemmas.Places.{part-storable}
+use Rattle.wgsl_layout.proofs.lemmas.ViewedPaths.{has-path, leads-to}
+use Rattle.wgsl_store.proofs.lemmas.Held.{has-cell, sound-at, kept-is}
+use Rattle.wgsl_layout.proofs.lemmas.Alike.{put-like, fits-like}
+use Rattle.wgsl_layout.proofs.lemmas.LikeViews.{path-like}
 use Rattle.wgsl_store.proofs.lemmas.Writes.{IsWrite, write-is, accepts, at-own, PutCell, put-cell}
 
 -- ---- two puts at paths apart

@@ -6,7 +6,7 @@ use Rattle.wgsl_rules.specs.declared.syntax.AddressSpace.TheVariants as spaces
 use Rattle.wgsl_rules.specs.declared.syntax.AccessMode.{AccessMode}
 use Rattle.wgsl_rules.specs.declared.syntax.AccessMode.TheVariants as mode
 use Rattle.wgsl_store.specs.Components.{names_component}
-use Rattle.wgsl_store.proofs.lemmas.Made.{word, all, plain, words3}
+use Rattle.wgsl_layout.proofs.lemmas.Made.{word, all, plain, words3}
 
 -- a structure of a u32 and a vec3<u32>, a vector, a matrix of two columns, an array of vectors, and one of numbers
 abbrev cells : List Val

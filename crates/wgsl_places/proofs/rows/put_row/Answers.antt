@@ -2,9 +2,9 @@ use Rattle.std.proofs.Common.{◌≡◌, ℕ, ◌+◌, ◌*◌, length, map, dro
 use Rattle.wgsl_rules.specs.Values.{Vals}
 use Rattle.wgsl_scalar.specs.Literals.{literal_of}
 use Rattle.wgsl_values.specs.View.{vals_of}
-use Rattle.wgsl_store.specs.Plan.{scalar}
-use Rattle.wgsl_store.specs.Walk.{put_row, StandInRow}
-use Rattle.wgsl_store.proofs.Writing.{row-next}
+use Rattle.wgsl_layout.specs.Plan.{scalar}
+use Rattle.wgsl_layout.specs.Walk.{put_row, StandInRow}
+use Rattle.wgsl_layout.proofs.Writing.{row-next}
 use Rattle.wgsl_places.proofs.SideBySide.{literals-from, literals-past, nothing, put-number}
 use Rattle.wgsl_places.proofs.rows.put_row.Goals as goal
 

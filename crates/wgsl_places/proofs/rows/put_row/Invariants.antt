@@ -1,8 +1,8 @@
 use Rattle.std.proofs.Common.{◌≡◌, ◌+◌, ◌*◌, drop, length, map}
 use Rattle.wgsl_scalar.specs.Literals.{literal_of}
 use Rattle.wgsl_values.specs.View.{vals_of}
-use Rattle.wgsl_store.specs.Plan.{scalar}
-use Rattle.wgsl_store.specs.Walk.{put_row, StandInRow}
+use Rattle.wgsl_layout.specs.Plan.{scalar}
+use Rattle.wgsl_layout.specs.Walk.{put_row, StandInRow}
 use Rattle.wgsl_places.proofs.rows.put_row.Given as goal
 
 abbrev pub invariant-loop-i : goal.invariant-loop-i

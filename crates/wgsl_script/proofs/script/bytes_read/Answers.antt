@@ -3,7 +3,7 @@ use Rattle.std.specs.Prelude.{IsOkAnd}
 use Rattle.wgsl_rules.specs.Layout.{has_layout}
 use Rattle.wgsl_rules.specs.Refusals.{Outcome}
 use Rattle.wgsl_rules.specs.Values.{Val, deferred, type_of}
-use Rattle.wgsl_store.specs.Buffers.{buffer, buffer_of}
+use Rattle.wgsl_layout.specs.Buffers.{buffer, buffer_of}
 use Rattle.wgsl_store.specs.Memory.{held}
 use Rattle.wgsl_store.specs.ReferenceCalls.{read}
 use Rattle.wgsl_values.specs.View.{reference_of, value_of}

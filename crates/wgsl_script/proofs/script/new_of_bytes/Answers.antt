@@ -1,6 +1,6 @@
 use Rattle.wgsl_rules.specs.Values.{Val}
 use Rattle.wgsl_rules.specs.View.{type_view}
-use Rattle.wgsl_store.specs.Buffers.{decode}
+use Rattle.wgsl_layout.specs.Buffers.{decode}
 use Rattle.wgsl_session.specs.Calls as model
 use Rattle.wgsl_script.proofs.LaidOut.{value-of, none-of}
 use Rattle.wgsl_script.proofs.script.new_of_bytes.Goals as goal

@@ -4,8 +4,8 @@ use Rattle.wgsl_rules.specs.Values.{Val, atomic_of, type_of}
 use Rattle.wgsl_scalar.specs.Literals.{literal_of}
 use Rattle.wgsl_values.specs.View.{steps_of, value_of}
 use Rattle.wgsl_values.proofs.lemmas.PutTwice.{put-twice}
-use Rattle.wgsl_store.specs.Atomics.{IsAtomicOf}
-use Rattle.wgsl_store.proofs.Atomics.{none-led, some-led}
+use Rattle.wgsl_layout.specs.Atomics.{IsAtomicOf}
+use Rattle.wgsl_layout.proofs.AtomicParts.{none-led, some-led}
 use Rattle.wgsl_store.proofs.cell.put_number_in_tree.Goals as goal
 
 pub unreachable-requires : goal.unreachable-requires

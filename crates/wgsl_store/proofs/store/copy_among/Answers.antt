@@ -4,7 +4,8 @@ use Rattle.std.specs.Prelude.{IsOkAnd}
 use Rattle.wgsl_rules.specs.Paths.{viewed}
 use Rattle.wgsl_values.specs.View.{reference_of}
 use Rattle.wgsl_store.specs.Cells.{IsCell, cell_value}
-use Rattle.wgsl_store.specs.Copies.{IsCopied, is_bytes}
+use Rattle.wgsl_layout.specs.Copies.{IsCopied}
+use Rattle.wgsl_store.specs.Copies.{is_bytes}
 use Rattle.wgsl_store.proofs.CopiedCells.{and-same, cell-there, copied-cells}
 use Rattle.wgsl_store.proofs.store.copy_among.Goals as goal
 

@@ -2,7 +2,7 @@ use Rattle.std.proofs.Common.{map, arith}
 use Rattle.wgsl_rules.specs.View.{type_view}
 use Rattle.wgsl_rules.specs.Values.{Val}
 use Rattle.std.proofs.lemmas.List.{map-append}
-use Rattle.wgsl_store.specs.Buffers.{decode}
+use Rattle.wgsl_layout.specs.Buffers.{decode}
 use Rattle.wgsl_store.proofs.lemmas.Sound.{all-keep}
 use Rattle.wgsl_values.specs.View.{reference_of}
 use Rattle.wgsl_session.specs.Calls as model

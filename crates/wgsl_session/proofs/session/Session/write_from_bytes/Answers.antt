@@ -1,6 +1,6 @@
 use Rattle.std.proofs.Common.{false, true, map}
 use Rattle.std.proofs.lemmas.Bool.{false≢true}
-use Rattle.wgsl_store.specs.Buffers.{decode}
+use Rattle.wgsl_layout.specs.Buffers.{decode}
 use Rattle.wgsl_store.proofs.lemmas.Sound.{all-keep}
 use Rattle.wgsl_values.specs.View.{reference_of}
 use Rattle.wgsl_session.proofs.Handles.{handle-kept}

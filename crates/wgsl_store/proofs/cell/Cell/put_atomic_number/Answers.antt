@@ -2,7 +2,7 @@ use Rattle.wgsl_rules.specs.Paths.{viewed}
 use Rattle.wgsl_rules.specs.Values.{atomic_of}
 use Rattle.wgsl_scalar.specs.Literals.{literal_of}
 use Rattle.wgsl_values.specs.View.{value_of, reference_of}
-use Rattle.wgsl_store.proofs.Atomics.{fits-led}
+use Rattle.wgsl_layout.proofs.AtomicParts.{fits-led}
 use Rattle.wgsl_store.proofs.StoreCells.{replaced-form}
 use Rattle.wgsl_store.proofs.cell.Cell.put_atomic_number.Goals as goal
 

@@ -1,6 +1,6 @@
 use Rattle.std.specs.Prelude.{option_map}
 use Rattle.wgsl_values.specs.View.{reference_of}
-use Rattle.wgsl_store.specs.NumbersIn.{AreFrom}
+use Rattle.wgsl_layout.specs.NumbersIn.{AreFrom}
 use Rattle.wgsl_store.specs.Cells.{cell_value}
 use Rattle.wgsl_store.proofs.NumberCells.{lent-of}
 use Rattle.wgsl_store.proofs.store.Store.bytes_from.Goals as goal

@@ -6,7 +6,7 @@ use Rattle.wgsl_rules.specs.Refusals.{Outcome}
 use Rattle.wgsl_rules.specs.Values.{Val, type_of}
 use Rattle.wgsl_values.specs.View.{value_of, reference_of}
 use Rattle.wgsl_store.specs.Cells.{IsCell, cell_value}
-use Rattle.wgsl_store.specs.Fitting.{FitsAt}
+use Rattle.wgsl_layout.specs.Fitting.{FitsAt}
 use Rattle.wgsl_store.specs.Memory.{held}
 use Rattle.wgsl_store.specs.MemoryLaws.{StaysKept}
 use Rattle.wgsl_store.proofs.StoreCells.{IsPutOr, held-there, put-or, put-or-good}

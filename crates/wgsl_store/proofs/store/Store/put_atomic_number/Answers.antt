@@ -6,7 +6,8 @@ use Rattle.wgsl_values.specs.View.{reference_of}
 use Rattle.wgsl_store.specs.Cells.{IsCell, cell_value}
 use Rattle.wgsl_store.specs.Memory.{held, put_cells}
 use Rattle.wgsl_store.specs.MemoryLaws.{StaysKept}
-use Rattle.wgsl_store.proofs.Atomics.{fits-led, leads-atomic, names-atomic}
+use Rattle.wgsl_layout.proofs.AtomicParts.{fits-led}
+use Rattle.wgsl_store.proofs.Atomics.{leads-atomic, names-atomic}
 use Rattle.wgsl_store.proofs.StoreCells.{replaced-cells, replaced-good}
 use Rattle.wgsl_store.proofs.store.Store.put_atomic_number.Goals as goal
 

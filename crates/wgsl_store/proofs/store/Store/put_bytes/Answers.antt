@@ -2,10 +2,10 @@ use Rattle.std.proofs.Common.{map, slice_set}
 use Rattle.std.proofs.lemmas.List.Elements.{All-set}
 use Rattle.wgsl_rules.specs.Access.{can_write}
 use Rattle.wgsl_values.specs.View.{reference_of}
-use Rattle.wgsl_store.specs.Buffers.{decode}
+use Rattle.wgsl_layout.specs.Buffers.{decode}
 use Rattle.wgsl_store.specs.Cells.{IsCell, cell_value}
 use Rattle.wgsl_store.specs.Copies.{in_bytes}
-use Rattle.wgsl_store.specs.LaidOut.{CameTo}
+use Rattle.wgsl_layout.specs.LaidOut.{CameTo}
 use Rattle.wgsl_store.specs.Memory.{held, put_cells}
 use Rattle.wgsl_store.specs.MemoryLaws.{StaysKept}
 use Rattle.wgsl_store.proofs.LaidCells.{came-cells, came-good}

@@ -3,7 +3,7 @@ use Rattle.std.proofs.lemmas.List.Elements.{All-set}
 use Rattle.wgsl_scalar.specs.Literals.{literal_of}
 use Rattle.wgsl_values.specs.View.{reference_of}
 use Rattle.wgsl_store.specs.Cells.{IsCell, cell_value}
-use Rattle.wgsl_store.proofs.NumberPuts.{is-literal}
+use Rattle.wgsl_layout.proofs.NumberPuts.{is-literal}
 use Rattle.wgsl_store.proofs.NumberCells.{AreNumberCells, number-among, number-flat}
 use Rattle.wgsl_store.proofs.store.Store.put_number.Goals as goal
 

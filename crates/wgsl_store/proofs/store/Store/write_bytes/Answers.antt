@@ -1,10 +1,10 @@
 use Rattle.wgsl_rules.specs.Refusals.{not_write, write_ref_type}
 use Rattle.wgsl_values.specs.View.{reference_of}
-use Rattle.wgsl_store.specs.Buffers.{decode}
+use Rattle.wgsl_layout.specs.Buffers.{decode}
 use Rattle.wgsl_store.specs.Copies.{in_bytes}
 use Rattle.wgsl_store.specs.LaidOut.{written_of}
 use Rattle.wgsl_store.proofs.LaidCells.{came-done, came-misfit, came-not-write, not-accepted}
-use Rattle.wgsl_store.proofs.LaidOut.{decode-lays}
+use Rattle.wgsl_layout.proofs.LaidValues.{decode-lays}
 use Rattle.wgsl_store.proofs.store.Store.write_bytes.Goals as goal
 
 pub returns-in-Done-clause-outcome : goal.returns-in-Done-clause-outcome

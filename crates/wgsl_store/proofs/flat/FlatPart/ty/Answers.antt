@@ -1,9 +1,0 @@
-use Rattle.wgsl_store.specs.Located.{shape_plan, shape_ty}
-use Rattle.wgsl_store.proofs.lemmas.Flat.{there-laid}
-use Rattle.wgsl_store.proofs.flat.FlatPart.ty.Goals as goal
-
-pub returns : goal.returns
-returns c =
-    let l = c.args.self.located in
-    let own = there-laid l.count (shape_ty l.shape) (shape_plan l.shape) l.start l.len c.args.self.bytes.now c.requires.there in
-    rw own.typed c.ty.ensures

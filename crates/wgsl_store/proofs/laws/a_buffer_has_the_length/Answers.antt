@@ -1,5 +1,0 @@
-use Rattle.wgsl_store.proofs.lemmas.Roundtrip.{length-buffer}
-use Rattle.wgsl_store.proofs.laws.a_buffer_has_the_length.Goals as goal
-
-pub returns : goal.returns
-returns c = λ v h. length-buffer v h

@@ -1,5 +1,0 @@
-use Rattle.wgsl_store.proofs.lemmas.Roundtrip.{reads-back-as}
-use Rattle.wgsl_store.proofs.laws.a_buffer_reads_back.Goals as goal
-
-pub returns : goal.returns
-returns c = λ v more s h few. reads-back-as v more s h few

@@ -1,5 +1,0 @@
-use Rattle.wgsl_store.proofs.lemmas.Compose.{leaves-in-order}
-use Rattle.wgsl_store.proofs.laws.leaves_are_in_order.Goals as goal
-
-pub returns : goal.returns
-returns c = λ t n h. leaves-in-order t n h
