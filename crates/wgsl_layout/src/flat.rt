@@ -25,8 +25,20 @@ use wgsl_rules::{Ty, Type};
 use wgsl_scalar::{Error, LiteralInstance};
 use wgsl_values::{Instance, MemView, RefInstance};
 
-/// The bytes of a value of a type that has a layout, in memory of their own; padding is 0. Contracts see
-/// the value.
+/// A cell that holds its value as bytes: a value of a type that has a layout ([`Type::has_layout`]), as the bytes that
+/// [`crate::Buffers::to_buffer`] makes of it, in memory of the cell's own (WGSL: memory locations; internal layout of
+/// values). Each number stands little-endian at its place, an atomic as its content, and every byte that is padding is
+/// 0 at all times.
+///
+/// The type of the value stays, and so does the number of elements of a runtime-sized array: what is written changes
+/// numbers alone, and the bytes stay as many. The cell has the layout of its type by itself, or shares one with others;
+/// nothing else tells the two apart.
+///
+/// Parts are named by views, from the whole on: members by name, elements, columns and components by index from 0. A
+/// view leads to a part where [`FlatPart::viewed`] of [`FlatCell::whole`] answers one. Positions and lengths are
+/// counted in bytes, the parts of an array, a vector or a matrix one by one.
+///
+/// No call here asks for access but [`FlatCell::put_bytes`]. Contracts see the value.
 #[derive(Drop)]
 pub struct FlatCell {
     owner: Owner,
@@ -58,8 +70,12 @@ impl Model for FlatCell {
     ghost invariant = { IsFlatCell };
 }
 
-/// A part of a cell of bytes, lent. Each call on it asks as a condition that it is located in its bytes, as
-/// [`FlatCell::whole`] and the calls that lead to further parts promise.
+/// A part of the value of a cell of bytes, lent while it is looked at: the whole, a member, an element, a column of a
+/// matrix, or a component of a vector (WGSL: memory views; composite value decomposition expressions). It refers to the
+/// bytes and the layout of the cell, and is copied at will; no value is made of the part before [`FlatPart::value`].
+///
+/// Most calls on it ask as a condition that it is located in its bytes, as [`FlatCell::whole`] and the calls that lead
+/// to further parts promise.
 #[derive(Clone, Copy)]
 pub struct FlatPart<'a> {
     bytes: &'a [u8],
@@ -99,7 +115,9 @@ impl FlatCell {
     ghost use Rattle.wgsl_layout.specs.NumbersIn.{HasNumberAt, IsNumberAt, number_put};
     ghost use Rattle.wgsl_values.specs.View.{reference_of, value_of, steps_of};
 
-    /// The bytes of the value; `None` where its type has no layout. The condition: the value may be stored.
+    /// A cell of the value, with a layout of its own; `None` exactly where the type of the value has no layout
+    /// ([`Type::has_layout`]). The condition: the value may be stored, as `is_storable` tests.
+    /// It calls itself for each level of the value: keep to 4,095 within a stack of 8 MiB.
     pub fn new(alloc: Global, value: &Instance) -> Result<Option<FlatCell>, AllocError>
         requires { IsStorable (value_of value.now) }
         ensures { let v = value_of value.now in IfOk result (λ o. MatchOption o (has_layout (type_of v) ≡ false) (λ c. c ≡ v)) }
@@ -118,8 +136,17 @@ impl FlatCell {
         }))
     }
 
-    /// The bytes of the value of the type that the bytes lay out, of which the numbers are copied; `None` where they
-    /// lay out none. The layout is shared where it is that of the type; else the cell has one of its own.
+    /// A cell of the value of the type that the bytes lay out, from the first byte on, as [`crate::read_buffer`] reads
+    /// it; the numbers alone are copied, and no value is made. A runtime-sized array has as many elements as find room
+    /// (WGSL: buffer binding determines runtime-sized array element count). Padding is not looked at, and is 0 in the
+    /// cell; bytes past the end of the value are ignored.
+    ///
+    /// The cell shares the layout where one is given and is that of the type; else, where none is given, it is that of
+    /// another type, or no more owners of it can be counted, the cell has one of its own. The answer is the same.
+    ///
+    /// `None` exactly where the type has no layout ([`Type::has_layout`]), or there are fewer bytes than a value of the
+    /// type takes, with one element at least in a runtime-sized array.
+    /// It calls itself for each level of the type: keep to 4,095 within a stack of 8 MiB.
     pub fn of_bytes(
         alloc: Global,
         ty: &Type,
@@ -165,7 +192,7 @@ impl FlatCell {
         }))
     }
 
-    /// The whole value, lent.
+    /// The whole value, lent: the part that the others are parts of.
     pub fn whole(&self) -> FlatPart<'_>
         ensures value { part_value result ≡ self.now }
         ensures part { IsFlatPart result }
@@ -176,7 +203,10 @@ impl FlatCell {
         }
     }
 
-    /// The bytes of the part that the view leads to, lent. The condition: the view leads to a part.
+    /// The bytes of the part that the view leads to, lent: from its first byte to behind its last, with the padding
+    /// inside it, as many as [`crate::Buffers::to_buffer`] makes of the value of the part: the tail padding of a
+    /// structure is among them, and none behind a vector of three components. The condition: the view leads to a part.
+    /// It calls itself for each level of the type: keep to 4,095 within a stack of 8 MiB.
     pub fn bytes_at(&self, view: &MemView) -> &[u8]
         requires { IsOk (viewed (steps_of view.now) self.now) }
         ensures bytes { IsOkAnd (viewed (steps_of view.now) self.now) (λ x. result.now ≡ buffer x) }
@@ -185,7 +215,10 @@ impl FlatCell {
         self.part_at(view).slice(self.bytes.as_slice())
     }
 
-    /// The bytes of the cell from the part on that the view leads to, lent. The condition: the view leads to a part.
+    /// The bytes of the cell from the first of the part on that the view leads to, lent: they begin with those that
+    /// [`FlatCell::bytes_at`] lends and go on to the last of the cell, and the length of the part is not found. The
+    /// condition: the view leads to a part.
+    /// It calls itself for each step of the view: keep to 4,095 within a stack of 8 MiB.
     pub fn bytes_from(&self, view: &MemView) -> &[u8]
         requires { IsOk (viewed (steps_of view.now) self.now) }
         ensures bytes { IsOkAnd (viewed (steps_of view.now) self.now) (λ x. take (length (buffer x)) result.now ≡ buffer x) }
@@ -205,8 +238,11 @@ impl FlatCell {
         part_of(&self.owner, self.count, self.bytes.len(), view)
     }
 
-    /// Puts the value in the place of the part that the view leads to, where it fits there, and says whether
-    /// it did. It takes no memory. The conditions: the value may be stored, and the view leads to a part.
+    /// Puts the value in the place of the part that the view leads to, where it fits there, and says whether it did
+    /// (WGSL: assignment statement). It fits as [`FlatPart::fits`] tells: it is of the part's type, and a runtime-sized
+    /// array has as many elements as there. Else nothing is changed; every byte outside the part stays in any case. It
+    /// takes no memory. The conditions: the value may be stored, as `is_storable` tests, and the view leads to a part.
+    /// It calls itself for each level of the type: keep to 4,095 within a stack of 8 MiB.
     pub fn put(&mut self, view: &MemView, value: &Instance) -> bool
         requires storable { IsStorable (value_of value.now) }
         requires there { IsOk (viewed (steps_of view.now) self.old) }
@@ -222,9 +258,16 @@ impl FlatCell {
         true
     }
 
-    /// Copies the numbers of the value that the bytes lay out in the type of the reference to the place that the
-    /// reference leads to, where they lay out one, it may write, and the value fits there; what refuses it is asked in
-    /// this order. It takes no memory. The condition: the reference leads to a value of its type.
+    /// Copies the numbers of the value that the bytes lay out, from the first byte on, to the place that the view of
+    /// the reference leads to; which cell it names is not looked at. The value is of the type of the reference, and a
+    /// runtime-sized array has as many elements as find room in the bytes; their padding is not looked at, and bytes
+    /// past the end of the value are ignored.
+    ///
+    /// Refusals in order, after which nothing is changed: `NoValue` where the bytes are fewer than a value of the type
+    /// takes, `NotWrite` where the access of the reference may not write, `Misfit` where a runtime-sized array has
+    /// another number of elements than the one that stands there. `NotBytes` is never answered. Every byte outside the
+    /// place stays in any case. It takes no memory. The condition: the reference leads to a value of its type.
+    /// It calls itself for each level of the type: keep to 4,095 within a stack of 8 MiB.
     pub fn put_bytes(&mut self, reference: &RefInstance, bytes: &[u8]) -> BytesWrite
         requires { LeadsIn self.old (reference_of reference.now) }
         ensures put { let r = reference_of reference.now in CameTo result true (can_write r.access) (viewed r.view self.old) (λ w. put_viewed r.view w self.old) self.old self.new (decode bytes.now r.ty) }
@@ -244,9 +287,12 @@ impl FlatCell {
         BytesWrite::Done
     }
 
-    /// Copies the bytes of the part that one view leads to over those of the part that the other leads to, where the
-    /// one fits the place of the other; the parts may overlap. It takes no memory. The conditions: each view leads to
-    /// a part.
+    /// Copies the part that one view leads to over the part of the same cell that the other leads to, as they were
+    /// before the copy: `Done` where the one fits the place of the other, which is of the same type and has as many
+    /// elements in a runtime-sized array; else `Misfit`, and nothing is changed. `NotBytes` is never answered. The
+    /// parts may overlap, and every byte outside the second stays. It takes no memory. The conditions: each view leads
+    /// to a part.
+    /// It calls itself for each level of the type: keep to 4,095 within a stack of 8 MiB.
     pub fn copy_within(&mut self, from: &MemView, to: &MemView) -> InPlace
         requires from { IsOk (viewed (steps_of from.now) self.old) }
         requires to { IsOk (viewed (steps_of to.now) self.old) }
@@ -262,9 +308,10 @@ impl FlatCell {
         InPlace::Done
     }
 
-    /// Copies the bytes of the part of another cell that one view leads to over those of the part of this cell that
-    /// the other leads to, where the one fits the place of the other. It takes no memory. The conditions: each view
-    /// leads to a part.
+    /// Copies the part of another cell that one view leads to over the part of this cell that the other leads to, as
+    /// [`FlatCell::copy_within`] does in one cell, with the same refusal; the cells may be of different types. It takes
+    /// no memory. The conditions: each view leads to a part.
+    /// It calls itself for each level of the types: keep to 4,095 within a stack of 8 MiB.
     pub fn copy_from(&mut self, other: &FlatCell, from: &MemView, to: &MemView) -> InPlace
         requires from { IsOk (viewed (steps_of from.now) other.now) }
         requires to { IsOk (viewed (steps_of to.now) self.old) }
@@ -282,8 +329,10 @@ impl FlatCell {
         InPlace::Done
     }
 
-    /// Puts the number into the atomic that the view leads to. It takes no memory. The conditions: the view
-    /// leads to an atomic of numbers of the kind, and an atomic of the number may be stored.
+    /// Puts the number into the atomic that the view leads to, and changes nothing else (WGSL: atomic types). It takes
+    /// no memory. The conditions: the view leads to an atomic of numbers of the kind, and an atomic of the number may
+    /// be stored: of an `i32` or a `u32`.
+    /// It calls itself for each step of the view: keep to 4,095 within a stack of 8 MiB.
     pub fn put_atomic_number(&mut self, view: &MemView, number: LiteralInstance)
         requires there { IsOkAnd (viewed (steps_of view.now) self.old) (IsAtomicOf (type_of (literal_of number))) }
         requires storable { IsStorable (atomic_of (literal_of number)) }
@@ -293,9 +342,10 @@ impl FlatCell {
         part.write_atomic_number(self.bytes.as_mut_slice(), number);
     }
 
-    /// Puts the number in the place of that of the scalar or the atomic which begins so many bytes behind the first of
-    /// the part that the view leads to. It takes no memory. The condition: the view leads to a part, in which one of
-    /// numbers of the kind begins there.
+    /// Puts the number in the place of that of the scalar or the atomic which begins `at` bytes behind the first of the
+    /// part that the view leads to, 0 of the part itself, and changes nothing else. It takes no memory. The condition:
+    /// the view leads to a part, in which one of numbers of the kind begins there.
+    /// It calls itself for each step of the view: keep to 4,095 within a stack of 8 MiB.
     pub fn put_number(&mut self, view: &MemView, at: usize, number: LiteralInstance)
         requires { IsOkAnd (viewed (steps_of view.now) self.old) (λ x. HasNumberAt x at (literal_of number)) }
         ensures put { (path : List ℕ) → IsOkAnd (viewed (steps_of view.now) self.old) (λ x. IsNumberAt x path at (literal_of number) → self.new ≡ put_viewed (steps_of view.now) (number_put path (literal_of number) x) self.old) }
@@ -389,7 +439,8 @@ impl<'a> FlatPart<'a> {
     ghost use Rattle.wgsl_layout.specs.FlatCells.{IsFlatPart, part_value};
     ghost use Rattle.wgsl_values.specs.View.{value_of, steps_of};
 
-    /// The first member of the name: structures alone have members.
+    /// The first member of the name; `None` where there is none: structures alone have members (WGSL: structure access
+    /// expression).
     pub fn member(self, name: &str) -> Option<FlatPart<'a>>
         requires { IsFlatPart self }
         ensures value { option_map part_value result ≡ option_map (λ p. p.1) (member_named name.now (part_value self.entry)) }
@@ -402,7 +453,8 @@ impl<'a> FlatPart<'a> {
         })
     }
 
-    /// The part of the index: arrays, vectors and matrices have indexed parts.
+    /// The part of the index, from 0 on: an element of an array, a component of a vector, a column of a matrix. `None`
+    /// past the end, or where it is none of these; [`FlatPart::no_part`] tells which.
     pub fn index(self, i: usize) -> Option<FlatPart<'a>>
         requires { IsFlatPart self }
         ensures value { option_map part_value result ≡ option_map (λ p. p.1) (result_ok (part_at i (part_value self.entry))) }
@@ -415,7 +467,9 @@ impl<'a> FlatPart<'a> {
         })
     }
 
-    /// The part that the view leads to; `None` where it leads nowhere.
+    /// The part that the view leads to from this one on, by [`FlatPart::member`] and [`FlatPart::index`] for its steps,
+    /// the outermost first; this part itself where it has none. `None` where a step leads nowhere.
+    /// It calls itself for each level of the type: keep to 4,095 within a stack of 8 MiB.
     pub fn viewed(self, view: &MemView) -> Option<FlatPart<'a>>
         requires { IsFlatPart self }
         ensures value { option_map part_value result ≡ result_ok (viewed (steps_of view.now) (part_value self.entry)) }
@@ -428,7 +482,8 @@ impl<'a> FlatPart<'a> {
         })
     }
 
-    /// The type of the part.
+    /// A copy of the type of the part; a runtime-sized array has no number of elements there.
+    /// It calls itself for each level of the type: keep to 4,095 within a stack of 8 MiB.
     pub fn ty(self, alloc: Global) -> Result<Type, AllocError>
         requires { IsFlatPart self }
         ensures { IfOk result (λ t. type_view t ≡ type_of (part_value self.entry)) }
@@ -436,7 +491,8 @@ impl<'a> FlatPart<'a> {
         self.located.ty(alloc)
     }
 
-    /// Whether the part is of this type.
+    /// Whether the part is of this type, as `==` compares it with [`FlatPart::ty`], which is not made.
+    /// It calls itself for each level of the types: keep to 4,095 within a stack of 8 MiB.
     pub fn has_ty(self, ty: &Type) -> bool
         requires { IsFlatPart self }
         ensures { IsTrue result ↔ (type_view ty.now ≡ type_of (part_value self.entry)) }
@@ -444,14 +500,15 @@ impl<'a> FlatPart<'a> {
         self.located.has_ty(ty)
     }
 
-    /// Whether the part is a vector.
+    /// Whether the part is a vector; a column of a matrix is one.
     pub fn is_vector(self) -> bool
         ensures { result ≡ is_vector (part_value self.entry) }
     {
         self.located.is_vector()
     }
 
-    /// A copy of the value of the part.
+    /// The value of the part, read from its bytes: a copy in memory of its own.
+    /// It calls itself for each level of the type: keep to 4,095 within a stack of 8 MiB.
     pub fn value(self, alloc: Global) -> Result<Instance, AllocError>
         requires { IsFlatPart self }
         ensures { IfOk result (λ v. value_of v ≡ part_value self.entry) }
@@ -459,7 +516,7 @@ impl<'a> FlatPart<'a> {
         self.located.read(alloc, self.bytes)
     }
 
-    /// The number of the atomic that the part is; `None` where it is no atomic.
+    /// The number of the atomic that the part is; `None` where it is no atomic (WGSL: atomic types).
     pub fn atomic_number(self) -> Option<LiteralInstance>
         requires { IsFlatPart self }
         ensures { option_map literal_of result ≡ number_in (part_value self.entry) }
@@ -468,15 +525,18 @@ impl<'a> FlatPart<'a> {
         Some(read_literal(self.bytes, self.located.start, content))
     }
 
-    /// How many elements the array has that the part is; `None` where it is no array.
+    /// How many elements the array has that the part is, of a fixed size or runtime-sized; `None` where it is no array,
+    /// as a vector, a matrix, and a structure that ends in one.
     pub fn element_count(self) -> Option<usize>
         ensures { result ≡ elements_in (part_value self.entry) }
     {
         self.located.element_count()
     }
 
-    /// Whether the value fits the place of the part: it is of the part's type, and has the same paths. The
-    /// condition: the value may be stored.
+    /// Whether the value fits the place of the part: it is of the part's type, and has the same paths, so as many
+    /// elements in the runtime-sized array that the type is or ends in. The condition: the value may be stored, as
+    /// `is_storable` tests.
+    /// It calls itself for each level of the type: keep to 4,095 within a stack of 8 MiB.
     pub fn fits(self, value: &Instance) -> bool
         requires part { IsFlatPart self }
         requires storable { IsStorable (value_of value.now) }
@@ -485,8 +545,10 @@ impl<'a> FlatPart<'a> {
         self.located.fits(value)
     }
 
-    /// Why there is no part of the index: `NotIndexable`, or `OutOfBounds` past the end. The condition:
-    /// there is none.
+    /// Why there is no part of the index: `NotIndexable` with the type where the part has no indexed parts, else
+    /// `OutOfBounds` with the index, the type and the number of parts. The condition: there is none, as
+    /// [`FlatPart::index`] tells.
+    /// It calls itself for each level of the type: keep to 4,095 within a stack of 8 MiB.
     pub fn no_part(self, alloc: Global, i: usize) -> Result<Error, AllocError>
         requires part { IsFlatPart self }
         requires none { result_ok (part_at i (part_value self)) ≡ None }

@@ -52,9 +52,13 @@ fn u64_at(bytes: &[u8], at: usize) -> u64
     ])
 }
 
-/// The value of the type that the bytes lay out, from the first byte on, as [`crate::Buffers::from_buffer`] reads it, by
-/// another error alone: `None` where the type has no layout, or they are too few for a value of it; as many elements as
-/// find room where the type is or ends in a runtime-sized array.
+/// The value of the type that the bytes lay out, from the first byte on, as [`crate::Buffers::from_buffer`] reads it,
+/// with `AllocError` for its error: each number little-endian at its place (WGSL: internal layout of values). Where the
+/// type is or ends in a runtime-sized array, that has as many elements as find room (WGSL: buffer binding determines
+/// runtime-sized array element count). Padding is not looked at, and bytes past the end of the value are ignored.
+///
+/// `None` exactly where the type has no layout ([`Type::has_layout`]), or there are fewer bytes than a value of the
+/// type takes, with one element at least in a runtime-sized array.
 /// It calls itself for each level of the type: keep to 4,095 within a stack of 8 MiB.
 pub fn read_buffer(alloc: Global, bytes: &[u8], ty: &Type) -> Result<Option<Instance>, AllocError>
     ensures { IfOk result (λ v. option_map value_of v ≡ decode bytes.now (type_view ty.now)) }
