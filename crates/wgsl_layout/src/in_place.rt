@@ -2,7 +2,7 @@
 
 /// What a copy of a part over another came to, where bytes are copied and no value is made, as
 /// [`crate::FlatCell::copy_within`] and [`crate::FlatCell::copy_from`] do.
-#[derive(Clone, Copy)]
+#[derive(Clone, Copy, Debug, PartialEq, Eq)]
 pub enum InPlace {
     /// The bytes are copied.
     Done,
@@ -17,7 +17,7 @@ pub enum InPlace {
 /// What a write of the value that bytes lay out came to, where only numbers are copied and no value is made, as
 /// [`crate::FlatCell::put_bytes`] does. What refuses it is asked in the order of the cases here, but for `NotBytes`,
 /// which is asked first.
-#[derive(Clone, Copy)]
+#[derive(Clone, Copy, Debug, PartialEq, Eq)]
 pub enum BytesWrite {
     /// The numbers are copied.
     Done,
