@@ -37,7 +37,7 @@ abbrev pub range_at : ℕ → Layout → Range
 range_at start l = record { start = start; layout = l }
 
 -- one of them
-nth-part : (l : Layout) (far from i n : ℕ) → i < n → part_at i (repeated l far from n) ≡ Some (range_at (from + i * far) l)
+pub nth-part : (l : Layout) (far from i n : ℕ) → i < n → part_at i (repeated l far from n) ≡ Some (range_at (from + i * far) l)
 nth-part l far from i zero h = absurd (omega arith)
 nth-part l far from zero (suc n) h = let e : from ≡ from + 0 * far = omega arith in ap (λ (o : ℕ). Some (range_at o l)) e
 nth-part l far from (suc i) (suc n) h =
@@ -106,7 +106,7 @@ element-range n m far i (Some k) t p o len h e = row-as o i k m far (stride t) (
 
 -- ---- members
 
-named-below : (name : List ℕ) (ms : List StructMemberType) (i : ℕ) → index_named name (members_view ms) ≡ Some i → i < length ms
+pub named-below : (name : List ℕ) (ms : List StructMemberType) (i : ℕ) → index_named name (members_view ms) ≡ Some i → i < length ms
 named-below name [] i e = absurd (cc)
 named-below name (x ∷ ms) i e = by (bytes_eq (member_view x).name name) (index_named name (members_view ms)) (λ k is. named-below name ms k is) e
   where
@@ -204,7 +204,7 @@ same-tells t u b is = (λ h. (same-Decides t u).0 (sym is ∙ h), λ h. is ∙ (
 
 -- with the type of a vector
 
-vec-same : (k n : ℕ) (v u : Ty) → vec k v ≡ vec n u → v ≡ u
+pub vec-same : (k n : ℕ) (v u : Ty) → vec k v ≡ vec n u → v ≡ u
 vec-same k n v u e = cc
 
 pub vector-of : (t u w : Ty) (n m : ℕ) (b : Bool) → Some (m, w) ≡ vec_part t → m ≡ n → b ≡ same w u → (b ≡ true) ↔ (t ≡ vec n u)

@@ -145,7 +145,7 @@ step ms i m xs x tail new_tail old new h e with at plan tailed made =
           ∙ n.runtime old.end_in_runtime_array old.are_fixed old.end ∙ made.runtime;
     }
 
-and-true : (b : Bool) → (b && true) ≡ b
+pub and-true : (b : Bool) → (b && true) ≡ b
 and-true true = refl
 and-true false = refl
 

@@ -12,7 +12,7 @@ pub from-start : (o : Option Range) → option_map (further 0) o ≡ o
 from-start None = refl
 from-start (Some r) = let z : 0 + r.start ≡ r.start = omega arith in let at : ℕ → Option Range = λ n. Some (record { start = n; layout = r.layout }) in ap at z
 
-further-twice : (a b : ℕ) (o : Option Range) → option_map (further a) (option_map (further b) o) ≡ option_map (further (a + b)) o
+pub further-twice : (a b : ℕ) (o : Option Range) → option_map (further a) (option_map (further b) o) ≡ option_map (further (a + b)) o
 further-twice a b None = refl
 further-twice a b (Some r) = let e : a + (b + r.start) ≡ a + b + r.start = omega arith in ap (λ (n : ℕ). Some (record { start = n; layout = r.layout })) e
 
