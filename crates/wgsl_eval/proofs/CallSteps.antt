@@ -33,10 +33,6 @@ use Rattle.wgsl_eval.specs.declared.call.Arguments.TheVariants as arguments
 
 -- ---- the values of a call
 
-prepended-none : (o : Option Val) → prepended o None ≡ None
-prepended-none None = refl
-prepended-none (Some x) = refl
-
 -- where one is no value there are no values
 no-values : (given : List Answer) (a : Answer) → IsNoValue given a → values_of given ≡ None
 no-values [] a h = absurd h

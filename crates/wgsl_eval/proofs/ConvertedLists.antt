@@ -3,7 +3,7 @@ use Rattle.std.proofs.Common.{◌≡◌, ◌∙◌, ◌==◌, ℕ, ◌+◌, ◌<
 use Rattle.std.proofs.lemmas.List.Elements.{All-append, All-cons, All-get_or, All-head, All-map, All-nil, All-push, All-replicate, All-tail}
 use Rattle.std.specs.Option.{option_map}
 use Rattle.wgsl_rules.specs.Converted.{converted}
-use Rattle.wgsl_rules.specs.Values.{Val, Vals, no_vals, val, truth, number, deferred, vector, AreStorable, IsStorable, IsWellFormed, type_of}
+use Rattle.wgsl_rules.specs.Values.{Val, Vals, no_vals, val, truth, number, vector, AreStorable, IsStorable, IsWellFormed, type_of}
 use Rattle.wgsl_rules.specs.Types.{Ty}
 use Rattle.wgsl_rules.specs.View.{members_view, type_view}
 use Rattle.wgsl_rules.specs.declared.ty.StructMemberType.{StructMemberType}
@@ -16,6 +16,7 @@ use Rattle.wgsl_eval.proofs.StructureMembers.{members-push}
 use Rattle.wgsl_eval.specs.Answers.{AreSound}
 use Rattle.wgsl_eval.specs.Constructors.{components_for, listed, members_made, of_length, scalars_in, scalars_of}
 use Rattle.wgsl_eval.specs.Lists.{each_of}
+use Rattle.wgsl_rules.proofs.lemmas.Converted.{storable-well_formed as well_formed}
 
 placed-storable : (xs : List Instance) (i : ℕ) (x : Instance) → AreSound xs → i < length xs → x ≡ get_or xs i x → IsStorable (value_of x)
 placed-storable xs i x sound h is =
@@ -71,10 +72,6 @@ components-storable : (n : ℕ) (vs : List Val) → All IsStorable vs → All Is
 components-storable n (truth b ∷ []) h = All-replicate IsStorable n (truth b) (All-head IsStorable (truth b) [] h)
 components-storable n (number k z ∷ []) h = All-replicate IsStorable n (number k z) (All-head IsStorable (number k z) [] h)
 components-storable n vs h = scalars_of-storable vs h
-
-well_formed : (v : Val) → IsStorable v → IsWellFormed v
-well_formed (deferred t) h = absurd h
-well_formed v h = h
 
 literals-well_formed : (ls : List LiteralInstance) → All IsStorable (map literal_of ls) → All (λ l. IsWellFormed (literal_of l)) ls
 literals-well_formed [] h = All-nil (λ (l : LiteralInstance). IsWellFormed (literal_of l))

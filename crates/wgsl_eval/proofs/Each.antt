@@ -11,7 +11,7 @@ prepended-step None p q ws w h k = cc
 prepended-step (Some x) None q ws w h k = cc
 prepended-step (Some x) (Some xs) q ws w h k = let e : x ∷ xs ≡ ws = cc in rw (k xs refl, ← e) refl
 
-prepended-none : (o : Option Val) → prepended o None ≡ None
+pub prepended-none : (o : Option Val) → prepended o None ≡ None
 prepended-none None = refl
 prepended-none (Some x) = refl
 

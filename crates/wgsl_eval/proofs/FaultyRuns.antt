@@ -45,6 +45,7 @@ use Rattle.wgsl_eval.specs.declared.answer.Guard.TheVariants as guards
 use Rattle.wgsl_eval.specs.declared.answer.Value.{Value}
 use Rattle.wgsl_eval.specs.declared.answer.Need.TheVariants as needs
 use Rattle.wgsl_eval.proofs.FaultyAnswers.{Tells, TellsValue, fault-tells, fault_of-tells, is-tells, no_type-tells, of_bool, of_option, of_result, one-tells, same-tells, skipped-tells, skipped_or-tells, some_and, unready-tells, value-tells, with-tells}
+use Rattle.wgsl_layout.proofs.lemmas.Known.{and-both as both}
 
 -- ---- the answers that a step takes
 
@@ -464,11 +465,6 @@ any-here P x xs p = (zero, x, omega arith, refl, p)
 
 pub any-there : {X : Type 0} (P : X → Type 0) (x : X) (xs : List X) → Any P xs → Any P (x ∷ xs)
 any-there P x xs h = (suc h.0, h.1, (let within : h.0 < length xs = h.2 in omega arith), h.3, h.4)
-
-both : (a b : Bool) → (a && b) ≡ true → (a ≡ true) × (b ≡ true)
-both true true e = (refl, refl)
-both true false e = (refl, e)
-both false b e = absurd (cc)
 
 run-tells : (R : Type 0) (s : Setting) (ss : List Step) (before after : List Answer) → IsRun s ss before after → (find_theirs (length before) ss ≡ true) ⊎ R
     → (Any (IsToBlame s.source (IsFaultyAt s)) ss → R) → AllTell R before → Tells R (top after)

@@ -23,6 +23,7 @@ use Rattle.wgsl_values.specs.declared.inst.MatInstance.{MatInstance}
 use Rattle.wgsl_values.specs.declared.inst.VecInstance.{VecInstance}
 use Rattle.wgsl_ops.specs.Closures.{Answered, Refused, AnswersEach, AnswersOneKind, AnswersPairs, IsCallableAt, IsCallableAtPairs, components_of, pairs_of}
 use Rattle.wgsl_ops.proofs.Answering.{GivesLiterals, answered-length, answered-one-type, answers-storable, both-true, count-of, length-pairs, length-values, listed-values, literals-paths, values-append}
+use Rattle.wgsl_ops.proofs.InPlace.{length-listed}
 
 -- ---- lists that are joined
 
@@ -198,10 +199,6 @@ module _ {X : Type 0} (R : X → Result Val Error → Type 0) (xs rest here late
           one_kind = one_kind-behind R here later before.one_kind;
           tall = tall-append (row_count (parts (mat_view m))) out (Vec v) so_far.tall (rw seen tall);
         }
-
-length-listed : (vs : Vals) → length (listed vs) ≡ count vs
-length-listed no_vals = refl
-length-listed (val v vs) = ap suc (length-listed vs)
 
 -- after the last column
 pub no_columns_left : (m : MatInstance) (i : ℕ) → count (parts (mat_view m)) ≤ i → all_components (columns_from i m) ≡ []

@@ -4,7 +4,7 @@ use Rattle.wgsl_rules.proofs.lemmas.Converted.{converted-own}
 use Rattle.wgsl_rules.specs.Conversion.{common_type}
 use Rattle.wgsl_rules.specs.Converted.{converted, inner_converted}
 use Rattle.wgsl_rules.specs.Equal.{same-Decides}
-use Rattle.wgsl_rules.specs.InCommon.{in_common, inner_in_common}
+use Rattle.wgsl_rules.specs.InCommon.{in_common}
 use Rattle.wgsl_rules.specs.TypeParts.{inner_type}
 use Rattle.wgsl_rules.specs.Types.{Ty, vec}
 use Rattle.wgsl_rules.specs.Paths.{parts}
@@ -23,7 +23,7 @@ use Rattle.wgsl_ops.specs.Vectors.{of_converted, of_components, of_vector_scalar
 
 -- ---- the type of the components
 
-first-typed : (vs : Vals) (x : Val) → Some x ≡ item 0 vs → type_of x ≡ first_type vs
+pub first-typed : (vs : Vals) (x : Val) → Some x ≡ item 0 vs → type_of x ≡ first_type vs
 first-typed no_vals x h = cc
 first-typed (val v vs) x h = let e : x ≡ v = cc in ap type_of e
 
@@ -47,7 +47,7 @@ one_type v w ws y b n e h one t = vector-type v ∙ ap₂ vec n (one t ∙ compo
 
 -- ---- conversions that change nothing
 
-own-common : (t : Ty) → common_type t t ≡ Some t
+pub own-common : (t : Ty) → common_type t t ≡ Some t
 own-common t = rw ((same-Decides t t).1 refl) refl
 
 in-own : (v w : Val) → IsWellFormed v → IsWellFormed w → type_of v ≡ type_of w → in_common converted v w ≡ Some (v, w)

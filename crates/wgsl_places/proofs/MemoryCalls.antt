@@ -27,7 +27,9 @@ use Rattle.wgsl_places.specs.Memory.{IsPlaceAt, IsPlaceIn, IsPlaceOf, range_view
 use Rattle.wgsl_places.specs.Numbers.{width_with}
 use Rattle.wgsl_places.specs.Places.{ArePlaces, IsPlace, IsPlaceAnswer}
 use Rattle.wgsl_places.specs.declared.place.Place.{Place}
-use Rattle.wgsl_places.proofs.MemoryPlaces.{answered, led-is, number-there-is, takes-told}
+use Rattle.wgsl_places.proofs.MemoryPlaces.{number-there-is, takes-told}
+use Rattle.wgsl_layout.proofs.Outcomes.{answered}
+use Rattle.wgsl_layout.proofs.NumberPuts.{led-is}
 
 -- ---- what a reference names
 

@@ -1,10 +1,10 @@
 -- Places in what references name: which parts they are of, and the numbers there.
-use Rattle.std.proofs.Common.{◌≡◌, ℕ, zero, suc, ◌+◌, ◌-◌, ◌≤◌, ℤ, List, [], ◌∷◌, ◌++◌, length, take, drop, Option, Some, None, is_some, option_map, option_and_then, Ok, Err, Bool, true, false, refl, sym, ap, ◌∙◌, subst, arith}
-use Rattle.std.specs.Prelude.{IsOkAnd, IsSomeAnd, IfSome, ◌||◌, if◌then◌else◌}
+use Rattle.std.proofs.Common.{◌≡◌, ℕ, zero, suc, ◌+◌, ◌-◌, ◌≤◌, ℤ, List, [], ◌∷◌, ◌++◌, length, take, drop, Option, Some, None, is_some, option_map, option_and_then, Ok, Bool, true, false, refl, sym, ap, ◌∙◌, subst, arith}
+use Rattle.std.specs.Prelude.{IsSomeAnd, IfSome, ◌||◌, if◌then◌else◌}
 use Rattle.std.proofs.lemmas.Bool.{false≢true}
 use Rattle.std.proofs.lemmas.List.{drop-take, length-take, take-take}
 use Rattle.wgsl_rules.specs.Kinds as kinds
-use Rattle.wgsl_rules.specs.Kinds.{Kind, bytes_of, wrap}
+use Rattle.wgsl_rules.specs.Kinds.{Kind}
 use Rattle.wgsl_rules.specs.Types as types
 use Rattle.wgsl_rules.specs.Types.{Ty, struct, array, vec, mat, atomic}
 use Rattle.wgsl_rules.specs.Equal.{same-Decides}
@@ -38,24 +38,8 @@ use Rattle.wgsl_places.specs.Numbers.{width_with}
 use Rattle.wgsl_places.specs.Places.{ArePlaces, IsPlace, is_inside, loaded, number_there, takes}
 use Rattle.wgsl_places.specs.declared.place.Place.{Place}
 use Rattle.wgsl_places.proofs.SideBySide.{le-true}
-
--- ---- answers
-
-pub some-is : {A : Type 0} (o : Option A) (P : A → Type 0) → IsSomeAnd o P → (x : A) × (o ≡ Some x) × P x
-some-is (Some x) P h = (x, refl, h)
-some-is None P h = absurd h
-
-pub record Answered {A : Type 0} (o : Outcome A) (P : A → Type 0) : Type 0 where
-  pub answer : A
-  pub is : o ≡ Ok answer
-  pub fact : P answer
-
-pub answered : {A : Type 0} (o : Outcome A) (P : A → Type 0) → IsOkAnd o P → Answered o P
-answered (Ok x) P h = record { answer = x; is = refl; fact = h }
-answered (Err e) P h = absurd h
-
-pub led-is : (P : Val → Type 0) (o : Outcome Val) (x : Val) → o ≡ Ok x → P x → IsOkAnd o P
-led-is P o x e h = subst (λ (o : Outcome Val). IsOkAnd o P) (sym e) h
+use Rattle.wgsl_layout.proofs.NumberPuts.{some-is, led-is}
+use Rattle.wgsl_layout.proofs.Outcomes.{answered}
 
 -- ---- the place of a part of a part
 

@@ -12,13 +12,12 @@ use Rattle.wgsl_rules.specs.declared.syntax.AccessMode.TheVariants.{ReadWrite}
 use Rattle.wgsl_rules.proofs.lemmas.Paths.{fits-Decides, put-held}
 use Rattle.wgsl_scalar.specs.Literals.{literal_of}
 use Rattle.wgsl_scalar.specs.declared.literal.LiteralInstance.{LiteralInstance}
-use Rattle.wgsl_scalar.specs.declared.literal.LiteralInstance.TheVariants as literals
 use Rattle.wgsl_values.specs.Iterators.{listed}
 use Rattle.wgsl_values.specs.View.{vals_of}
 use Rattle.wgsl_values.proofs.lemmas.PutTwice.{put-twice}
 use Rattle.wgsl_layout.specs.Buffers.{buffer}
 use Rattle.wgsl_store.specs.Copies.{in_bytes, is_bytes}
-use Rattle.wgsl_store.specs.Memory.{held, IsKept, IsSound, at_position, put_cells}
+use Rattle.wgsl_store.specs.Memory.{held, IsKept, IsSound, put_cells}
 use Rattle.wgsl_store.specs.MemoryLaws.{KeepsLayouts, StaysKept}
 use Rattle.wgsl_layout.specs.NumbersIn.{HasNumberAt, IsLikeNumber, IsNumberAt, number_put, with_number}
 use Rattle.wgsl_layout.specs.Plan.{plan_of}
@@ -30,12 +29,16 @@ use Rattle.wgsl_layout.proofs.lemmas.Flat.{IsPut, fits-laid, put-at-path}
 use Rattle.wgsl_store.proofs.lemmas.Held.{held-value}
 use Rattle.wgsl_layout.proofs.lemmas.Places.{part-storable, put-type}
 use Rattle.wgsl_layout.proofs.lemmas.ViewPaths.{layout-type}
-use Rattle.wgsl_store.proofs.lemmas.Writes.{accepts, at-own, held-after, put-cell, written-back}
+use Rattle.wgsl_store.proofs.lemmas.Writes.{accepts, at-own, held-after, put-cell, written-back, put-own, fits-own, at-twice}
 use Rattle.wgsl_places.specs.Laws.{components_in}
 use Rattle.wgsl_places.specs.Rows.{HasRow, IsRow}
 use Rattle.wgsl_places.proofs.MemoryCalls.{each-named, fact-of, names-laid}
-use Rattle.wgsl_places.proofs.MemoryPlaces.{answered, led-is, some-is}
+use Rattle.wgsl_layout.proofs.Outcomes.{answered}
+use Rattle.wgsl_layout.proofs.NumberPuts.{led-is}
+use Rattle.wgsl_layout.proofs.NumberPuts.{some-is}
 use Rattle.wgsl_places.proofs.SideBySide.{nothing}
+use Rattle.wgsl_layout.proofs.NumberPuts.{is-literal}
+use Rattle.wgsl_store.proofs.CopiedCells.{bytes-is as bytes-at}
 
 -- ---- components of which the first are new
 
@@ -91,26 +94,6 @@ put-below (i ∷ p) q w v x =
 
 -- ---- what is put where it stood
 
-replaced-own : (i : ℕ) (f : Val → Val) (vs : Vals) → ((y : Val) → item i vs ≡ Some y → f y ≡ y) → replace_item i f vs ≡ vs
-replaced-own i f no_vals h = refl
-replaced-own zero f (val v vs) h = ap (λ (u : Val). val u vs) (h v refl)
-replaced-own (suc i) f (val v vs) h = ap (val v) (replaced-own i f vs h)
-
-own-parts : (v : Val) → with_parts v (parts v) ≡ v
-own-parts (record_of t vs) = refl
-own-parts (array_of runtime vs) = refl
-own-parts (vector vs) = refl
-own-parts (matrix vs) = refl
-own-parts v = refl
-
-put-own : (p : List ℕ) (x v : Val) → value_at p v ≡ Some x → put_tree p x v ≡ v
-put-own [] x v e = cc (e)
-put-own (i ∷ p) x v e =
-    ap (with_parts v) (replaced-own i (put_tree p x) (parts v) (λ y is. put-own p x y (ap (option_and_then (value_at p)) (sym is) ∙ e))) ∙ own-parts v
-
-fits-own : (v : Val) → fits v v ≡ true
-fits-own v = (fits-Decides v v).1 (refl, λ p. refl)
-
 -- no cell changes
 cells-own : (cells : List Val) (r : Reference) (x : Val) → held cells r ≡ Ok x → put_cells cells r x ≡ cells
 cells-own cells r x h =
@@ -118,20 +101,7 @@ cells-own cells r x h =
     let same : ◌≡◌ {A = Outcome (List Val)} (Ok (put_cells cells r x)) (Ok cells) = sym (accepts cells q x x refl h (fits-own x)) ∙ written-back cells q x refl h in
     cc (same)
 
-at-twice : (cells : List Val) (i : ℕ) (f g : Val → Val) → ((x : Val) → g (f x) ≡ g x) → at_position i g (at_position i f cells) ≡ at_position i g cells
-at-twice [] i f g k = refl
-at-twice (y ∷ ys) zero f g k = ap (λ (z : Val). z ∷ ys) (k y)
-at-twice (y ∷ ys) (suc i) f g k = ap (λ (zs : List Val). y ∷ zs) (at-twice ys i f g k)
-
 -- ---- literals
-
-pub is-literal : (l : LiteralInstance) → IsLiteral (literal_of l)
-is-literal (literals.Bool b) = tt
-is-literal (literals.AbstractInt z) = tt
-is-literal (literals.I32 z) = tt
-is-literal (literals.U32 n) = tt
-is-literal (literals.I64 z) = tt
-is-literal (literals.U64 n) = tt
 
 item-literal : (i : ℕ) (vs : Vals) (y : Val) → AreLiterals vs → item i vs ≡ Some y → IsLiteral y
 item-literal i no_vals y h e = absurd (cc (e))
@@ -207,9 +177,6 @@ first-stage old r path x ls vs s h there =
 
 stage-held : (old now : List Val) (r : Reference) (path : List ℕ) (x : Val) (ls : List LiteralInstance) (i : ℕ) → IsSound old → held old r ≡ Ok x → (st : IsStage old now r path x ls i) → held now r ≡ Ok (with_first i ls st.before path x)
 stage-held old now r path x ls i s h st = ap (λ (cs : List Val). held cs r) st.cells ∙ held-after old r (with_first i ls st.before path x) x s st.storable h st.fit
-
-bytes-at : (cells : List Val) (r : Reference) (v : Val) → slice_get cells r.cell ≡ Some v → in_bytes cells r ≡ is_bytes v
-bytes-at cells r v e = ap (λ (o : Option Val). elim o [ None ↦ false | Some u ↦ is_bytes u ]) e
 
 -- a cell stays bytes
 stage-bytes : (old now : List Val) (r : Reference) (path : List ℕ) (x : Val) (ls : List LiteralInstance) (i : ℕ) → IsSound old → held old r ≡ Ok x → IsStage old now r path x ls i → in_bytes now r ≡ in_bytes old r

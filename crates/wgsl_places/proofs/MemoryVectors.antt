@@ -4,7 +4,6 @@ use Rattle.std.specs.Prelude.{IsOkAnd, IfSome, ◌==◌, ◌&&◌, if◌then◌e
 use Rattle.std.specs.Bool.{OnTrue}
 use Rattle.std.specs.List.{list_all}
 use Rattle.std.proofs.lemmas.Bool.{false≢true}
-use Rattle.std.proofs.lemmas.Bool.Decides.{nat_tests}
 use Rattle.std.proofs.lemmas.List.{length-map}
 use Rattle.std.proofs.lemmas.Option.{slice_get_within}
 use Rattle.wgsl_rules.specs.Kinds.{bytes_of}
@@ -35,9 +34,12 @@ use Rattle.wgsl_places.specs.Rows.{HasRow, IsRow}
 use Rattle.wgsl_places.specs.Vectors.{is_vector, loaded_parts, loaded_vec}
 use Rattle.wgsl_places.specs.declared.place.Place.{Place}
 use Rattle.wgsl_places.proofs.MemoryCalls.{fact-of}
-use Rattle.wgsl_places.proofs.MemoryPlaces.{answered, led-is, number-in-range, or-false, part-path, part-type, range-inside, range-leads, some-is, stands-there, told-i32, told-i64, told-u32, told-u64}
+use Rattle.wgsl_places.proofs.MemoryPlaces.{number-in-range, or-false, part-path, part-type, range-inside, range-leads, stands-there, told-i32, told-i64, told-u32, told-u64}
+use Rattle.wgsl_layout.proofs.Outcomes.{answered}
+use Rattle.wgsl_layout.proofs.NumberPuts.{led-is}
+use Rattle.wgsl_layout.proofs.NumberPuts.{some-is}
 use Rattle.wgsl_places.proofs.MemoryRows.{count-listed}
-use Rattle.wgsl_places.proofs.SideBySide.{le-true}
+use Rattle.wgsl_places.proofs.SideBySide.{le-true, one as equal}
 use Rattle.wgsl_places.proofs.VectorValues.{vector-loads-are-reads}
 use Rattle.wgsl_places.proofs.Vectors.{IsVector, one-or-none, vector-is}
 
@@ -151,9 +153,6 @@ each-passes f (y ∷ ys) (suc i) x h e = each-passes f ys i x (and-both (f y) (l
 passed : (c : Bool) (o : Option ℕ) (far : ℕ) → Some far ≡ (if c then o else None) → (c ≡ true) × (Some far ≡ o)
 passed true o far e = (refl, e)
 passed false o far e = absurd (cc (e))
-
-equal : (m n : ℕ) → (m == n) ≡ true → m ≡ n
-equal m n h = grind (arith, nat_tests)
 
 -- what the width of a row tells of the vector that stands there
 record IsPlacedRow (x : Val) (path : List ℕ) (r : Range) (far : ℕ) (ls : List LiteralInstance) : Type 0 where

@@ -1,24 +1,14 @@
 -- Members by their names.
-use Rattle.std.proofs.Common.{◌≡◌, ℕ, zero, suc, ◌<◌, List, [], ◌∷◌, length, get_or, Option, Some, None, option_map, option_and_then, Bool, true, false, refl, sym, ap, ◌∙◌, arith}
-use Rattle.std.specs.Prelude.{bytes_eq, if◌then◌else◌}
+use Rattle.std.proofs.Common.{◌≡◌, ℕ, zero, suc, ◌<◌, List, [], ◌∷◌, length, get_or, Some, option_map, option_and_then, sym, ap, ◌∙◌, arith}
 use Rattle.wgsl_rules.specs.Types.{Ty}
 use Rattle.wgsl_rules.specs.Values.{member}
 use Rattle.wgsl_rules.specs.Paths.{index_named}
-use Rattle.wgsl_rules.specs.View.{type_view, struct_view as struct_type_view, member_view, members_view}
+use Rattle.wgsl_rules.specs.View.{type_view, struct_view as struct_type_view, members_view}
 use Rattle.wgsl_rules.specs.declared.ty.StructMemberType.{StructMemberType}
 use Rattle.wgsl_rules.specs.declared.ty.StructType.{StructType, out-StructType}
 use Rattle.wgsl_layout.proofs.Making.{type-is}
 use Rattle.wgsl_layout.proofs.Reading.{struct-of}
 use Rattle.wgsl_places.specs.Steps.{field_at, step_to}
-
-pub named-below : (name : List ℕ) (ms : List StructMemberType) (i : ℕ) → index_named name (members_view ms) ≡ Some i → i < length ms
-named-below name [] i e = absurd (cc)
-named-below name (x ∷ ms) i e = by (bytes_eq (member_view x).name name) (index_named name (members_view ms)) (λ k is. named-below name ms k is) e
-  where
-    by : (b : Bool) (o : Option ℕ) → ((k : ℕ) → o ≡ Some k → k < length ms) → (if b then Some 0 else option_map (λ i. suc i) o) ≡ Some i → i < suc (length ms)
-    by true o on e = let z : 0 ≡ i = cc in omega arith
-    by false None on e = absurd (cc)
-    by false (Some k) on e = let z : suc k ≡ i = cc in let lt = on k refl in omega arith
 
 pub nth-field : (ms : List StructMemberType) (i : ℕ) (m : StructMemberType) → i < length ms → field_at i (members_view ms) ≡ Some (type_view (get_or ms i m).ty)
 nth-field [] i m lt = absurd (omega arith)

@@ -20,6 +20,8 @@ use Rattle.wgsl_layout.proofs.lemmas.Tidy.{tidy}
 use Rattle.wgsl_layout.proofs.lemmas.ViewPaths.{layout-type}
 use Rattle.wgsl_places.specs.Places.{IsPlace, ArePlaces}
 use Rattle.wgsl_places.specs.declared.place.Place.{Place}
+use Rattle.wgsl_layout.proofs.Locating.{nth-part}
+use Rattle.wgsl_places.proofs.MemoryPlaces.{or-false as left}
 
 less : (a b : ℕ) → nat_lt a b ≡ true → a < b
 less a b h = grind (arith, nat_tests)
@@ -34,13 +36,6 @@ range_of n q = record { start = q.start; layout = layout n q.ty }
 
 abbrev range_at : ℕ → Layout → Range
 range_at start l = record { start = start; layout = l }
-
-nth-part : (l : Layout) (far from i n : ℕ) → i < n → part_at i (repeated l far from n) ≡ Some (range_at (from + i * far) l)
-nth-part l far from i zero h = absurd (omega arith)
-nth-part l far from zero (suc n) h = let e : from ≡ from + 0 * far = omega arith in ap (λ (o : ℕ). Some (range_at o l)) e
-nth-part l far from (suc i) (suc n) h =
-    let e : from + far + i * far ≡ from + suc i * far = omega arith in
-    nth-part l far (from + far) i n (omega arith) ∙ ap (λ (o : ℕ). Some (range_at o l)) e
 
 past-parts : (l : Layout) (far from i n : ℕ) → n ≤ i → part_at i (repeated l far from n) ≡ None
 past-parts l far from i zero h = refl
@@ -84,10 +79,6 @@ parts-agree n i t h = ap (part_at i) (leaf-parts t (leaf_kind t))
 pub if-is : (b : Bool) (start : ℕ) (u : Ty) (q : Part) → part_if b start u ≡ Some q → u ≡ q.ty
 if-is true start u q e = cc (e)
 if-is false start u q e = absurd (cc (e))
-
-left : (b : Bool) → (b || false) ≡ true → b ≡ true
-left true h = refl
-left false h = h
 
 pub fixed-laid : (t : Ty) → has_fixed_layout t ≡ true → has_layout t ≡ true
 fixed-laid t h = ap (λ (b : Bool). b || has_runtime_layout t) h

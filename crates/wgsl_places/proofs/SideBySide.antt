@@ -118,7 +118,7 @@ passed false n h = absurd (false≢true h)
 one-of : (kind m n : ℕ) → (kind == m || kind == n) ≡ true → (kind ≡ m) ⊎ (kind ≡ n)
 one-of kind m n h = grind (arith, nat_tests)
 
-one : (kind m : ℕ) → (kind == m) ≡ true → kind ≡ m
+pub one : (kind m : ℕ) → (kind == m) ≡ true → kind ≡ m
 one kind m h = grind (arith, nat_tests)
 
 of-kind : (kind far : ℕ) (w : Val) → Some far ≡ width_of kind → is_of_kind kind w ≡ true → IsOfKind kind far w

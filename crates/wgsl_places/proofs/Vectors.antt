@@ -1,6 +1,6 @@
 -- Vectors at places: rows of numbers.
 use Rattle.std.proofs.Common.{◌≡◌, ℕ, zero, suc, ◌+◌, List, [], ◌∷◌, length, map, Option, Some, None, option_map, option_and_then, is_some, Bool, true, false, ◌⊎◌, inl, inr, refl, sym, ap, ◌∙◌, arith}
-use Rattle.std.specs.Prelude.{◌||◌, if◌then◌else◌}
+use Rattle.std.specs.Prelude.{if◌then◌else◌}
 use Rattle.std.proofs.lemmas.Bool.{false≢true}
 use Rattle.std.proofs.lemmas.List.{length-map}
 use Rattle.wgsl_rules.specs.InCommon.{prepended}
@@ -19,6 +19,7 @@ use Rattle.wgsl_places.specs.Places.{IsPlace, loaded, stored}
 use Rattle.wgsl_places.specs.Vectors.{is_vector, loaded_parts, loaded_vec, stored_parts, stored_vec}
 use Rattle.wgsl_places.specs.declared.place.Place.{Place}
 use Rattle.wgsl_places.proofs.ComponentTypes.{IsComponent, component, range_at}
+use Rattle.wgsl_places.proofs.MemoryPlaces.{or-false as left}
 
 -- ---- rows are parts
 
@@ -60,10 +61,6 @@ others-stored b o from far (suc n) l (w ∷ ws) differ = behind (stored b (range
     behind (Some c) rest = rest c
 
 -- ---- the parts of a vector
-
-left : (b : Bool) → (b || false) ≡ true → b ≡ true
-left true h = refl
-left false h = h
 
 -- how many components a vector with a layout has, and what they are
 pub record IsVector (n : ℕ) (t : Ty) : Type 0 where

@@ -1,5 +1,5 @@
 -- Where a view leads from a place.
-use Rattle.std.proofs.Common.{◌≡◌, ℕ, zero, suc, ◌+◌, ◌*◌, List, ◌∷◌, Option, Some, None, option_map, option_and_then, true, refl, sym, ap, ◌∙◌, subst, arith}
+use Rattle.std.proofs.Common.{◌≡◌, ℕ, zero, suc, ◌*◌, List, ◌∷◌, Option, Some, None, option_map, option_and_then, true, refl, sym, ap, ◌∙◌, subst}
 use Rattle.std.specs.Prelude.{IsSomeAnd, nat_lt, ◌&&◌}
 use Rattle.std.proofs.lemmas.Option.{same_Some}
 use Rattle.wgsl_rules.specs.Types.{Ty, struct, array, vec, mat, Fields, no_fields, field}
@@ -13,6 +13,7 @@ use Rattle.wgsl_places.specs.Places.{IsPlace, ArePlaces}
 use Rattle.wgsl_places.specs.Steps.{field_at, step_to, type_at}
 use Rattle.wgsl_places.specs.declared.place.Place.{Place}
 use Rattle.wgsl_places.proofs.Parts.{range_of, parts-agree, if-is}
+use Rattle.wgsl_layout.proofs.lemmas.PathRanges.{further-twice as further-on}
 
 -- ---- the type of a part
 
@@ -62,10 +63,6 @@ view-on s steps l = by (step_in s (type_in l))
         ≡ option_and_then (λ i. option_and_then (λ q. option_map (further q.start) (view_range steps q.layout)) (part_at i (parts_in l))) o
     by None = refl
     by (Some i) = at_part i (part_at i (parts_in l)) refl
-
-further-on : (a b : ℕ) (o : Option Range) → option_map (further a) (option_map (further b) o) ≡ option_map (further (a + b)) o
-further-on a b None = refl
-further-on a b (Some r) = let e : a + (b + r.start) ≡ a + b + r.start = omega arith in ap (λ (k : ℕ). Some (record { start = k; layout = r.layout })) e
 
 -- ---- what is answered
 

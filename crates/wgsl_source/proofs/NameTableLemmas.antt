@@ -10,6 +10,7 @@ use Rattle.std.specs.Str.{bytes_eq}
 use Rattle.std.specs.BTreeMap.{get_by_text}
 use Rattle.wgsl_source.specs.NameTables.{map_of, named_in}
 use Rattle.wgsl_source.specs.declared.name_table.NameTable.{NameTable}
+use Rattle.wgsl_source.proofs.OrderLemmas.{slice_get-set_same as get-set_same, slice_get-set_other as get-set_other}
 
 slice_get-none : {X : Type 0} (xs : List X) (i : ℕ) → length xs ≡ 0 → slice_get xs i ≡ None
 slice_get-none [] i e = refl
@@ -18,18 +19,6 @@ slice_get-none (x ∷ xs) i e = absurd (omega arith)
 -- without maps no name is known
 pub named-none : (t : NameTable) → length t.maps.items ≡ 0 → (name : List ℕ) → named_in t name ≡ None
 named-none t e name = ap (option_and_then (λ m. get_by_text m name)) (slice_get-none t.maps.items (map_of name (length t.maps.items)) e)
-
-get-set_same : {X : Type 0} (xs : List X) (i : ℕ) (y : X) → i < length xs → slice_get (set xs i y) i ≡ Some y
-get-set_same [] i y h = absurd (omega arith)
-get-set_same (x ∷ xs) zero y h = refl
-get-set_same (x ∷ xs) (suc i) y h = get-set_same xs i y (omega arith)
-
-get-set_other : {X : Type 0} (xs : List X) (i j : ℕ) (y : X) → j ≢ i → slice_get (set xs i y) j ≡ slice_get xs j
-get-set_other [] i j y h = refl
-get-set_other (x ∷ xs) zero zero y h = absurd (h refl)
-get-set_other (x ∷ xs) zero (suc j) y h = refl
-get-set_other (x ∷ xs) (suc i) zero y h = refl
-get-set_other (x ∷ xs) (suc i) (suc j) y h = get-set_other xs i j y (λ e. h (ap suc e))
 
 module _ {M : Type 0} (get : M → List ℕ → Option ℕ) where
   -- what the map of a number has

@@ -16,7 +16,7 @@ use Rattle.wgsl_store.proofs.lemmas.Held.{held-value}
 
 -- ---- which values are atomics
 
-no-matrix : (n : ℕ) (s : Ty) → atomic_part (matrix_type n s) ≡ None
+pub no-matrix : (n : ℕ) (s : Ty) → atomic_part (matrix_type n s) ≡ None
 no-matrix n (types.vec r u) = refl
 no-matrix n s = refl
 

@@ -27,6 +27,7 @@ use Rattle.wgsl_values.proofs.lemmas.Views.{vec_view-is}
 use Rattle.wgsl_values.specs.Iterators.{listed}
 use Rattle.wgsl_values.specs.View.{vals_view, vec_view}
 use Rattle.wgsl_values.specs.declared.inst.VecInstance.{VecInstance}
+use Rattle.wgsl_layout.proofs.Locating.{vec-same as one-type}
 
 -- ---- a function of one literal keeps its type
 
@@ -74,9 +75,6 @@ literals-one-kind f t R m vs ws a b = record {
 
 one-count : (m n : ℕ) (t u : Ty) → vec m t ≡ vec n u → m ≡ n
 one-count m n t u h = cc
-
-one-type : (m n : ℕ) (t u : Ty) → vec m t ≡ vec n u → t ≡ u
-one-type m n t u h = cc
 
 literal-paths : (v w : Val) → IsLiteral v → IsLiteral w → same_paths v w ≡ true
 literal-paths (truth a) (truth b) k l = refl

@@ -1,13 +1,12 @@
 -- Arguments of one type: nothing is converted.
 use Rattle.std.proofs.Common.{◌≡◌, ◌∙◌, [], ◌∷◌, true, Some, Ok, refl, sym, ap, ap₂}
 use Rattle.wgsl_rules.proofs.lemmas.Converted.{converted-own}
-use Rattle.wgsl_rules.specs.Conversion.{common_type, common_type_of}
+use Rattle.wgsl_rules.specs.Conversion.{common_type_of}
 use Rattle.wgsl_rules.specs.Converted.{converted}
-use Rattle.wgsl_rules.specs.Equal.{same-Decides}
 use Rattle.wgsl_rules.specs.Paths.{parts}
 use Rattle.wgsl_rules.specs.Refusals.{Outcome, and_then, builtin}
 use Rattle.wgsl_rules.specs.Types.{Ty, vec}
-use Rattle.wgsl_rules.specs.Values.{Val, Vals, no_vals, val, count, item, type_of, first_type, IsWellFormed}
+use Rattle.wgsl_rules.specs.Values.{Val, count, item, type_of, first_type, IsWellFormed}
 use Rattle.wgsl_scalar.specs.Operands.{ok_or}
 use Rattle.wgsl_values.proofs.lemmas.Views.{vec_view-is}
 use Rattle.wgsl_values.specs.View.{vals_view, vec_view}
@@ -15,12 +14,9 @@ use Rattle.wgsl_values.specs.declared.inst.VecInstance.{VecInstance}
 use Rattle.wgsl_types.specs.Lifts.{in_common_type}
 use Rattle.wgsl_types.specs.Logical.{is_known, selected_by, selected}
 use Rattle.wgsl_types.specs.Numeric.{between, clamped_in, clamped}
+use Rattle.wgsl_ops.proofs.OwnTypes.{first-typed, own-common}
 
 -- ---- vectors of one type
-
-first-typed : (vs : Vals) (x : Val) → Some x ≡ item 0 vs → type_of x ≡ first_type vs
-first-typed no_vals x h = cc
-first-typed (val v vs) x h = let e : x ≡ v = cc in ap type_of e
 
 vector-type : (v : VecInstance) (x : Val) → Some x ≡ item 0 (parts (vec_view v)) → type_of (vec_view v) ≡ vec (count (parts (vec_view v))) (type_of x)
 vector-type v x h =
@@ -34,9 +30,6 @@ pub vectors_typed : (v w : VecInstance) (x y : Val) → Some x ≡ item 0 (parts
 vectors_typed v w x y h k n e = vector-type v x h ∙ ap₂ vec n e ∙ sym (vector-type w y k)
 
 -- ---- conversions that change nothing
-
-own-common : (t : Ty) → common_type t t ≡ Some t
-own-common t = rw ((same-Decides t t).1 refl) refl
 
 pub in-own : (v w : Val) → IsWellFormed v → IsWellFormed w → type_of v ≡ type_of w → in_common_type v w ≡ Ok (v, w)
 in-own v w k l e =

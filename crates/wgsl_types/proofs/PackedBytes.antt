@@ -1,5 +1,5 @@
 -- Bytes of words, with and without signs, and four numbers of a type.
-use Rattle.std.proofs.Common.{◌≡◌, ◌∙◌, ℕ, zero, suc, ◌^◌, ◌<◌, ◌≤◌, List, [], ◌∷◌, length, get_or, ℤ, pos, negsuc, ◌*ℤ◌, unsigned_abs, ◌≤ℤ◌, FitsSigned, lit<, Some, Ok, arith, refl, sym, ap, subst}
+use Rattle.std.proofs.Common.{◌≡◌, ◌∙◌, ℕ, zero, suc, ◌^◌, ◌<◌, ◌≤◌, List, [], ◌∷◌, length, get_or, ℤ, pos, negsuc, ◌*ℤ◌, unsigned_abs, FitsSigned, lit<, Some, Ok, arith, refl, sym, ap, subst}
 use Rattle.std.specs.Int.{w16, int_min, int_max}
 use Rattle.std.proofs.Math.Nat.{mod-lt}
 use Rattle.std.proofs.lemmas.Bool.Decides.{nat_tests}
@@ -10,7 +10,7 @@ use Rattle.wgsl_rules.specs.Kinds as kinds
 use Rattle.wgsl_rules.specs.Kinds.{Kind, InKind, modulo, floor_div}
 use Rattle.wgsl_rules.specs.Types as types
 use Rattle.wgsl_rules.specs.Types.{Ty}
-use Rattle.wgsl_rules.specs.Values.{Val, vector, Vals, no_vals, val, count, first_type, type_of, AllOfType, AreLiterals, IsLiteral, IsStorable, IsWellFormed}
+use Rattle.wgsl_rules.specs.Values.{Val, vector, Vals, count, first_type, type_of, AllOfType, AreLiterals, IsLiteral, IsStorable, IsWellFormed}
 use Rattle.wgsl_scalar.specs.Literals.{literal_of}
 use Rattle.wgsl_scalar.specs.declared.literal.LiteralInstance.{LiteralInstance}
 use Rattle.wgsl_layout.specs.Buffers.{byte_of}
@@ -70,10 +70,6 @@ four-are t v w vs h e c =
     let well : IsWellFormed (vector vs) = subst IsWellFormed same (converted-well_formed v w (types.vec 4 t) h e) in
     let first : first_type vs ≡ t = cc in
     record { counted = cc; literals = well.2; typed = subst (λ (u : Ty). AllOfType u vs) first well.3 }
-
-pub listed-count : (xs : List Instance) → count (vals_view xs) ≡ length xs
-listed-count [] = refl
-listed-count (x ∷ xs) = ap suc (listed-count xs)
 
 pub literal-at : (xs : List Instance) (i : ℕ) (x : Instance) → i < length xs → x ≡ get_or xs i x → AreLiterals (vals_view xs) → IsLiteral (value_of x)
 literal-at [] i x h e l = absurd (omega arith)

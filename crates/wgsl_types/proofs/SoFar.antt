@@ -1,6 +1,6 @@
 -- What loops over values have found so far.
-use Rattle.std.proofs.Common.{◌≡◌, ◌∙◌, ℕ, zero, suc, ◌+◌, ◌<◌, ◌≤◌, List, [], ◌∷◌, ◌++◌, length, drop, get_or, Bool, true, false, ◌&&◌, ◌||◌, Option, Some, None, Result, Ok, Err, refl, sym, ap}
-use Rattle.std.proofs.lemmas.List.{drop_all, drop_more}
+use Rattle.std.proofs.Common.{◌≡◌, ◌∙◌, ℕ, ◌+◌, ◌<◌, ◌≤◌, List, [], ◌∷◌, ◌++◌, length, drop, get_or, Bool, true, false, ◌&&◌, ◌||◌, Option, Some, None, Result, Ok, Err, refl, sym, ap}
+use Rattle.std.proofs.lemmas.List.{drop_all}
 use Rattle.std.specs.Prelude.{IfOk, IsSomeAnd, MatchOption}
 use Rattle.wgsl_ops.specs.Lift.{lifted}
 use Rattle.wgsl_rules.specs.Refusals.{Refusal, Outcome, and_then}
@@ -10,6 +10,7 @@ use Rattle.wgsl_scalar.specs.declared.error.Error.{Error}
 use Rattle.wgsl_types.specs.Logical.{truth_in, truths_joined, one_selected, each_selected}
 use Rattle.wgsl_values.specs.View.{value_of, vals_view}
 use Rattle.wgsl_values.specs.declared.inst.Instance.{Instance}
+use Rattle.wgsl_layout.proofs.Writing.{vals-from as rest-is}
 
 -- ---- outcomes
 
@@ -40,9 +41,6 @@ then-then (Ok x) g h k e = ap (λ y. Ok y) (e x)
 then-then (Err r) g h k e = refl
 
 -- ---- what is left of a list
-
-rest-is : (xs : List Instance) (i : ℕ) (x : Instance) → i < length xs → x ≡ get_or xs i x → vals_view (drop i xs) ≡ val (value_of x) (vals_view (drop (i + 1) xs))
-rest-is xs i x h e = ap vals_view (drop_more xs i x h) ∙ ap (λ (y : Instance). val (value_of y) (vals_view (drop (i + 1) xs))) (sym e)
 
 -- ---- truths joined
 
@@ -77,10 +75,6 @@ module _ (f : Bool → Bool → Bool) (b : Bool) (xs : List Instance) where
 pub and-assoc : (a b c : Bool) → (a && (b && c)) ≡ (a && b && c)
 and-assoc true b c = refl
 and-assoc false b c = refl
-
-pub and-true : (a : Bool) → (a && true) ≡ a
-and-true true = refl
-and-true false = refl
 
 pub or-assoc : (a b c : Bool) → (a || (b || c)) ≡ (a || b || c)
 or-assoc true b c = refl

@@ -87,19 +87,19 @@ write-is-read cells after r w s h c e =
 
 -- ---- what was read is written back
 
-replaced-own : (i : ℕ) (f : Val → Val) (vs : Vals) → ((y : Val) → item i vs ≡ Some y → f y ≡ y) → replace_item i f vs ≡ vs
+pub replaced-own : (i : ℕ) (f : Val → Val) (vs : Vals) → ((y : Val) → item i vs ≡ Some y → f y ≡ y) → replace_item i f vs ≡ vs
 replaced-own i f no_vals h = refl
 replaced-own zero f (val v vs) h = ap (λ (u : Val). val u vs) (h v refl)
 replaced-own (suc i) f (val v vs) h = ap (val v) (replaced-own i f vs h)
 
-own-parts : (v : Val) → with_parts v (parts v) ≡ v
+pub own-parts : (v : Val) → with_parts v (parts v) ≡ v
 own-parts (record_of t vs) = refl
 own-parts (array_of runtime vs) = refl
 own-parts (vector vs) = refl
 own-parts (matrix vs) = refl
 own-parts v = refl
 
-put-own : (p : List ℕ) (x v : Val) → value_at p v ≡ Some x → put_tree p x v ≡ v
+pub put-own : (p : List ℕ) (x v : Val) → value_at p v ≡ Some x → put_tree p x v ≡ v
 put-own [] x v e = cc
 put-own (i ∷ p) x v e =
     ap (with_parts v) (replaced-own i (put_tree p x) (parts v) (λ y is. put-own p x y (ap (option_and_then (value_at p)) (sym is) ∙ e))) ∙ own-parts v
@@ -116,7 +116,7 @@ read-holds cells r v e = by (can_read r.access) e
     by true e = e
     by false e = absurd (cc)
 
-fits-own : (v : Val) → fits v v ≡ true
+pub fits-own : (v : Val) → fits v v ≡ true
 fits-own v = (fits-Decides v v).1 (refl, λ p. refl)
 
 pub written-back : AReadIsWrittenBack
@@ -130,7 +130,7 @@ written-back cells r v c e =
 
 -- ---- the last write stands
 
-at-twice : (cells : List Val) (i : ℕ) (f g : Val → Val) → ((x : Val) → g (f x) ≡ g x) → at_position i g (at_position i f cells) ≡ at_position i g cells
+pub at-twice : (cells : List Val) (i : ℕ) (f g : Val → Val) → ((x : Val) → g (f x) ≡ g x) → at_position i g (at_position i f cells) ≡ at_position i g cells
 at-twice [] i f g k = refl
 at-twice (y ∷ ys) zero f g k = ap (λ (z : Val). z ∷ ys) (k y)
 at-twice (y ∷ ys) (suc i) f g k = ap (λ (zs : List Val). y ∷ zs) (at-twice ys i f g k)

@@ -1,6 +1,7 @@
 use Rattle.std.proofs.Common.{sym}
 use Rattle.wgsl_places.specs.Steps.{shape_ty}
-use Rattle.wgsl_places.proofs.Named.{member-step, named-below}
+use Rattle.wgsl_places.proofs.Named.{member-step}
+use Rattle.wgsl_layout.proofs.Locating.{named-below}
 use Rattle.wgsl_places.proofs.shape.member_of_struct.Goals as goal
 
 pub type_of_member-requires : goal.type_of_member-requires

@@ -1,7 +1,8 @@
-use Rattle.std.proofs.Common.{rules, ◌≡◌, ◌∙◌, Bool, ◌&&◌, true, Ok, Err, refl, sym, ap, subst}
+use Rattle.std.proofs.Common.{rules, ◌≡◌, ◌∙◌, Bool, ◌&&◌, true, Err, refl, sym, ap, subst}
 use Rattle.std.specs.Prelude.{IsSomeAnd}
 use Rattle.wgsl_scalar.specs.Answers.{refusal_of}
-use Rattle.wgsl_types.proofs.SoFar.{HasJoined, joined-start, joined-more, joined-refused, joined-all, refused-as, and-assoc, and-true}
+use Rattle.wgsl_types.proofs.SoFar.{HasJoined, joined-start, joined-more, joined-refused, joined-all, refused-as, and-assoc}
+use Rattle.wgsl_layout.proofs.Making.{and-true}
 use Rattle.wgsl_types.specs.Logical.{truth_in, truths_joined}
 use Rattle.wgsl_values.specs.View.{value_of, vals_view}
 use Rattle.wgsl_types.proofs.logical.all_of.Goals as goal

@@ -1,8 +1,8 @@
-use Rattle.std.proofs.Common.{rules, arith, ◌≡◌, ◌≢◌, ◌∙◌, length, Ok, sym, ap, subst}
-use Rattle.wgsl_rules.specs.Values.{Val, count, type_of, vector, IsStorable}
+use Rattle.std.proofs.Common.{◌≡◌, ◌≢◌, ◌∙◌, length, Ok, sym, ap, subst}
+use Rattle.wgsl_rules.specs.Values.{type_of, IsStorable}
 use Rattle.wgsl_types.proofs.ComponentLemmas.{components-are}
 use Rattle.wgsl_types.proofs.LogicalAnswers.{picked-storable}
-use Rattle.wgsl_types.proofs.PackedBytes.{listed-count}
+use Rattle.wgsl_values.proofs.lemmas.Views.{count-vals_view as listed-count}
 use Rattle.wgsl_types.proofs.Picked.{components-unequal, counts-equal}
 use Rattle.wgsl_types.specs.Components.{components_of}
 use Rattle.wgsl_values.specs.View.{value_of, vals_view}

@@ -3,7 +3,8 @@ use Rattle.wgsl_rules.specs.Converted.{converted}
 use Rattle.wgsl_rules.specs.Types as types
 use Rattle.wgsl_rules.specs.Values.{Vals, AllOfType}
 use Rattle.wgsl_rules.specs.View.{type_view}
-use Rattle.wgsl_types.proofs.PackedBytes.{four-are, listed-count, typed-at}
+use Rattle.wgsl_types.proofs.PackedBytes.{four-are, typed-at}
+use Rattle.wgsl_values.proofs.lemmas.Views.{count-vals_view as listed-count}
 use Rattle.wgsl_types.specs.Components.{components_of}
 use Rattle.wgsl_values.specs.View.{value_of, vals_view}
 use Rattle.wgsl_types.proofs.packing.four_in.Goals as goal
