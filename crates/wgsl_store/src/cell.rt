@@ -81,9 +81,13 @@ impl Cell {
         ensures value { IfOk result (λ c. cell_value c ≡ value_of value) }
         ensures cell { IfOk result IsCell }
     {
-        match FlatCell::new(alloc, &value)? {
-            Some(bytes) => Ok(Cell::Flat(bytes)),
-            None => Ok(Cell::Tree(value)),
+        match FlatCell::new(alloc, &value) {
+            Ok(Some(bytes)) => Ok(Cell::Flat(bytes)),
+            Ok(None) => Ok(Cell::Tree(value)),
+            Err(error) => {
+                drop(value);
+                Err(error)
+            }
         }
     }
 
@@ -286,6 +290,7 @@ fn put_bytes(bytes: &mut FlatCell, view: &MemView, value: Instance) -> Result<()
     ensures back { IfErr result (λ v. value_of v ≡ value_of value) }
 {
     if bytes.put(view, &value) {
+        drop(value);
         Ok(())
     } else {
         Err(value)

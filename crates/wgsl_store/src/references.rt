@@ -333,7 +333,11 @@ impl References for RefInstance {
         }
         match store.put(self, value) {
             Ok(()) => Ok(()),
-            Err(value) => Err(misfit(alloc, self, &value).unwrap_or(Error::Memory)),
+            Err(value) => {
+                let error = misfit(alloc, self, &value).unwrap_or(Error::Memory);
+                drop(value);
+                Err(error)
+            }
         }
     }
 
