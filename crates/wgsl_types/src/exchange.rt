@@ -25,7 +25,6 @@ ghost use Rattle.wgsl_values.specs.View.{reference_of, value_of};
 
 use crate::atomic::{argument, load, put_number};
 use crate::cases::writable;
-use crate::held::beside;
 use std::alloc::{AllocError, Global};
 use wgsl_rules::{StructMemberType, StructType, Type};
 use wgsl_scalar::{Error, LiteralInstance};
@@ -36,9 +35,8 @@ use wgsl_values::{Instance, RefInstance, StructInstance};
 fn member(alloc: Global, name: &str, ty: Type) -> Result<StructMemberType, AllocError>
     ensures { IfOk result (λ m. member_view m ≡ record { name = name.now; ty = type_view ty; size = None; align = None }) }
 {
-    let (name, ty) = beside(String::from_str(alloc, name), ty)?;
     Ok(StructMemberType {
-        name,
+        name: String::from_str(alloc, name)?,
         ty,
         size: None,
         align: None,
@@ -50,11 +48,12 @@ fn exchange_type(alloc: Global, ty: Type) -> Result<StructType, AllocError>
     ensures { IfOk result (λ t. struct_view t ≡ exchange_type (type_view ty)) }
 {
     let old = member(alloc, "old_value", ty)?;
-    let (exchanged, old) = beside(member(alloc, "exchanged", Type::Bool), old)?;
-    let name = String::from_str(alloc, "__atomic_compare_exchange_result");
-    let (name, (exchanged, old)) = beside(name, (exchanged, old))?;
-    let (members, name) = beside(vec![in alloc; old, exchanged], name)?;
-    Ok(StructType { name, members })
+    let exchanged = member(alloc, "exchanged", Type::Bool)?;
+    let name = String::from_str(alloc, "__atomic_compare_exchange_result")?;
+    Ok(StructType {
+        name,
+        members: vec![in alloc; old, exchanged]?,
+    })
 }
 
 // What a compare and exchange answers.
@@ -67,8 +66,7 @@ fn exchange_result(
     ensures storable { IfOk result (λ v. IsStorable (value_of v)) }
 {
     let ty = exchange_type(alloc, old.literal_ty())?;
-    let members = vec![in alloc; Instance::Literal(old), Instance::from(exchanged)];
-    let (members, ty) = beside(members, ty)?;
+    let members = vec![in alloc; Instance::Literal(old), Instance::from(exchanged)]?;
     Ok(Instance::Struct(StructInstance::new(ty, members)))
 }
 
@@ -95,14 +93,10 @@ fn exchange_if_equal(
 {
     // `len` ensures that the store is sound.
     let _cells = store.len();
-    let value = Instance::Literal(old);
-    let exchanged = value == *comparand;
-    drop(value);
-    let (answer, new) = beside(exchange_result(alloc, old, exchanged), new)?;
+    let exchanged = Instance::Literal(old) == *comparand;
+    let answer = exchange_result(alloc, old, exchanged)?;
     if exchanged {
         put_number(store, reference, new);
-    } else {
-        drop(new);
     }
     Ok(answer)
 }
@@ -137,12 +131,8 @@ pub fn atomicCompareExchangeWeak(
     let _cells = store.len();
     let old = load(store, p)?;
     let ty = old.literal_ty();
-    let (comparand, ty) = beside(argument(alloc, &ty, comparand), ty)?;
-    let number = argument(alloc, &ty, new);
-    drop(ty);
-    let (number, comparand) = beside(number, comparand)?;
-    let (reference, (number, comparand)) = beside(writable(p), (number, comparand))?;
-    let answer = exchange_if_equal(alloc, store, reference, old, &comparand, number);
-    drop(comparand);
-    answer
+    let comparand = argument(alloc, &ty, comparand)?;
+    let number = argument(alloc, &ty, new)?;
+    let reference = writable(p)?;
+    exchange_if_equal(alloc, store, reference, old, &comparand, number)
 }

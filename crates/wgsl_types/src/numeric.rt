@@ -169,6 +169,9 @@ fn types_of(
     low: &Instance,
     high: &Instance,
 ) -> Result<[Type; 3], AllocError>
+    requires value { IsWellFormed (value_of e.now) }
+    requires low { IsWellFormed (value_of low.now) }
+    requires high { IsWellFormed (value_of high.now) }
     ensures { IfOk result (λ types. map type_view types ≡ type_of (value_of e.now) ∷ type_of (value_of low.now) ∷ type_of (value_of high.now) ∷ []) }
 {
     let first = e.ty(alloc)?;

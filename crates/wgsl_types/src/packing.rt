@@ -100,14 +100,8 @@ fn four_in(alloc: Global, e: &Instance, scalar: Type) -> Result<[LiteralInstance
     ensures typed { IfOk result (λ four. All (λ l. type_of (literal_of l) ≡ type_view scalar) four) }
 {
     let ty = four_of(alloc, scalar)?;
-    let converted = e.convert_to(alloc, &ty);
-    drop(ty);
-    match converted? {
-        Some(converted) => {
-            let four = components(&converted).map(four_literals);
-            drop(converted);
-            four
-        }
+    match e.convert_to(alloc, &ty)? {
+        Some(converted) => Ok(four_literals(components(&converted)?)),
         None => Err(Error::Builtin(BuiltinReason::NotConverted)),
     }
 }

@@ -24,14 +24,14 @@ returns-in_err-taken-clause-value c =
           ∙ ap (λ (o : Outcome Val). and_then o (λ w. with_bytes_of w (type_view c.args.tplt.now))) e) h,
     )
 
-pub with_bytes_of-cast-requires-clause-value : goal.with_bytes_of-cast-requires-clause-value
-with_bytes_of-cast-requires-clause-value c =
+pub with_bytes_of-requires-clause-value : goal.with_bytes_of-requires-clause-value
+with_bytes_of-requires-clause-value c =
     let taken : on_components (taken_as (inner_type (type_view c.args.tplt.now))) (value_of c.args.e.now) ≡ Ok (value_of c.in_ok-taken.taken) =
     ap (λ (u : Ty). on_components (taken_as u) (value_of c.args.e.now)) (sym c.inner.ensures) ∙ c.in_ok-taken.ensures in
     (value-taken (inner_type (type_view c.args.tplt.now)) (value_of c.args.e.now) (value_of c.in_ok-taken.taken) (inner-word (type_view c.args.tplt.now) c.requires.target) c.requires.well_formed taken).storable
 
-pub with_bytes_of-cast-requires-clause-laid : goal.with_bytes_of-cast-requires-clause-laid
-with_bytes_of-cast-requires-clause-laid c =
+pub with_bytes_of-requires-clause-laid : goal.with_bytes_of-requires-clause-laid
+with_bytes_of-requires-clause-laid c =
     let taken : on_components (taken_as (inner_type (type_view c.args.tplt.now))) (value_of c.args.e.now) ≡ Ok (value_of c.in_ok-taken.taken) =
     ap (λ (u : Ty). on_components (taken_as u) (value_of c.args.e.now)) (sym c.inner.ensures) ∙ c.in_ok-taken.ensures in
     (value-taken (inner_type (type_view c.args.tplt.now)) (value_of c.args.e.now) (value_of c.in_ok-taken.taken) (inner-word (type_view c.args.tplt.now) c.requires.target) c.requires.well_formed taken).laid
@@ -40,8 +40,8 @@ pub returns-clause-value : goal.returns-clause-value
 returns-clause-value c =
     let taken : on_components (taken_as (inner_type (type_view c.args.tplt.now))) (value_of c.args.e.now) ≡ Ok (value_of c.in_ok-taken.taken) =
     ap (λ (u : Ty). on_components (taken_as u) (value_of c.args.e.now)) (sym c.inner.ensures) ∙ c.in_ok-taken.ensures in
-    subst (λ (o : Outcome Val). Gives value_of c.with_bytes_of-cast.result (and_then o (λ w. with_bytes_of w (type_view c.args.tplt.now)))) (sym taken) c.with_bytes_of-cast.ensures
+    subst (λ (o : Outcome Val). Gives value_of c.with_bytes_of.result (and_then o (λ w. with_bytes_of w (type_view c.args.tplt.now)))) (sym taken) c.with_bytes_of.ensures
 
 pub returns-clause-storable : goal.returns-clause-storable
 returns-clause-storable c =
-    gives-storable c.with_bytes_of-cast.result (bitcast (type_view c.args.tplt.now) (value_of c.args.e.now)) (λ x e. bitcast-storable (type_view c.args.tplt.now) (value_of c.args.e.now) x c.requires.well_formed e) (returns-clause-value c)
+    gives-storable c.with_bytes_of.result (bitcast (type_view c.args.tplt.now) (value_of c.args.e.now)) (λ x e. bitcast-storable (type_view c.args.tplt.now) (value_of c.args.e.now) x c.requires.well_formed e) (returns-clause-value c)
