@@ -83,7 +83,7 @@ pub(crate) fn as_value(literal: LiteralInstance) -> Instance
     ensures storable { IsStorable (value_of result) }
 {
     // `literal_ty` ensures that the number is one of its kind.
-    let _ty = literal.literal_ty();
+    drop(literal.literal_ty());
     Instance::from(literal)
 }
 
@@ -225,7 +225,11 @@ pub(crate) fn in_common_type(
         return on_both(alloc, function, left, right);
     }
     match convert(alloc, left, right)? {
-        Some((a, b)) => on_both(alloc, function, &a, &b),
+        Some((a, b)) => {
+            let answer = on_both(alloc, function, &a, &b);
+            drop((a, b));
+            answer
+        }
         None => Err(Error::Builtin(BuiltinReason::NoCommonType)),
     }
 }

@@ -115,7 +115,20 @@ pub fn any(e: &Instance) -> Result<Instance, Error>
 fn one_selected(cond: &Instance, f: Instance, t: Instance) -> Result<Instance, Error>
     ensures { Answers value_of result (one_selected (value_of cond.now) (value_of f) (value_of t)) }
 {
-    Ok(if truth_in(cond)? { t } else { f })
+    match truth_in(cond) {
+        Ok(true) => {
+            drop(f);
+            Ok(t)
+        }
+        Ok(false) => {
+            drop(t);
+            Ok(f)
+        }
+        Err(error) => {
+            drop((f, t));
+            Err(error)
+        }
+    }
 }
 
 // The same of two components.
@@ -179,7 +192,9 @@ fn selected_by(alloc: Global, cond: &Instance, f: Instance, t: Instance) -> Resu
 {
     match cond {
         Instance::Vec(bools) => {
-            Ok(Instance::Vec(components_selected(alloc, bools.as_slice(), &f, &t)?))
+            let selected = components_selected(alloc, bools.as_slice(), &f, &t);
+            drop((f, t));
+            Ok(Instance::Vec(selected?))
         }
         Instance::Literal(_) | Instance::Struct(_) | Instance::Array(_) => {
             one_selected(cond, f, t)

@@ -1,7 +1,7 @@
 //! The numeric builtin functions, without those on bit fields (WGSL: numeric builtin functions).
 
-ghost use Rattle.std.specs.Prelude.{IfOk};
-ghost use Rattle.wgsl_rules.specs.Values.{IsStorable, IsWellFormed};
+ghost use Rattle.std.specs.Prelude.{[], ◌∷◌, ◌≡◌, IfOk, map};
+ghost use Rattle.wgsl_rules.specs.Values.{IsStorable, IsWellFormed, type_of};
 ghost use Rattle.wgsl_rules.specs.View.{type_view};
 ghost use Rattle.wgsl_scalar.specs.Answers.{Gives};
 ghost use Rattle.wgsl_types.specs.Numeric.{
@@ -23,8 +23,9 @@ ghost use Rattle.wgsl_types.specs.Numeric.{
 ghost use Rattle.wgsl_values.specs.View.{value_of, vec_view};
 
 use crate::cases::are_of_one_type;
+use crate::held::beside;
 use crate::lifts::{BinaryFunction, UnaryFunction, as_value, in_common_type, on_components};
-use std::alloc::Global;
+use std::alloc::{AllocError, Global};
 use wgsl_ops::VecOperators;
 use wgsl_rules::{Convert, ShaderStage, Ty, Type, convert, convert_all_ty};
 use wgsl_scalar::{BuiltinReason, Error};
@@ -133,7 +134,10 @@ fn between(alloc: Global, e: &Instance, low: &Instance, high: &Instance) -> Resu
     ensures value { Gives value_of result (between (value_of e.now) (value_of low.now) (value_of high.now)) }
     ensures storable { IfOk result (λ v. IsStorable (value_of v)) }
 {
-    min(alloc, &max(alloc, e, low)?, high)
+    let raised = max(alloc, e, low)?;
+    let answer = min(alloc, &raised, high);
+    drop(raised);
+    answer
 }
 
 // Of the three in the type.
@@ -151,9 +155,29 @@ fn clamp_in(
     ensures storable { IfOk result (λ v. IsStorable (value_of v)) }
 {
     let value = in_type(alloc, e, ty)?;
-    let low = in_type(alloc, low, ty)?;
-    let high = in_type(alloc, high, ty)?;
-    between(alloc, &value, &low, &high)
+    let (low, value) = beside(in_type(alloc, low, ty), value)?;
+    let (high, (low, value)) = beside(in_type(alloc, high, ty), (low, value))?;
+    let answer = between(alloc, &value, &low, &high);
+    drop((value, low, high));
+    answer
+}
+
+// The types of the three.
+fn types_of(
+    alloc: Global,
+    e: &Instance,
+    low: &Instance,
+    high: &Instance,
+) -> Result<[Type; 3], AllocError>
+    requires value { IsWellFormed (value_of e.now) }
+    requires low { IsWellFormed (value_of low.now) }
+    requires high { IsWellFormed (value_of high.now) }
+    ensures { IfOk result (λ types. map type_view types ≡ type_of (value_of e.now) ∷ type_of (value_of low.now) ∷ type_of (value_of high.now) ∷ []) }
+{
+    let first = e.ty(alloc)?;
+    let (second, first) = beside(low.ty(alloc), first)?;
+    let (third, (second, first)) = beside(high.ty(alloc), (second, first))?;
+    Ok([first, second, third])
 }
 
 /// The lesser of `high` and the greater of `e` and `low`, or of each three components of three vectors, in
@@ -176,11 +200,13 @@ pub fn clamp(
     if are_of_one_type(e, low) && are_of_one_type(low, high) {
         return between(alloc, e, low, high);
     }
-    let types = [e.ty(alloc)?, low.ty(alloc)?, high.ty(alloc)?];
-    match convert_all_ty(&types) {
+    let types = types_of(alloc, e, low, high)?;
+    let answer = match convert_all_ty(&types) {
         Some(ty) => clamp_in(alloc, ty, e, low, high),
         None => Err(Error::Builtin(BuiltinReason::NoCommonType)),
-    }
+    };
+    drop(types);
+    answer
 }
 
 // Of a vector and a value of its type.
@@ -245,7 +271,11 @@ pub fn dot(alloc: Global, a: &Instance, b: &Instance, stage: ShaderStage) -> Res
         return dot_of(alloc, a, b, stage);
     }
     match convert(alloc, a, b)? {
-        Some((a, b)) => dot_of(alloc, &a, &b, stage),
+        Some((a, b)) => {
+            let answer = dot_of(alloc, &a, &b, stage);
+            drop((a, b));
+            answer
+        }
         None => Err(Error::Builtin(BuiltinReason::NoCommonType)),
     }
 }
