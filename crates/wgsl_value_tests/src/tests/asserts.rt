@@ -19,20 +19,6 @@ pub(super) fn assert_gives<T: PartialEq + Debug + Drop, E: Debug + Drop>(
     assert_eq!(rt; answer.expect(rt, "an answer"), wanted);
 }
 
-/// Asserts that the answer is the wanted value.
-pub(super) fn assert_some<T: PartialEq + Debug + Drop, E: Debug + Drop>(
-    rt: &impl Abort,
-    answer: Result<Option<T>, E>,
-    wanted: &T,
-) {
-    assert_eq!(rt; answer.expect(rt, "an answer").as_ref(), Some(wanted));
-}
-
-/// Asserts that the answer is none.
-pub(super) fn assert_none<T: Drop, E: Debug + Drop>(rt: &impl Abort, answer: Result<Option<T>, E>) {
-    assert!(rt; answer.expect(rt, "an answer").is_none());
-}
-
 /// Asserts that the value is the wanted one.
 pub(super) fn assert_is<T: PartialEq + Debug + Drop>(rt: &impl Abort, value: &T, wanted: T) {
     assert_eq!(rt; value, &wanted);

@@ -324,72 +324,66 @@ fn two_types_convert_to_a_common_type(rt: HostRuntime) {
     }
 }
 
-/// Asserts what each call on a list answers: to a common type, to the type, and with what is inside taken to the type.
-fn assert_lists<T: Convert + PartialEq + Debug + Drop>(
+/// Asserts what the list is in the type, and with what is inside taken to the type.
+fn assert_converted<T: Convert + PartialEq + Debug + Drop>(
     rt: &impl Abort,
     alloc: Global,
     list: &[T],
     ty: &Type,
-    wanted: [Option<&[T]>; 3],
+    wanted: Option<&[T]>,
 )
     requires { All (λ x. IsWellFormed (T.value_of x)) list.now }
 {
-    let [common, of_type, inside] = wanted;
-    assert_list(rt, convert_all(alloc, list), common);
-    assert_list(rt, convert_all_to(alloc, list, ty), of_type);
-    assert_list(rt, convert_all_inner_to(alloc, list, ty), inside);
+    assert_list(rt, convert_all_to(alloc, list, ty), wanted);
+    assert_list(rt, convert_all_inner_to(alloc, list, ty), wanted);
+}
+
+/// Asserts that the list is the wanted one in its common type and in u32, and does not convert to i32.
+fn assert_to_u32<T: Convert + PartialEq + Debug + Drop>(
+    rt: &impl Abort,
+    alloc: Global,
+    list: &[T],
+    wanted: &[T],
+)
+    requires { All (λ x. IsWellFormed (T.value_of x)) list.now }
+{
+    assert_list(rt, convert_all(alloc, list), Some(wanted));
+    assert_converted(rt, alloc, list, &Type::U32, Some(wanted));
+    assert_converted(rt, alloc, list, &Type::I32, None);
 }
 
 #[test]
 fn literals_convert_to_their_common_type(rt: HostRuntime) {
     let alloc = rt.alloc();
     let literals = [AbstractInt(1), U32(2), AbstractInt(3)];
-    let wanted: Option<&[LiteralInstance]> = Some(&[U32(1), U32(2), U32(3)]);
-    assert_lists(&rt, alloc, &literals, &Type::U32, [wanted, wanted, wanted]);
-    assert_lists(&rt, alloc, &literals, &Type::I32, [wanted, None, None]);
+    assert_to_u32(&rt, alloc, &literals, &[U32(1), U32(2), U32(3)]);
     let others = [AbstractInt(1), I32(2), U32(3)];
     assert_list(&rt, convert_all(alloc, &others), None);
 }
 
 #[test]
 fn the_empty_list_has_no_common_type_and_converts_to_each(rt: HostRuntime) {
+    let alloc = rt.alloc();
     let none: &[LiteralInstance] = &[];
-    assert_lists(
-        &rt,
-        rt.alloc(),
-        none,
-        &Type::U32,
-        [None, Some(none), Some(none)],
-    );
-}
-
-/// Asserts what a list of two is, of which the second is an u32 and the first converts to one.
-fn assert_pair<T: Convert + PartialEq + Debug + Drop>(
-    rt: &impl Abort,
-    alloc: Global,
-    list: [T; 2],
-    wanted: [T; 2],
-)
-    requires { All (λ x. IsWellFormed (T.value_of x)) list }
-{
-    let same: Option<&[T]> = Some(&wanted);
-    assert_lists(rt, alloc, &list, &Type::U32, [same, same, same]);
-    assert_lists(rt, alloc, &list, &Type::I32, [same, None, None]);
-    drop((list, wanted));
+    assert_list(&rt, convert_all(alloc, none), None);
+    assert_converted(&rt, alloc, none, &Type::U32, Some(none));
 }
 
 #[test]
 fn lists_of_types_convert(rt: HostRuntime) {
     let list = [Type::AbstractInt, Type::U32];
-    assert_pair(&rt, rt.alloc(), list, [Type::U32, Type::U32]);
+    let wanted = [Type::U32, Type::U32];
+    assert_to_u32(&rt, rt.alloc(), &list, &wanted);
+    drop((list, wanted));
 }
 
 #[test]
 fn lists_of_values_convert(rt: HostRuntime) {
     let alloc = rt.alloc();
     let list = [value(&rt, alloc, "1"), value(&rt, alloc, "2u")];
-    let wanted = [value(&rt, alloc, "1u"), value(&rt, alloc, "2u")];
-    assert_pair(&rt, alloc, list, wanted);
+    let wanted = [Instance::from(1u32), Instance::from(2u32)];
+    assert_to_u32(&rt, alloc, &list, &wanted);
+    drop((list, wanted));
 }
 
 /// Types to which the types of values convert, and to which they don't.
