@@ -173,7 +173,7 @@ pub(super) fn pair_value(rt: &impl Abort, alloc: Global) -> Result<StructInstanc
 }
 
 /// What both answers have; an error where one of them is that.
-fn both<T: Drop, U: Drop>(
+pub(super) fn both<T: Drop, U: Drop>(
     first: Result<T, AllocError>,
     second: Result<U, AllocError>,
 ) -> Result<(T, U), AllocError> {

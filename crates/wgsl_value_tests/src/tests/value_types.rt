@@ -3,7 +3,7 @@
 ghost use Rattle.wgsl_rules.specs.Values.{IsWellFormed};
 ghost use Rattle.wgsl_values.specs.View.{value_of};
 
-use crate::tests::asserts::{assert_is, assert_row};
+use crate::tests::asserts::assert_row;
 use crate::tests::reading::{parted, ty, value};
 use std::alloc::Global;
 use std::process::Abort;
@@ -42,12 +42,11 @@ struct Wanted<'a> {
 fn assert_type<T: Ty>(rt: &impl Abort, alloc: Global, value: &T, wanted: &Wanted<'_>)
     requires { IsWellFormed (T.value_of value.now) }
 {
-    assert_is(rt, &wanted.ty, value.ty(alloc).expect(rt, "memory"));
-    assert_is(
-        rt,
-        &wanted.inner,
-        value.inner_ty(alloc).expect(rt, "memory"),
-    );
+    let ty = value.ty(alloc).expect(rt, "memory");
+    assert_row(rt, wanted.row, &ty, &wanted.ty);
+    let inner = value.inner_ty(alloc).expect(rt, "memory");
+    assert_row(rt, wanted.row, &inner, &wanted.inner);
+    drop((ty, inner));
     assert_row(rt, wanted.row, value.has_ty(&wanted.ty), true);
     assert_row(rt, wanted.row, value.has_ty(&wanted.other), false);
 }

@@ -1,6 +1,6 @@
 //! The rules by their codes, sections and words, and those that variables themselves break.
 
-use crate::tests::asserts::{assert_row, assert_same, assert_text};
+use crate::tests::asserts::{assert_row, assert_same};
 use std::alloc::Global;
 use std::process::Abort;
 use wgsl_interface::{ShareRule, VariableRules, variable_rules};
@@ -14,7 +14,9 @@ fn assert_rules(rt: &impl Abort, alloc: Global, rules: &[Rule], is_of_each_type:
     for (rule, code, section, words) in rules {
         assert_same(rt, rule.code(), *code);
         assert_row(rt, code, rule.section(), *section);
-        assert_text(rt, alloc, rule, words);
+        let text = rule.to_string(alloc).expect(rt, "memory");
+        assert_row(rt, code, text.as_str(), *words);
+        drop(text);
         assert_row(rt, code, rule.is_of_each_type(), is_of_each_type);
     }
 }
