@@ -15,7 +15,7 @@ ghost use Rattle.wgsl_values.specs.View.{
   vec_view,
 };
 
-use crate::tests::asserts::assert_is;
+use crate::tests::asserts::{assert_is, assert_text};
 use crate::tests::fixtures::{light, to_component, to_member, vector_of};
 use crate::tests::samples::storable;
 use std::alloc::Global;
@@ -156,11 +156,15 @@ fn a_component_that_was_lent_is_replaced(rt: HostRuntime) {
 fn what_a_view_leads_to_is_replaced_where_it_is_a_number(rt: HostRuntime) {
     let alloc = rt.alloc();
     let mut value = storable(&rt, light(&rt, alloc));
-    set_number(alloc, &mut value, &to_member(&rt, alloc)).expect(&rt, "memory");
+    let view = to_member(&rt, alloc);
+    set_number(alloc, &mut value, &view).expect(&rt, "memory");
     assert_is(&rt, &value, light(&rt, alloc));
-    set_number(alloc, &mut value, &to_component(&rt, alloc)).expect(&rt, "memory");
+    drop(view);
+    let view = to_component(&rt, alloc);
+    set_number(alloc, &mut value, &view).expect(&rt, "memory");
+    drop(view);
     let text =
         "Light(mat2x3(vec3(1u, 2u, 3u), vec3(4u, 5u, 9u)), array(Pair(1u, vec3(2u, 3u, 4u))))";
-    assert_eq!(rt; value.to_string(alloc).expect(&rt, "memory").as_str(), text);
+    assert_text(&rt, alloc, &value, text);
     drop(value);
 }

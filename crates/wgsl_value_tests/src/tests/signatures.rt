@@ -1,7 +1,9 @@
 //! Call signatures and the arguments of templates.
 
-use crate::tests::asserts::assert_is;
+use crate::tests::asserts::{assert_is, assert_is_not, assert_same, assert_text};
 use std::alloc::{AllocError, Global};
+use std::mem;
+use std::process::Abort;
 use wgsl_rules::{AccessMode, Enumerant, Type};
 use wgsl_samples::types::vector;
 use wgsl_values::{CallSignature, Instance, TpltParam};
@@ -35,41 +37,34 @@ pub(super) fn templated(alloc: Global) -> Result<CallSignature, AllocError> {
 #[test]
 fn texts_of_template_arguments(rt: HostRuntime) {
     let alloc = rt.alloc();
-    let texts = ["f32", "4", "read_write"];
-    for (param, text) in template(alloc).expect(&rt, "memory").iter().zip(texts) {
-        assert_eq!(rt; param.to_string(alloc).expect(&rt, "memory").as_str(), text);
+    let params = template(alloc).expect(&rt, "memory");
+    for (param, text) in params.iter().zip(["f32", "4", "read_write"]) {
+        assert_text(&rt, alloc, param, text);
     }
+    drop(params);
+}
+
+/// Asserts the text of the call without a template.
+fn assert_call_text(rt: &impl Abort, alloc: Global, name: &str, args: Vec<Type>, text: &str) {
+    let signature = call(alloc, name, None, args).expect(rt, "memory");
+    assert_text(rt, alloc, &signature, text);
+    drop(signature);
 }
 
 #[test]
 fn texts_of_call_signatures(rt: HostRuntime) {
     let alloc = rt.alloc();
-    let without = call(alloc, "f", None, Vec::new(alloc)).expect(&rt, "memory");
-    assert_eq!(rt;
-        without.to_string(alloc).expect(&rt, "memory").as_str(),
-        "f()"
-    );
-    let arguments = call(
+    assert_call_text(&rt, alloc, "f", Vec::new(alloc), "f()");
+    let args = vec![in alloc; Type::U32, Type::AbstractInt].expect(&rt, "memory");
+    assert_call_text(&rt, alloc, "min", args, "min(u32, AbstractInt)");
+    let templated = templated(alloc).expect(&rt, "memory");
+    assert_text(
+        &rt,
         alloc,
-        "min",
-        None,
-        vec![in alloc; Type::U32, Type::AbstractInt].expect(&rt, "memory"),
-    )
-    .expect(&rt, "memory");
-    assert_eq!(rt;
-        arguments.to_string(alloc).expect(&rt, "memory").as_str(),
-        "min(u32, AbstractInt)"
+        &templated,
+        "f<f32, 4, read_write>(u32, vec2<i32>)",
     );
-    let text = "f<f32, 4, read_write>(u32, vec2<i32>)";
-    assert_eq!(rt;
-        templated(alloc)
-            .expect(&rt, "memory")
-            .to_string(alloc)
-            .expect(&rt, "memory")
-            .as_str(),
-        text
-    );
-    drop((without, arguments));
+    drop(templated);
 }
 
 #[test]
@@ -79,7 +74,7 @@ fn copies_of_template_arguments_are_equal(rt: HostRuntime) {
     for (i, param) in params.iter().enumerate() {
         assert_is(&rt, param, param.clone(alloc).expect(&rt, "memory"));
         for (j, other) in params.iter().enumerate() {
-            assert_eq!(rt; param == other, i == j);
+            assert_same(&rt, (i, j, param == other), (i, j, i == j));
         }
     }
     drop(params);
@@ -95,13 +90,14 @@ fn signatures_differ_in_name_template_and_arguments(rt: HostRuntime) {
         signature.clone(alloc).expect(&rt, "memory"),
     );
     let mut other = signature.clone(alloc).expect(&rt, "memory");
-    other.name = format!(in alloc; "g").expect(&rt, "memory");
-    assert_ne!(rt; other, signature);
+    let name = format!(in alloc; "g").expect(&rt, "memory");
+    drop(mem::replace(&mut other.name, name));
+    assert_is_not(&rt, &signature, other);
     let mut other = signature.clone(alloc).expect(&rt, "memory");
-    other.tplt = None;
-    assert_ne!(rt; other, signature);
+    drop(mem::replace(&mut other.tplt, None));
+    assert_is_not(&rt, &signature, other);
     let mut other = signature.clone(alloc).expect(&rt, "memory");
-    other.args = Vec::new(alloc);
-    assert_ne!(rt; other, signature);
-    drop((signature, other));
+    drop(mem::replace(&mut other.args, Vec::new(alloc)));
+    assert_is_not(&rt, &signature, other);
+    drop(signature);
 }

@@ -2,7 +2,7 @@
 
 use crate::tests::asserts::assert_is;
 use crate::tests::samples::{
-    abstract_array, abstract_vector, array_of, pair_value, storable, vector_of,
+    abstract_array, abstract_vector, array_of, both, pair_value, storable, vector_of,
 };
 use std::alloc::{AllocError, Global};
 use std::process::Abort;
@@ -49,16 +49,16 @@ fn a_converted_array_wants_memory_or_is_whole(rt: HostRuntime) {
 
 /// A vector of AbstractInt and one of u32.
 fn vectors(rt: &impl Abort, alloc: Global) -> Result<(Instance, Instance), AllocError> {
-    let any = Instance::from(abstract_vector(rt, alloc, &[1, 2])?);
-    let typed = Instance::from(vector_of(rt, alloc, &[3, 4])?);
-    Ok((any, typed))
+    let any = abstract_vector(rt, alloc, &[1, 2]);
+    let (any, typed) = both(any, vector_of(rt, alloc, &[3, 4]))?;
+    Ok((Instance::from(any), Instance::from(typed)))
 }
 
 /// The same vectors, both of u32.
 fn typed_vectors(rt: &impl Abort, alloc: Global) -> Result<(Instance, Instance), AllocError> {
-    let first = Instance::from(vector_of(rt, alloc, &[1, 2])?);
-    let second = Instance::from(vector_of(rt, alloc, &[3, 4])?);
-    Ok((first, second))
+    let first = vector_of(rt, alloc, &[1, 2]);
+    let (first, second) = both(first, vector_of(rt, alloc, &[3, 4]))?;
+    Ok((Instance::from(first), Instance::from(second)))
 }
 
 #[test]
@@ -99,16 +99,14 @@ fn a_converted_list_of_values_wants_memory_or_is_whole(rt: HostRuntime) {
 
 /// The types of a vector of AbstractInt and of one of u32.
 fn vector_types(alloc: Global) -> Result<(Type, Type), AllocError> {
-    let any = vector(alloc, 2, Type::AbstractInt)?;
-    let typed = vector(alloc, 2, Type::U32)?;
-    Ok((any, typed))
+    let any = vector(alloc, 2, Type::AbstractInt);
+    both(any, vector(alloc, 2, Type::U32))
 }
 
 /// The same types, both of u32.
 fn typed_vector_types(alloc: Global) -> Result<(Type, Type), AllocError> {
-    let first = vector(alloc, 2, Type::U32)?;
-    let second = vector(alloc, 2, Type::U32)?;
-    Ok((first, second))
+    let first = vector(alloc, 2, Type::U32);
+    both(first, vector(alloc, 2, Type::U32))
 }
 
 #[test]
