@@ -95,28 +95,30 @@ fn assert_makes(rt: &impl Abort, alloc: Global, session: &mut Session, call: Cal
 #[test]
 fn an_accepted_call_wants_memory_or_is_made(rt: HostRuntime) {
     let alloc = rt.alloc();
-    let session = &mut Session::new(alloc);
-    assert_makes(&rt, alloc, session, new(&rt, alloc, 1), 0);
-    assert_makes(&rt, alloc, session, Call::NewOf(0, Function, ReadWrite), 1);
+    let mut session = Session::new(alloc);
+    assert_makes(&rt, alloc, &mut session, new(&rt, alloc, 1), 0);
+    let held = Call::NewOf(0, Function, ReadWrite);
+    assert_makes(&rt, alloc, &mut session, held, 1);
     let member = Call::Member(0, text(&rt, alloc, "b"));
-    assert_makes(&rt, alloc, session, member, 2);
-    assert_makes(&rt, alloc, session, Call::Index(2, 2), 3);
+    assert_makes(&rt, alloc, &mut session, member, 2);
+    assert_makes(&rt, alloc, &mut session, Call::Index(2, 2), 3);
     let replace = Call::Replace(3, Instance::from(9u32));
     let old = value(Instance::from(4u32));
-    assert_call(&rt, alloc, session, replace, old);
+    assert_call(&rt, alloc, &mut session, replace, old);
     let wanted = value(three(&rt, alloc, 9));
-    assert_call(&rt, alloc, session, Call::Read(2), wanted);
+    assert_call(&rt, alloc, &mut session, Call::Read(2), wanted);
     let write = Call::Write(2, three(&rt, alloc, 4));
-    assert_call(&rt, alloc, session, write, Ok(Reply::Done));
+    assert_call(&rt, alloc, &mut session, write, Ok(Reply::Done));
     let wanted = value(Instance::from(pair_with(&rt, alloc, 1)));
-    assert_call(&rt, alloc, session, Call::Load(1), wanted);
+    assert_call(&rt, alloc, &mut session, Call::Load(1), wanted);
     let elements = Instance::from(array_of(&rt, alloc, &[10, 11, 12], true));
     let elements = Call::New(elements, Storage, ReadWrite);
-    assert_makes(&rt, alloc, session, elements, 4);
-    assert_makes(&rt, alloc, session, Call::Index(4, 1), 5);
-    assert_call(&rt, alloc, session, Call::Copy(5, 3), Ok(Reply::Done));
+    assert_makes(&rt, alloc, &mut session, elements, 4);
+    assert_makes(&rt, alloc, &mut session, Call::Index(4, 1), 5);
+    assert_call(&rt, alloc, &mut session, Call::Copy(5, 3), Ok(Reply::Done));
     let wanted = value(three(&rt, alloc, 11));
-    assert_call(&rt, alloc, session, Call::Load(2), wanted);
+    assert_call(&rt, alloc, &mut session, Call::Load(2), wanted);
+    drop(session);
 }
 
 /// A session with two cells of bytes, Pair(1u, vec3(2u, 3u, 4u)) and Pair(5u, vec3(2u, 3u, 4u)) of handles 0 and 1, and
