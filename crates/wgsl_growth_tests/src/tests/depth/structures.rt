@@ -7,6 +7,7 @@ ghost use Rattle.wgsl_values.specs.View.{value_of};
 use crate::tests::asserts::{assert_answer, assert_has, assert_is, assert_same};
 use crate::tests::depth::{assert_text, levels, nested, structure, structure_chain};
 use crate::tests::samples::{storable, text};
+use crate::tests::stores::{cell_with, read, write};
 use std::alloc::Global;
 use std::mem;
 use std::process::Abort;
@@ -54,10 +55,10 @@ fn copies_types_and_texts(rt: HostRuntime) {
     let other = in_structures(&rt, alloc, depth, 2);
     let ty = structure_chain(&rt, alloc, depth, Type::U32);
     assert_is(&rt, made!(&rt; value.clone(alloc)), &value);
-    assert!(rt; value != other);
+    assert_same(&rt, value != other, true);
     assert_is(&rt, made!(&rt; value.ty(alloc)), &ty);
-    assert!(rt; value.has_ty(&ty));
-    assert!(rt; value.is_convertible_to(&ty));
+    assert_same(&rt, value.has_ty(&ty), true);
+    assert_same(&rt, value.is_convertible_to(&ty), true);
     let answer = made!(&rt; value.convert_to(alloc, &ty));
     assert_answer(&rt, answer, Some(&value));
     let wanted = nested(&rt, alloc, depth, ["S(", "1u", ")"]);
@@ -102,15 +103,12 @@ fn a_cell_of_structures(rt: HostRuntime) {
     let depth = levels(&rt) / 8;
     let mut store = Store::new(alloc);
     let value = in_structures(&rt, alloc, depth, 1);
-    assert!(rt; store.holds_value(&value));
-    let whole = made!(&rt; RefInstance::new(alloc, &mut store, value, Storage, ReadWrite));
+    let whole = cell_with(&rt, alloc, &mut store, value);
     let next = in_structures(&rt, alloc, depth, 2);
-    assert!(rt; store.holds(&whole));
-    assert!(rt; store.holds_value(&next));
-    assert_same(&rt, whole.write(alloc, &mut store, next), Ok(()));
-    assert!(rt; store.holds(&whole));
+    let written = write(&rt, alloc, &mut store, &whole, next);
+    assert_same(&rt, written, Ok(()));
     let wanted = in_structures(&rt, alloc, depth, 2);
-    assert_same(&rt, made!(&rt; whole.read(alloc, &store)), wanted);
+    assert_same(&rt, read(&rt, alloc, &store, &whole), wanted);
     drop((store, whole));
 }
 
@@ -122,8 +120,8 @@ fn types_that_are_shared(rt: HostRuntime) {
     let other = structure(&rt, alloc, structure_chain(&rt, alloc, around, Type::I32));
     let own = SharedStructType::own(ty);
     let copy = made!(&rt; own.clone(alloc));
-    assert!(rt; copy == own);
-    assert!(rt; own.is_type(copy.get()));
-    assert!(rt; !own.is_type(&other));
+    assert_same(&rt, &copy, &own);
+    assert_same(&rt, own.is_type(copy.get()), true);
+    assert_same(&rt, own.is_type(&other), false);
     drop((own, copy, other));
 }

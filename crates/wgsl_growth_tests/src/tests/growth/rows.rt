@@ -2,8 +2,8 @@
 
 use crate::tests::asserts::assert_answer;
 use crate::tests::samples::{
-    array, array_from, array_of, member, of_two, pair_with, two_elements, two_members, vector,
-    vector_of,
+    array, array_from, array_of, member, of_two, pair_with, storable, two_elements, two_members,
+    vector, vector_of,
 };
 use std::alloc::Global;
 use std::process::Abort;
@@ -56,45 +56,45 @@ fn two_vectors(rt: &impl Abort, alloc: Global) -> Instance {
     Instance::from(two_elements(rt, alloc, first, vector_of(rt, alloc, &[4, 5, 6])))
 }
 
+/// Asserts what the bytes are read as.
+fn assert_read(rt: &impl Abort, alloc: Global, bytes: &[u8], ty: &Type, wanted: Option<&Instance>) {
+    let read = answer_of!(rt; Instance::from_buffer(alloc, bytes, ty));
+    assert_answer(rt, read, wanted);
+}
+
 /// Asserts that the words, each little-endian, are the bytes of the value, and lay it out.
-fn assert_laid_out(rt: &impl Abort, alloc: Global, value: &Instance, words: &[u32]) {
-    assert!(rt; value.is_storable());
-    assert!(rt; value.is_well_formed());
+fn assert_laid_out(rt: &impl Abort, alloc: Global, value: Instance, words: &[u32]) {
+    let value = storable(rt, value);
     let bytes = made!(rt; bytes_of(alloc, words));
     let buffer = answer_of!(rt; value.to_buffer(alloc));
     assert_answer(rt, buffer, Some(&bytes));
     let ty = made!(rt; value.ty(alloc));
-    let read = answer_of!(rt; Instance::from_buffer(alloc, &bytes, &ty));
-    assert_answer(rt, read, Some(value));
-    drop(ty);
+    assert_read(rt, alloc, &bytes, &ty, Some(&value));
+    drop((ty, value));
 }
 
 #[test]
 fn values_and_their_bytes(rt: HostRuntime) {
     let alloc = rt.alloc();
-    let rows: [(Instance, &[u32]); 7] = [
-        (
-            Instance::from(pair_with(&rt, alloc, 1)),
-            &[1, 0, 0, 0, 2, 3, 4, 0],
-        ),
-        (two_vectors(&rt, alloc), &[1, 2, 3, 0, 4, 5, 6, 0]),
-        (
-            elements_behind_a_vector(&rt, alloc, &[5, 6]),
-            &[1, 2, 3, 4, 5, 6],
-        ),
-        (pairs_behind_a_scalar(&rt, alloc), &[1, 0, 2, 3]),
-        (
-            Instance::from(array_of(&rt, alloc, &[10, 11, 12], true)),
-            &[10, 11, 12],
-        ),
-        (Instance::from(vector_of(&rt, alloc, &[5, 6])), &[5, 6]),
-        (sized(&rt, alloc), &[1, 0, 0, 0, 2]),
-    ];
-    for (value, words) in &rows {
-        assert_laid_out(&rt, alloc, value, words);
-    }
-    drop(rows);
+    let pair = Instance::from(pair_with(&rt, alloc, 1));
+    assert_laid_out(&rt, alloc, pair, &[1, 0, 0, 0, 2, 3, 4, 0]);
+    let vectors = two_vectors(&rt, alloc);
+    assert_laid_out(&rt, alloc, vectors, &[1, 2, 3, 0, 4, 5, 6, 0]);
+    let elements = elements_behind_a_vector(&rt, alloc, &[5, 6]);
+    assert_laid_out(&rt, alloc, elements, &[1, 2, 3, 4, 5, 6]);
+    let pairs = pairs_behind_a_scalar(&rt, alloc);
+    assert_laid_out(&rt, alloc, pairs, &[1, 0, 2, 3]);
+    let array = Instance::from(array_of(&rt, alloc, &[10, 11, 12], true));
+    assert_laid_out(&rt, alloc, array, &[10, 11, 12]);
+    let vector = Instance::from(vector_of(&rt, alloc, &[5, 6]));
+    assert_laid_out(&rt, alloc, vector, &[5, 6]);
+    assert_laid_out(&rt, alloc, sized(&rt, alloc), &[1, 0, 0, 0, 2]);
 }
+
+/// The bytes of six words, of which `elements_behind_a_vector` of 5u has the first five.
+const SIX_WORDS: [u8; 24] = [
+    1, 0, 0, 0, 2, 0, 0, 0, 3, 0, 0, 0, 4, 0, 0, 0, 5, 0, 0, 0, 6, 0, 0, 0,
+];
 
 #[test]
 fn as_many_elements_as_there_are_bytes(rt: HostRuntime) {
@@ -102,27 +102,18 @@ fn as_many_elements_as_there_are_bytes(rt: HostRuntime) {
     let ty = Type::Struct(made!(&rt; Box::new(alloc, behind_a_vector(&rt, alloc))));
     let one = elements_behind_a_vector(&rt, alloc, &[5]);
     let two = elements_behind_a_vector(&rt, alloc, &[5, 6]);
-    let bytes = made!(&rt; bytes_of(alloc, &[1, 2, 3, 4, 5, 6]));
-    for (len, wanted) in [
-        (19, None),
-        (20, Some(&one)),
-        (23, Some(&one)),
-        (24, Some(&two)),
-    ] {
-        let bytes = bytes.get(..len).expect(&rt, "as many bytes");
-        let read = answer_of!(&rt; Instance::from_buffer(alloc, bytes, &ty));
-        assert_answer(&rt, read, wanted);
-    }
+    assert_read(&rt, alloc, &SIX_WORDS[..19], &ty, None);
+    assert_read(&rt, alloc, &SIX_WORDS[..20], &ty, Some(&one));
+    assert_read(&rt, alloc, &SIX_WORDS[..23], &ty, Some(&one));
+    assert_read(&rt, alloc, &SIX_WORDS, &ty, Some(&two));
     drop((ty, one, two));
 }
 
 #[test]
 fn no_pair_behind_a_scalar_in_fifteen_bytes(rt: HostRuntime) {
     let alloc = rt.alloc();
-    let value = pairs_behind_a_scalar(&rt, alloc);
-    assert!(rt; value.is_well_formed());
+    let value = storable(&rt, pairs_behind_a_scalar(&rt, alloc));
     let ty = made!(&rt; value.ty(alloc));
-    let none = answer_of!(&rt; Instance::from_buffer(alloc, &[0u8; 15], &ty));
-    assert_answer(&rt, none, None);
+    assert_read(&rt, alloc, &[0u8; 15], &ty, None);
     drop((value, ty));
 }

@@ -27,7 +27,7 @@ fn structures_arrays_and_vectors_are_made(rt: HostRuntime) {
         array_of(&rt, alloc, &[1, 2], true),
     );
     let (components, two) = (numbers(&rt, alloc, &[1, 2]), vector_of(&rt, alloc, &[1, 2]));
-    assert!(rt; !StructInstance::can_make(&ty, &elements));
+    assert_same(&rt, StructInstance::can_make(&ty, &elements), false);
     assert!(rt; StructInstance::can_make(&ty, &members));
     assert_is(&rt, StructInstance::new(ty, members), &pair);
     assert!(rt; ArrayInstance::can_make(&elements, true));
@@ -88,48 +88,38 @@ fn each_sort_becomes_a_value(rt: HostRuntime) {
     assert_same(&rt, Instance::from(Type::U32).is_storable(), false);
 }
 
-/// Values, the type of each, and whether it converts to a vector of two i32.
-fn rows(rt: &impl Abort, alloc: Global) -> [(Instance, Type, bool); 6] {
-    let elements = Instance::from(array_of(rt, alloc, &[1, 2, 3], true));
-    let integers = Instance::from(abstract_vector(rt, alloc, &[1, 2]));
-    [
-        (Instance::from(7u32), Type::U32, false),
-        (
-            Instance::from(pair_with(rt, alloc, 1)),
-            pair(rt, alloc),
-            false,
-        ),
-        (elements, array(rt, alloc, Type::U32, None), false),
-        (integers, vector(rt, alloc, 2, Type::AbstractInt), true),
-        (
-            Instance::from(mat2x3(rt, alloc)),
-            matrix(rt, alloc, Type::U32),
-            false,
-        ),
-        (
-            Instance::from(atomic_of(rt, alloc, 5)),
-            atomic(rt, alloc, Type::U32),
-            false,
-        ),
-    ]
+/// Asserts that the value has the type and not the target, and whether it converts to that.
+fn assert_tested(rt: &impl Abort, value: Instance, ty: Type, target: &Type, converts: bool) {
+    let value = storable(rt, value);
+    assert_same(rt, value.has_ty(&ty), true);
+    assert_same(rt, value.has_ty(target), false);
+    assert_same(rt, value.is_convertible_to(target), converts);
+    drop((value, ty));
 }
 
 #[test]
 fn values_are_tested(rt: HostRuntime) {
     let alloc = rt.alloc();
-    let rows = rows(&rt, alloc);
     let target = vector(&rt, alloc, 2, Type::I32);
     let deferred = Instance::from(pair(&rt, alloc));
-    for (value, ty, converts) in &rows {
-        assert!(rt; value.is_storable());
-        assert!(rt; value.is_well_formed());
-        assert!(rt; value.has_ty(ty));
-        assert!(rt; !value.has_ty(&target));
-        assert_eq!(rt; value.is_convertible_to(&target), *converts);
-    }
-    assert!(rt; deferred.is_well_formed());
-    assert!(rt; !deferred.is_storable());
-    drop((rows, target, deferred));
+    let (one, of_pairs) = (Instance::from(pair_with(&rt, alloc, 1)), pair(&rt, alloc));
+    let elements = Instance::from(array_of(&rt, alloc, &[1, 2, 3], true));
+    let of_elements = array(&rt, alloc, Type::U32, None);
+    let integers = Instance::from(abstract_vector(&rt, alloc, &[1, 2]));
+    let of_integers = vector(&rt, alloc, 2, Type::AbstractInt);
+    let columns = Instance::from(mat2x3(&rt, alloc));
+    let of_columns = matrix(&rt, alloc, Type::U32);
+    let five = Instance::from(atomic_of(&rt, alloc, 5));
+    let of_five = atomic(&rt, alloc, Type::U32);
+    assert_tested(&rt, Instance::from(7u32), Type::U32, &target, false);
+    assert_tested(&rt, one, of_pairs, &target, false);
+    assert_tested(&rt, elements, of_elements, &target, false);
+    assert_tested(&rt, integers, of_integers, &target, true);
+    assert_tested(&rt, columns, of_columns, &target, false);
+    assert_tested(&rt, five, of_five, &target, false);
+    assert_same(&rt, deferred.is_well_formed(), true);
+    assert_same(&rt, deferred.is_storable(), false);
+    drop((target, deferred));
 }
 
 #[test]
@@ -141,9 +131,9 @@ fn payloads_are_taken_out(rt: HostRuntime) {
     );
     let mut value = Instance::Vec(vector_of(&rt, alloc, &[1, 2]));
     let seven = Instance::Literal(U32(7));
-    assert_eq!(rt; seven.unwrap_literal_ref(), &U32(7));
-    assert_eq!(rt; seven.unwrap_literal(), U32(7));
-    assert!(rt; value.unwrap_vec_ref() == &first);
+    assert_same(&rt, seven.unwrap_literal_ref(), &U32(7));
+    assert_same(&rt, seven.unwrap_literal(), U32(7));
+    assert_same(&rt, value.unwrap_vec_ref(), &first);
     if let Some(second) = value.unwrap_vec_mut().get_mut(1) {
         drop(mem::replace(second, Instance::from(9u32)));
     }
