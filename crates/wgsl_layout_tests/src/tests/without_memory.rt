@@ -11,7 +11,6 @@ ghost use Rattle.wgsl_rules.specs.Values.{type_of};
 ghost use Rattle.wgsl_scalar.specs.Literals.{literal_of};
 ghost use Rattle.wgsl_values.specs.View.{steps_of, value_of};
 
-use crate::tests::asserts::assert_same;
 use crate::tests::rows::{bytes_of, columns, number, type_of, view_of};
 use crate::tests::samples::{SCENE, scene_cell};
 use std::alloc::Global;
@@ -38,8 +37,8 @@ impl Held {
         }
     }
 
-    /// Asserts that the cell has the bytes that it had, but these from `start` on.
-    fn assert_has(&mut self, rt: &impl Abort, start: usize, bytes: &[u8]) {
+    /// Asserts that behind the row the cell has the bytes that it had, but these from `start` on.
+    fn assert_has(&mut self, rt: &impl Abort, start: usize, bytes: &[u8], line: &str) {
         for (i, byte) in bytes.iter().enumerate() {
             match self.wanted.get_mut(start.saturating_add(i)) {
                 Some(place) => *place = *byte,
@@ -47,7 +46,7 @@ impl Held {
             }
         }
         let bytes = self.cell.bytes_at(&MemView::Whole);
-        assert_same(rt, bytes, self.wanted.as_slice());
+        assert!(rt; bytes == self.wanted.as_slice(), "{line}: {bytes:?}");
     }
 }
 
@@ -103,9 +102,9 @@ fn assert_puts(rt: &impl Abort, alloc: Global, held: &mut Held, line: &str) {
     assert!(rt; fits == (start != "misfit"), "{line}");
     assert!(rt; held.cell.put(&view, &value) == fits, "{line}");
     if fits {
-        held.assert_has(rt, number(rt, start), &own);
+        held.assert_has(rt, number(rt, start), &own, line);
     } else {
-        held.assert_has(rt, 0, &[]);
+        held.assert_has(rt, 0, &[], line);
     }
     drop((view, value, own));
 }
@@ -192,9 +191,9 @@ fn assert_writes(rt: &impl Abort, alloc: Global, held: &mut Held, line: &str) {
         "{line}"
     );
     if came == "Done" {
-        held.assert_has(rt, number(rt, start), &own);
+        held.assert_has(rt, number(rt, start), &own, line);
     } else {
-        held.assert_has(rt, 0, &[]);
+        held.assert_has(rt, 0, &[], line);
     }
     drop((reference, bytes, own));
 }
@@ -293,7 +292,7 @@ fn assert_copies(rt: &impl Abort, alloc: Global, held: &mut Held, other: &Held, 
         (own, copy_from(rt, &mut held.cell, &other.cell, &from, &to))
     };
     assert!(rt; came == wanted, "{line}");
-    held.assert_has(rt, second, &own);
+    held.assert_has(rt, second, &own, line);
     drop((from, to, own));
 }
 
@@ -428,7 +427,7 @@ fn assert_puts_number(rt: &impl Abort, alloc: Global, held: &mut Held, line: &st
         "part" => put_number(rt, alloc, &mut held.cell, &view, number_put),
         _ => put_second(rt, alloc, &mut held.cell, &view, number_put),
     }
-    held.assert_has(rt, number(rt, start), &own);
+    held.assert_has(rt, number(rt, start), &own, line);
     drop((view, value, own));
 }
 
