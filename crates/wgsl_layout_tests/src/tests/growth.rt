@@ -12,8 +12,9 @@ use std::process::Abort;
 use std::sync::Arc;
 use wgsl_layout::{FlatCell, FlatPart, Layout, read_buffer};
 use wgsl_rules::Type;
+use wgsl_samples::atomics::flagged;
 use wgsl_scalar::Error;
-use wgsl_values::{Instance, MemView};
+use wgsl_values::MemView;
 
 /// Words of a type, the text of the value, `none` where there is none, the bytes that lay it out, and more bytes behind
 /// them.
@@ -117,11 +118,11 @@ fn values_and_their_bytes(rt: HostRuntime) {
 #[test]
 fn a_value_of_a_type_without_layout_has_no_cell(rt: HostRuntime) {
     let alloc = rt.alloc();
-    let truth = Instance::from(true);
-    assert!(rt; truth.is_storable());
-    let made = answer_of!(&rt; FlatCell::new(alloc, &truth));
+    let flagged = made!(&rt; flagged(alloc, 7, &[1])).expect(&rt, "a value");
+    assert!(rt; flagged.is_storable());
+    let made = answer_of!(&rt; FlatCell::new(alloc, &flagged));
     assert!(rt; made.is_none());
-    drop((truth, made));
+    drop((flagged, made));
 }
 
 /// The way to a part of a `Scene`, words of its type, where its bytes begin and how many they are, whether it is a vector,
