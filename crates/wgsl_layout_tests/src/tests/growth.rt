@@ -5,15 +5,16 @@ ghost use Rattle.std.specs.Prelude.{IfSome};
 ghost use Rattle.wgsl_layout.specs.FlatCells.{IsFlatPart};
 
 use crate::tests::asserts::{assert_same, assert_text};
-use crate::tests::rows::{bytes_of, columns, number, type_of, view_of};
+use crate::tests::rows::{bytes_of, columns, number, slice_at, type_of, view_of};
 use crate::tests::samples::{SCENE, scene_cell};
 use std::alloc::Global;
 use std::process::Abort;
 use std::sync::Arc;
 use wgsl_layout::{FlatCell, FlatPart, Layout, read_buffer};
 use wgsl_rules::Type;
+use wgsl_samples::atomics::flagged;
 use wgsl_scalar::Error;
-use wgsl_values::{Instance, MemView};
+use wgsl_values::MemView;
 
 /// Words of a type, the text of the value, `none` where there is none, the bytes that lay it out, and more bytes behind
 /// them.
@@ -117,11 +118,11 @@ fn values_and_their_bytes(rt: HostRuntime) {
 #[test]
 fn a_value_of_a_type_without_layout_has_no_cell(rt: HostRuntime) {
     let alloc = rt.alloc();
-    let truth = Instance::from(true);
-    assert!(rt; truth.is_storable());
-    let made = answer_of!(&rt; FlatCell::new(alloc, &truth));
+    let flagged = made!(&rt; flagged(alloc, 7, &[1])).expect(&rt, "a value");
+    assert!(rt; flagged.is_storable());
+    let made = answer_of!(&rt; FlatCell::new(alloc, &flagged));
     assert!(rt; made.is_none());
-    drop((truth, made));
+    drop((flagged, made));
 }
 
 /// The way to a part of a `Scene`, words of its type, where its bytes begin and how many they are, whether it is a vector,
@@ -152,10 +153,11 @@ fn stepped<'a>(whole: FlatPart<'a>, steps: &str) -> Option<FlatPart<'a>>
 {
     let mut part = whole;
     for step in steps.split('.').filter(|step| !step.is_empty()) {
-        part = match step.parse::<usize>() {
-            Ok(i) => part.index(i)?,
-            Err(_) => part.member(step)?,
+        let next = match step.parse::<usize>() {
+            Ok(i) => part.index(i),
+            Err(_) => part.member(step),
         };
+        part = next?;
     }
     Some(part)
 }
@@ -174,6 +176,17 @@ fn sort_of(rt: &impl Abort, alloc: Global, part: FlatPart<'_>) -> String
     made!(rt; sort)
 }
 
+/// Asserts where the bytes of the part stand, by the place in the row.
+fn assert_lends(rt: &impl Abort, cell: &FlatCell, view: &MemView, bytes: &[u8], place: &str) {
+    let (start, len) = place.split_once(' ').expect(rt, "a place");
+    let (start, len) = (number(rt, start), number(rt, len));
+    assert!(rt; cell.whole().viewed(view).is_some());
+    let own = slice_at(rt, bytes, start, len);
+    assert_same(rt, cell.bytes_at(view), own);
+    let from = slice_at(rt, bytes, start, bytes.len().saturating_sub(start));
+    assert_same(rt, cell.bytes_from(view), from);
+}
+
 /// Asserts what the row says of the part of the cell.
 fn assert_part(rt: &impl Abort, alloc: Global, cell: &FlatCell, bytes: &[u8], line: &str) {
     let [steps, words, place, sort, text] = columns(line);
@@ -182,18 +195,21 @@ fn assert_part(rt: &impl Abort, alloc: Global, cell: &FlatCell, bytes: &[u8], li
     let part = cell.whole().viewed(&view).expect(rt, "a part");
     assert!(rt; part.has_ty(&ty), "{line}");
     assert_same(rt, sort_of(rt, alloc, part).as_str(), sort);
-    let (start, len) = place.split_once(' ').expect(rt, "a place");
-    let (_, from) = bytes
-        .split_at_checked(number(rt, start))
-        .expect(rt, "a place");
-    let (own, _) = from.split_at_checked(number(rt, len)).expect(rt, "a place");
-    assert_same(rt, cell.bytes_from(&view), from);
-    assert_same(rt, cell.bytes_at(&view), own);
+    assert_lends(rt, cell, &view, bytes, place);
     let part = stepped(cell.whole(), steps).expect(rt, "a part");
     let value = answer_of!(rt; part.value(alloc));
     assert_text(rt, alloc, &value, text);
     assert_same(rt, answer_of!(rt; part.ty(alloc)), ty);
     drop((view, value));
+}
+
+/// Asserts that the steps lead to no part.
+fn assert_nowhere(rt: &impl Abort, alloc: Global, cell: &FlatCell, steps: &str) {
+    let view = view_of(rt, alloc, steps);
+    let is_none = cell.whole().viewed(&view).is_none();
+    drop(view);
+    assert!(rt; is_none, "{steps}");
+    assert!(rt; stepped(cell.whole(), steps).is_none(), "{steps}");
 }
 
 #[test]
@@ -205,13 +221,7 @@ fn parts_of_a_cell(rt: HostRuntime) {
         assert_part(&rt, alloc, &cell, &bytes, line);
     }
     for steps in NOWHERE.split(' ') {
-        let view = view_of(&rt, alloc, steps);
-        let whole = cell.whole();
-        assert!(rt;
-            whole.viewed(&view).is_none() && stepped(whole, steps).is_none(),
-            "{steps}"
-        );
-        drop(view);
+        assert_nowhere(&rt, alloc, &cell, steps);
     }
     drop((cell, bytes));
 }

@@ -67,7 +67,6 @@ fn named(rt: &impl Abort, alloc: Global, word: &str) -> Type {
         "i64" => Type::I64,
         "u64" => Type::U64,
         "Pair" => made!(rt; pair(alloc)),
-        "Scene" => made!(rt; scene(alloc)),
         _ => panic!(rt; "{word} is no type"),
     }
 }
@@ -85,11 +84,27 @@ fn made_of(alloc: Global, word: &str, ty: Type) -> Result<Type, AllocError> {
 }
 
 /// The type of the words, the last of which is its innermost type, as `array vec3 u32`.
-pub(super) fn type_of(rt: &impl Abort, alloc: Global, words: &str) -> Type {
+pub(super) fn type_in(rt: &impl Abort, alloc: Global, words: &str) -> Type {
     let mut words = words.rsplit(' ');
     let mut ty = named(rt, alloc, words.next().unwrap_or(""));
     for word in words {
         ty = made!(rt; made_of(alloc, word, ty));
     }
     ty
+}
+
+/// The same, where the words may be `Scene`.
+pub(super) fn type_of(rt: &impl Abort, alloc: Global, words: &str) -> Type {
+    if words == "Scene" {
+        scene(rt, alloc)
+    } else {
+        type_in(rt, alloc, words)
+    }
+}
+
+/// So many of the bytes, from `start` on.
+pub(super) fn slice_at<'a>(rt: &impl Abort, bytes: &'a [u8], start: usize, len: usize) -> &'a [u8] {
+    let (_, from) = bytes.split_at_checked(start).expect(rt, "a place");
+    let (own, _) = from.split_at_checked(len).expect(rt, "a place");
+    own
 }

@@ -11,7 +11,7 @@ ghost use Rattle.wgsl_rules.specs.Values.{type_of};
 ghost use Rattle.wgsl_scalar.specs.Literals.{literal_of};
 ghost use Rattle.wgsl_values.specs.View.{steps_of, value_of};
 
-use crate::tests::rows::{bytes_of, columns, number, type_of, view_of};
+use crate::tests::rows::{bytes_of, columns, number, slice_at, type_of, view_of};
 use crate::tests::samples::{SCENE, scene_cell};
 use std::alloc::Global;
 use std::process::Abort;
@@ -268,12 +268,10 @@ fn copy_from(
     word_of(cell.copy_from(other, from, to))
 }
 
-/// A copy of the bytes from `start` on.
+/// A copy of so many of the bytes, from `start` on.
 fn copied(rt: &impl Abort, alloc: Global, bytes: &[u8], start: usize, len: usize) -> Vec<u8> {
-    let (_, from) = bytes.split_at_checked(start).expect(rt, "a place");
-    let (own, _) = from.split_at_checked(len).expect(rt, "a place");
-    let mut copied = made!(rt; Vec::with_capacity(alloc, len));
-    made!(rt; copied.extend_from_slice(own));
+    let mut copied = Vec::new(alloc);
+    made!(rt; copied.extend_from_slice(slice_at(rt, bytes, start, len)));
     copied
 }
 
