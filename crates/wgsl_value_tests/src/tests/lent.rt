@@ -19,6 +19,7 @@ use crate::tests::asserts::{assert_is, assert_text};
 use crate::tests::fixtures::{light, to_component, to_member, vector_of};
 use crate::tests::samples::storable;
 use std::alloc::Global;
+use std::mem;
 use std::process::Abort;
 use wgsl_rules::{Ty, Type};
 use wgsl_scalar::Error;
@@ -34,9 +35,8 @@ fn set_component(v: &mut VecInstance, i: usize)
     ensures well_formed { IsWellFormed (vec_view v.new) }
     ensures ty { type_of (vec_view v.new) ≡ types.vec 3 types.u32 }
 {
-    let nine = Instance::from(9u32);
     if let Some(place) = v.get_mut(i) {
-        *place = nine;
+        drop(mem::replace(place, Instance::from(9u32)));
     }
 }
 
@@ -47,9 +47,8 @@ fn set_element(a: &mut ArrayInstance, i: usize)
     ensures well_formed { IsWellFormed (array_view a.new) }
     ensures ty { type_of (array_view a.new) ≡ types.array types.u32 (Some 2) }
 {
-    let nine = Instance::from(9u32);
     if let Some(place) = a.get_mut(i) {
-        *place = nine;
+        drop(mem::replace(place, Instance::from(9u32)));
     }
 }
 
@@ -61,10 +60,9 @@ fn set_member(s: &mut StructInstance, name: &str)
     ensures storable { IsStorable (struct_view s.new) }
     ensures ty { type_of (struct_view s.new) ≡ type_of (struct_view s.old) }
 {
-    let nine = Instance::from(9u32);
     if let Some(place) = s.member_mut(name) {
         if place.has_ty(&Type::U32) {
-            *place = nine;
+            drop(mem::replace(place, Instance::from(9u32)));
         }
     }
 }
@@ -78,8 +76,9 @@ fn set_column(m: &mut MatInstance, i: usize, column: Instance)
     ensures well_formed { IsWellFormed (mat_view m.new) }
     ensures ty { type_of (mat_view m.new) ≡ types.mat 2 3 types.u32 }
 {
-    if let Some(place) = m.col_mut(i) {
-        *place = column;
+    match m.col_mut(i) {
+        Some(place) => drop(mem::replace(place, column)),
+        None => drop(column),
     }
 }
 
@@ -90,9 +89,8 @@ fn set_in_column(m: &mut MatInstance, column: usize, row: usize)
     ensures well_formed { IsWellFormed (mat_view m.new) }
     ensures ty { type_of (mat_view m.new) ≡ types.mat 2 3 types.u32 }
 {
-    let nine = Instance::from(9u32);
     if let Some(place) = m.get_mut(column, row) {
-        *place = nine;
+        drop(mem::replace(place, Instance::from(9u32)));
     }
 }
 
@@ -103,8 +101,7 @@ fn set_inner(a: &mut AtomicInstance)
     ensures well_formed { IsWellFormed (atomic_view a.new) }
     ensures ty { type_of (atomic_view a.new) ≡ types.atomic types.u32 }
 {
-    let nine = Instance::from(9u32);
-    *a.inner_mut() = nine;
+    drop(mem::replace(a.inner_mut(), Instance::from(9u32)));
 }
 
 /// Writes 9 in the place of the number that the view leads to.

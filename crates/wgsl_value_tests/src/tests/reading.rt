@@ -77,15 +77,16 @@ fn composite(rt: &impl Abort, alloc: Global, head: &str, inside: Type, behind: &
 
 /// The type of the text, as `array<vec2<i32>, 3>`; a reference or pointer is one to storage space, as `ref<u32, read>`.
 pub(super) fn ty(rt: &impl Abort, alloc: Global, text: &str) -> Type {
-    let (opening, closing) = text.split_once('>').unwrap_or((text, ""));
-    let mut heads = opening.rsplit('<');
-    let innermost = heads.next().expect(rt, "a type");
-    let (name, mut behind) = innermost.split_once(", ").unwrap_or((innermost, ""));
+    let Some((heads, inside)) = text.rsplit_once('<') else {
+        return plain(rt, alloc, text);
+    };
+    let (innermost, _) = parted(rt, inside, ">");
+    let (name, _) = innermost.split_once(',').unwrap_or((innermost, ""));
     let mut ty = plain(rt, alloc, name);
-    let mut others = closing.split('>');
-    for head in heads {
-        ty = composite(rt, alloc, head, ty, behind);
-        behind = others.next().unwrap_or("").trim_start_matches(", ");
+    let mut others = inside.strip_prefix(name).unwrap_or("").split('>');
+    for head in heads.rsplit('<') {
+        let behind = others.next().unwrap_or("");
+        ty = composite(rt, alloc, head, ty, behind.trim_start_matches(", "));
     }
     ty
 }

@@ -226,21 +226,30 @@ pub(super) fn light(rt: &impl Abort, alloc: Global) -> Result<Instance, AllocErr
     Ok(storable(rt, Instance::from(structure_from(rt, ty, members))))
 }
 
+/// Puts the value behind the others.
+fn push(values: &mut Vec<Instance>, value: Result<Instance, AllocError>) -> Result<(), AllocError> {
+    values.push(value?)?;
+    Ok(())
+}
+
 /// Nine values, one of each kind; the deferred one is last.
 pub(super) fn one_of_each_kind(
     rt: &impl Abort,
     alloc: Global,
 ) -> Result<Vec<Instance>, AllocError> {
-    let mut values = Vec::new(alloc);
-    values.push(Instance::from(7u32))?;
-    values.push(Instance::from(pair_value(rt, alloc)?))?;
-    values.push(Instance::from(array_of(rt, alloc, &[1, 2, 3], false)?))?;
-    values.push(Instance::from(vector_of(rt, alloc, &[1, 2, 3])?))?;
-    values.push(Instance::from(mat2x3(rt, alloc)?))?;
-    values.push(Instance::from(PtrInstance::from(reference_of(alloc)?)))?;
-    values.push(Instance::from(reference_of(alloc)?))?;
-    values.push(Instance::from(atomic_from(rt, alloc, Instance::from(5u32))?))?;
-    values.push(Instance::from(Type::U32))?;
+    let mut values = numbers(alloc, &[7])?;
+    push(&mut values, pair_value(rt, alloc).map(Instance::Struct))?;
+    let array = array_of(rt, alloc, &[1, 2, 3], false);
+    push(&mut values, array.map(Instance::Array))?;
+    let vector = vector_of(rt, alloc, &[1, 2, 3]);
+    push(&mut values, vector.map(Instance::Vec))?;
+    push(&mut values, mat2x3(rt, alloc).map(Instance::Mat))?;
+    let pointer = reference_of(alloc).map(PtrInstance::from);
+    push(&mut values, pointer.map(Instance::Ptr))?;
+    push(&mut values, reference_of(alloc).map(Instance::Ref))?;
+    let atomic = atomic_from(rt, alloc, Instance::from(5u32));
+    push(&mut values, atomic.map(Instance::Atomic))?;
+    push(&mut values, Ok(Instance::Deferred(Type::U32)))?;
     Ok(values)
 }
 

@@ -9,16 +9,20 @@ use wgsl_rules::{AccessMode, AddressSpace};
 /// A rule, with its code, its section and its words.
 type Rule = (ShareRule, &'static str, &'static str, &'static str);
 
-/// Asserts the codes, sections and words of the rules, and whether a type breaks them wherever it stands.
-fn assert_rules(rt: &impl Abort, alloc: Global, rules: &[Rule], is_of_each_type: bool) {
-    for (rule, code, section, words) in rules {
-        assert_same(rt, rule.code(), *code);
-        assert_row(rt, code, rule.section(), *section);
-        let text = rule.to_string(alloc).expect(rt, "memory");
-        assert_row(rt, code, text.as_str(), *words);
-        drop(text);
-        assert_row(rt, code, rule.is_of_each_type(), is_of_each_type);
-    }
+/// Asserts the code, the section and the words of the rule.
+fn assert_rule(
+    rt: &impl Abort,
+    alloc: Global,
+    rule: ShareRule,
+    code: &str,
+    section: &str,
+    words: &str,
+) {
+    assert_same(rt, rule.code(), code);
+    assert_row(rt, code, rule.section(), section);
+    let text = rule.to_string(alloc).expect(rt, "memory");
+    assert_row(rt, code, text.as_str(), words);
+    drop(text);
 }
 
 const EACH_TYPE: [Rule; 7] = [
@@ -68,7 +72,10 @@ const EACH_TYPE: [Rule; 7] = [
 
 #[test]
 fn rules_that_a_type_breaks_wherever_it_stands(rt: HostRuntime) {
-    assert_rules(&rt, rt.alloc(), &EACH_TYPE, true);
+    for (rule, code, section, words) in EACH_TYPE {
+        assert_rule(&rt, rt.alloc(), rule, code, section, words);
+        assert_row(&rt, code, rule.is_of_each_type(), true);
+    }
 }
 
 const IN_A_SPACE: [Rule; 5] = [
@@ -106,7 +113,10 @@ const IN_A_SPACE: [Rule; 5] = [
 
 #[test]
 fn rules_that_a_type_breaks_in_a_space(rt: HostRuntime) {
-    assert_rules(&rt, rt.alloc(), &IN_A_SPACE, false);
+    for (rule, code, section, words) in IN_A_SPACE {
+        assert_rule(&rt, rt.alloc(), rule, code, section, words);
+        assert_row(&rt, code, rule.is_of_each_type(), false);
+    }
 }
 
 const OF_VARIABLES: [Rule; 7] = [
@@ -156,7 +166,10 @@ const OF_VARIABLES: [Rule; 7] = [
 
 #[test]
 fn rules_that_variables_break(rt: HostRuntime) {
-    assert_rules(&rt, rt.alloc(), &OF_VARIABLES, false);
+    for (rule, code, section, words) in OF_VARIABLES {
+        assert_rule(&rt, rt.alloc(), rule, code, section, words);
+        assert_row(&rt, code, rule.is_of_each_type(), false);
+    }
 }
 
 /// No access mode, and each.

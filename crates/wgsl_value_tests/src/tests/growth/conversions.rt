@@ -1,5 +1,8 @@
 //! Conversions of values and types: want of memory is told as such, and never as no conversion.
 
+ghost use Rattle.std.specs.Prelude.{All};
+ghost use Rattle.wgsl_rules.specs.Values.{IsWellFormed};
+
 use crate::tests::asserts::assert_is;
 use crate::tests::samples::{
     abstract_array, abstract_vector, array_of, both, pair_value, storable, vector_of,
@@ -61,6 +64,21 @@ fn typed_vectors(rt: &impl Abort, alloc: Global) -> Result<(Instance, Instance),
     Ok((Instance::from(first), Instance::from(second)))
 }
 
+/// Asserts what two are in their common type.
+fn assert_two<T: Convert + PartialEq + Drop>(
+    rt: &impl Abort,
+    alloc: Global,
+    first: &T,
+    second: &T,
+    wanted: &(T, T),
+)
+    requires first { IsWellFormed (T.value_of first.now) }
+    requires second { IsWellFormed (T.value_of second.now) }
+{
+    assert!(rt; is(answer_of!(rt; convert(alloc, first, second)), wanted));
+    assert!(rt; is(answer_of!(rt; convert_inner(alloc, first, second)), wanted));
+}
+
 #[test]
 fn two_converted_values_want_memory_or_have_one_type(rt: HostRuntime) {
     let alloc = rt.alloc();
@@ -68,9 +86,28 @@ fn two_converted_values_want_memory_or_have_one_type(rt: HostRuntime) {
     let wanted = answer_of!(&rt; typed_vectors(&rt, alloc));
     let any = storable(&rt, any);
     let typed = storable(&rt, typed);
-    assert!(rt; is(answer_of!(&rt; convert(alloc, &any, &typed)), &wanted));
-    assert!(rt; is(answer_of!(&rt; convert_inner(alloc, &any, &typed)), &wanted));
+    assert_two(&rt, alloc, &any, &typed, &wanted);
     drop((any, typed, wanted));
+}
+
+/// Asserts what a list is in its common type, in the type, and with what is inside taken to u32.
+fn assert_all<T: Convert + PartialEq + Drop>(
+    rt: &impl Abort,
+    alloc: Global,
+    list: &[T],
+    ty: &Type,
+    wanted: &[T],
+)
+    requires { All (λ x. IsWellFormed (T.value_of x)) list.now }
+{
+    assert!(rt; is_list(answer_of!(rt; convert_all(alloc, list)), wanted));
+    assert!(rt; is_list(answer_of!(rt; convert_all_to(alloc, list, ty)), wanted));
+    assert!(rt;
+        is_list(
+            answer_of!(rt; convert_all_inner_to(alloc, list, &Type::U32)),
+            wanted
+        )
+    );
 }
 
 #[test]
@@ -81,19 +118,7 @@ fn a_converted_list_of_values_wants_memory_or_is_whole(rt: HostRuntime) {
     let ty = answer_of!(&rt; vector(alloc, 2, Type::U32));
     let values = [storable(&rt, any), storable(&rt, typed)];
     let wanted = [first, second];
-    assert!(rt; is_list(answer_of!(&rt; convert_all(alloc, &values)), &wanted));
-    assert!(rt;
-        is_list(
-            answer_of!(&rt; convert_all_to(alloc, &values, &ty)),
-            &wanted
-        )
-    );
-    assert!(rt;
-        is_list(
-            answer_of!(&rt; convert_all_inner_to(alloc, &values, &Type::U32)),
-            &wanted
-        )
-    );
+    assert_all(&rt, alloc, &values, &ty, &wanted);
     drop((values, wanted, ty));
 }
 
@@ -114,8 +139,7 @@ fn two_converted_types_want_memory_or_are_equal(rt: HostRuntime) {
     let alloc = rt.alloc();
     let (any, typed) = answer_of!(&rt; vector_types(alloc));
     let wanted = answer_of!(&rt; typed_vector_types(alloc));
-    assert!(rt; is(answer_of!(&rt; convert(alloc, &any, &typed)), &wanted));
-    assert!(rt; is(answer_of!(&rt; convert_inner(alloc, &any, &typed)), &wanted));
+    assert_two(&rt, alloc, &any, &typed, &wanted);
     drop((any, typed, wanted));
 }
 
@@ -124,22 +148,11 @@ fn a_converted_list_of_types_wants_memory_or_is_whole(rt: HostRuntime) {
     let alloc = rt.alloc();
     let (any, typed) = answer_of!(&rt; vector_types(alloc));
     let (first, second) = answer_of!(&rt; typed_vector_types(alloc));
+    let ty = answer_of!(&rt; vector(alloc, 2, Type::U32));
     let types = [any, typed];
     let wanted = [first, second];
-    assert!(rt; is_list(answer_of!(&rt; convert_all(alloc, &types)), &wanted));
-    assert!(rt;
-        is_list(
-            answer_of!(&rt; convert_all_to(alloc, &types, &wanted[1])),
-            &wanted
-        )
-    );
-    assert!(rt;
-        is_list(
-            answer_of!(&rt; convert_all_inner_to(alloc, &types, &Type::U32)),
-            &wanted
-        )
-    );
-    drop((types, wanted));
+    assert_all(&rt, alloc, &types, &ty, &wanted);
+    drop((types, wanted, ty));
 }
 
 #[test]
