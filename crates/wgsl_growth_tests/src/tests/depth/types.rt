@@ -101,19 +101,25 @@ fn rules_of_uniform_space(rt: HostRuntime) {
 }
 
 /// The place of the only member of a structure, which has four bytes.
-const PLACE: MemberLayout = MemberLayout {
+const PLACES: [MemberLayout; 1] = [MemberLayout {
     offset: Some(0),
     size: Some(4),
     align: Some(4),
     padding: Some(0),
-};
+}];
+
+/// What uniform space has against arrays of words.
+const FAULTS: [UniformFault; 1] = [UniformFault {
+    member: 0,
+    rule: UniformRule::Stride(4),
+}];
 
 /// Asserts what is told of a structure with one member of four bytes.
-fn assert_structure(rt: &impl Abort, alloc: Global, ty: &StructType, fault: Option<UniformFault>) {
+fn assert_structure(rt: &impl Abort, alloc: Global, ty: &StructType, wanted: &[UniformFault]) {
     let layouts = made!(rt; ty.member_layouts(alloc));
     let faults = made!(rt; ty.uniform_faults(alloc));
-    assert_same(rt, layouts.first().copied(), Some(PLACE));
-    assert_same(rt, faults.first().copied(), fault);
+    assert_same(rt, layouts.as_slice(), PLACES.as_slice());
+    assert_same(rt, faults.as_slice(), wanted);
     assert_same(rt, ty.size_of(), Some(4));
     assert_same(rt, ty.align_of(), Some(4));
     assert_same(rt, ty.size_with(7), Some(4));
@@ -132,12 +138,10 @@ fn structures_of_deep_members(rt: HostRuntime) {
     let alloc = rt.alloc();
     let around = levels(&rt).saturating_sub(1);
     let ty = structure(&rt, alloc, structure_chain(&rt, alloc, around, Type::U32));
-    assert_structure(&rt, alloc, &ty, None);
+    assert_structure(&rt, alloc, &ty, &[]);
     drop(ty);
     let ty = structure(&rt, alloc, arrays(&rt, alloc, around, Type::U32));
-    let rule = UniformRule::Stride(4);
-    let fault = UniformFault { member: 0, rule };
-    assert_structure(&rt, alloc, &ty, Some(fault));
+    assert_structure(&rt, alloc, &ty, &FAULTS);
     drop(ty);
 }
 

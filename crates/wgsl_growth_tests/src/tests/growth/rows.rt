@@ -56,10 +56,10 @@ fn two_vectors(rt: &impl Abort, alloc: Global) -> Instance {
     Instance::from(two_elements(rt, alloc, first, vector_of(rt, alloc, &[4, 5, 6])))
 }
 
-/// Asserts what the bytes are read as.
-fn assert_read(rt: &impl Abort, alloc: Global, bytes: &[u8], ty: &Type, wanted: Option<&Instance>) {
-    let read = answer_of!(rt; Instance::from_buffer(alloc, bytes, ty));
-    assert_answer(rt, read, wanted);
+/// What so many of the bytes are read as.
+fn read(rt: &impl Abort, alloc: Global, bytes: &[u8], len: usize, ty: &Type) -> Option<Instance> {
+    let bytes = bytes.get(..len).expect(rt, "as many bytes");
+    answer_of!(rt; Instance::from_buffer(alloc, bytes, ty))
 }
 
 /// Asserts that the words, each little-endian, are the bytes of the value, and lay it out.
@@ -69,7 +69,8 @@ fn assert_laid_out(rt: &impl Abort, alloc: Global, value: Instance, words: &[u32
     let buffer = answer_of!(rt; value.to_buffer(alloc));
     assert_answer(rt, buffer, Some(&bytes));
     let ty = made!(rt; value.ty(alloc));
-    assert_read(rt, alloc, &bytes, &ty, Some(&value));
+    let read = read(rt, alloc, &bytes, bytes.len(), &ty);
+    assert_answer(rt, read, Some(&value));
     drop((ty, value));
 }
 
@@ -91,22 +92,18 @@ fn values_and_their_bytes(rt: HostRuntime) {
     assert_laid_out(&rt, alloc, sized(&rt, alloc), &[1, 0, 0, 0, 2]);
 }
 
-/// The bytes of six words, of which `elements_behind_a_vector` of 5u has the first five.
-const SIX_WORDS: [u8; 24] = [
-    1, 0, 0, 0, 2, 0, 0, 0, 3, 0, 0, 0, 4, 0, 0, 0, 5, 0, 0, 0, 6, 0, 0, 0,
-];
-
 #[test]
 fn as_many_elements_as_there_are_bytes(rt: HostRuntime) {
     let alloc = rt.alloc();
     let ty = Type::Struct(made!(&rt; Box::new(alloc, behind_a_vector(&rt, alloc))));
     let one = elements_behind_a_vector(&rt, alloc, &[5]);
     let two = elements_behind_a_vector(&rt, alloc, &[5, 6]);
-    assert_read(&rt, alloc, &SIX_WORDS[..19], &ty, None);
-    assert_read(&rt, alloc, &SIX_WORDS[..20], &ty, Some(&one));
-    assert_read(&rt, alloc, &SIX_WORDS[..23], &ty, Some(&one));
-    assert_read(&rt, alloc, &SIX_WORDS, &ty, Some(&two));
-    drop((ty, one, two));
+    let bytes = made!(&rt; bytes_of(alloc, &[1, 2, 3, 4, 5, 6]));
+    assert_answer(&rt, read(&rt, alloc, &bytes, 19, &ty), None);
+    assert_answer(&rt, read(&rt, alloc, &bytes, 20, &ty), Some(&one));
+    assert_answer(&rt, read(&rt, alloc, &bytes, 23, &ty), Some(&one));
+    assert_answer(&rt, read(&rt, alloc, &bytes, 24, &ty), Some(&two));
+    drop((ty, one, two, bytes));
 }
 
 #[test]
@@ -114,6 +111,6 @@ fn no_pair_behind_a_scalar_in_fifteen_bytes(rt: HostRuntime) {
     let alloc = rt.alloc();
     let value = storable(&rt, pairs_behind_a_scalar(&rt, alloc));
     let ty = made!(&rt; value.ty(alloc));
-    assert_read(&rt, alloc, &[0u8; 15], &ty, None);
+    assert_answer(&rt, read(&rt, alloc, &[0u8; 15], 15, &ty), None);
     drop((value, ty));
 }

@@ -106,7 +106,9 @@ fn put_number(rt: &impl Abort, store: &mut Store, reference: &RefInstance, numbe
     assert!(rt; store.holds(reference));
     assert!(rt; reference.access().is_write());
     assert!(rt; reference.target_ty().as_atomic() == Some(&Type::U32));
-    assert!(rt; AtomicInstance::can_make(&Instance::from(number)));
+    let content = Instance::from(number);
+    assert!(rt; AtomicInstance::can_make(&content));
+    drop(content);
     reference.put_atomic_number(store, U32(number));
 }
 

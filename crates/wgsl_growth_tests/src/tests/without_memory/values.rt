@@ -52,7 +52,9 @@ fn matrices_and_references_are_made(rt: HostRuntime) {
     );
     assert!(rt; MatInstance::can_make(&columns));
     assert_is(&rt, MatInstance::from_cols(columns), &matrix);
-    assert!(rt; AtomicInstance::can_make(&Instance::from(5i32)));
+    let five = Instance::from(5i32);
+    assert_same(&rt, AtomicInstance::can_make(&five), true);
+    drop(five);
     let made = RefInstance::from_parts(
         7,
         view,
@@ -62,6 +64,23 @@ fn matrices_and_references_are_made(rt: HostRuntime) {
     );
     assert_is(&rt, RefInstance::from(PtrInstance::from(made)), &reference);
     drop((matrix, reference));
+}
+
+/// Asserts whether the value has the type.
+fn assert_type(rt: &impl Abort, value: Instance, ty: &Type, wanted: bool) {
+    assert_same(rt, value.has_ty(ty), wanted);
+    drop(value);
+}
+
+/// Asserts whether the value can be stored.
+fn assert_storable(rt: &impl Abort, value: Instance, wanted: bool) {
+    assert_same(rt, value.is_storable(), wanted);
+    drop(value);
+}
+
+fn assert_well_formed(rt: &impl Abort, value: Instance) {
+    assert_same(rt, value.is_well_formed(), true);
+    drop(value);
 }
 
 #[test]
@@ -74,18 +93,18 @@ fn each_sort_becomes_a_value(rt: HostRuntime) {
     let (two, matrix) = (vector_of(&rt, alloc, &[1, 2]), mat2x3(&rt, alloc));
     let (five, reference) = (atomic_of(&rt, alloc, 5), reference_of(&rt, alloc));
     let pointer = PtrInstance::from(reference_of(&rt, alloc));
-    assert_same(&rt, Instance::from(pair).has_ty(&Type::U32), false);
-    assert_same(&rt, Instance::from(list).has_ty(&Type::U32), false);
-    assert_same(&rt, Instance::from(two).is_storable(), true);
-    assert_same(&rt, Instance::from(matrix).is_storable(), true);
-    assert_same(&rt, Instance::from(five).is_storable(), true);
-    assert_same(&rt, Instance::from(reference).is_well_formed(), true);
-    assert_same(&rt, Instance::from(pointer).is_well_formed(), true);
+    assert_type(&rt, Instance::from(pair), &Type::U32, false);
+    assert_type(&rt, Instance::from(list), &Type::U32, false);
+    assert_storable(&rt, Instance::from(two), true);
+    assert_storable(&rt, Instance::from(matrix), true);
+    assert_storable(&rt, Instance::from(five), true);
+    assert_well_formed(&rt, Instance::from(reference));
+    assert_well_formed(&rt, Instance::from(pointer));
     assert_same(&rt, Instance::from(U32(7)), Instance::from(7u32));
-    assert_same(&rt, Instance::from(true).has_ty(&Type::Bool), true);
-    assert_same(&rt, Instance::from(-7i64).has_ty(&Type::AbstractInt), true);
-    assert_same(&rt, Instance::from(-7i32).has_ty(&Type::I32), true);
-    assert_same(&rt, Instance::from(Type::U32).is_storable(), false);
+    assert_type(&rt, Instance::from(true), &Type::Bool, true);
+    assert_type(&rt, Instance::from(-7i64), &Type::AbstractInt, true);
+    assert_type(&rt, Instance::from(-7i32), &Type::I32, true);
+    assert_storable(&rt, Instance::from(Type::U32), false);
 }
 
 /// Asserts that the value has the type and not the target, and whether it converts to that.
@@ -118,8 +137,8 @@ fn values_are_tested(rt: HostRuntime) {
     assert_tested(&rt, columns, of_columns, &target, false);
     assert_tested(&rt, five, of_five, &target, false);
     assert_same(&rt, deferred.is_well_formed(), true);
-    assert_same(&rt, deferred.is_storable(), false);
-    drop((target, deferred));
+    assert_storable(&rt, deferred, false);
+    drop(target);
 }
 
 #[test]
