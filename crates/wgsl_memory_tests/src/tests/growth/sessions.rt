@@ -78,10 +78,12 @@ fn wanted(
 
 /// The number of the call that memory is refused to.
 fn refused_in(replies: &[Result<Reply, Fault>]) -> Option<usize> {
-    let memory = memory();
-    let refused = replies.iter().position(|reply| reply == &memory);
-    drop(memory);
-    refused
+    for (i, reply) in replies.iter().enumerate() {
+        if matches!(reply, Err(Fault::Of(Error::Memory))) {
+            return Some(i);
+        }
+    }
+    None
 }
 
 /// Runs the calls on a new session, and asserts what is answered and made. Answers whether memory was refused.
