@@ -28,6 +28,5 @@ mod atomics;
 mod builtins;
 mod growth;
 mod laws;
-mod rows;
 mod using;
 mod without_memory;

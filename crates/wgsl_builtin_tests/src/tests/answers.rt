@@ -33,12 +33,11 @@ pub(super) fn settled<T>(answer: Result<T, Error>) -> Option<Result<T, Error>> {
 pub(super) fn assert_answer<T: Display + Drop>(
     rt: &impl Abort,
     alloc: Global,
-    row: &str,
+    row: usize,
     answer: Result<T, Error>,
     wanted: &str,
 ) {
     let text = again!(rt; text_of(alloc, &answer));
     drop(answer);
-    assert_eq!(rt; text.as_str(), wanted, "{row}");
-    drop(text);
+    assert_eq!(rt; text.as_str(), wanted, "row {row}");
 }

@@ -1,16 +1,17 @@
 //! Calls of the builtin functions of memory, by a name that a row has.
 
+use wgsl_rules::AccessMode;
+use wgsl_samples::operands::Sample;
+
 mod calls;
 mod lists;
 mod memory;
-mod places;
 mod plain;
 mod sorts;
 mod steps;
 
 pub(super) use calls::{changed, length, loaded, stored};
-pub(super) use places::{Place, place};
-pub(super) use steps::{assert_rows, assert_steps};
+pub(super) use steps::{Step, assert_call, assert_refused, assert_steps, view};
 
 /// A change of an atomic.
 #[derive(Clone, Copy, Debug, PartialEq, Eq)]
@@ -25,12 +26,33 @@ pub(super) enum Change {
     Exchange,
 }
 
-/// A builtin function of memory.
+/// A builtin function of memory, with its arguments behind the pointer.
 #[derive(Clone, Copy, Debug, PartialEq, Eq)]
 pub(super) enum OnMemory {
     Length,
     Load,
-    Store,
-    Change(Change),
-    CompareExchange,
+    Store(Sample),
+    Change(Change, Sample),
+    /// With the comparand and the new value.
+    CompareExchange(Sample, Sample),
+}
+
+/// What a pointer of a row points to: the member of the name, where it is not empty, and then the indices, with
+/// values of the type that the sample has.
+#[derive(Clone, Copy, Debug, PartialEq, Eq)]
+pub(super) struct Place {
+    pub name: &'static str,
+    pub indices: &'static [usize],
+    pub like: Sample,
+    pub access: AccessMode,
+}
+
+/// The whole of a cell that has the sample.
+pub(super) fn whole(cell: Sample, access: AccessMode) -> Place {
+    Place {
+        name: "",
+        indices: &[],
+        like: cell,
+        access,
+    }
 }

@@ -4,10 +4,10 @@ ghost use Rattle.wgsl_rules.specs.Values.{IsWellFormed};
 ghost use Rattle.wgsl_values.specs.View.{value_of};
 
 use crate::tests::answers::{assert_answer, made};
-use crate::tests::rows::{parted, sample};
 use std::alloc::{AllocError, Global};
 use std::process::Abort;
 use wgsl_rules::{ShaderStage, Type};
+use wgsl_samples::operands::Sample;
 use wgsl_samples::types::vector;
 use wgsl_scalar::Error;
 use wgsl_types::{
@@ -68,14 +68,24 @@ fn of_one(alloc: Global, function: One, e: &Instance) -> Result<Instance, Error>
     }
 }
 
-/// Asserts each row: `value -> wanted`.
-pub(super) fn assert_rows_of_one(rt: &impl Abort, alloc: Global, function: One, rows: &str) {
-    for row in rows.lines() {
-        let (e, wanted) = parted(rt, row, " -> ");
-        let e = made(rt, alloc, sample(rt, e));
-        let answer = answered!(of_one(alloc, function, &e));
-        drop(e);
-        assert_answer(rt, alloc, row, answer, wanted);
+/// Asserts the text of what the function gives for the value.
+pub(super) fn assert_one(
+    rt: &impl Abort,
+    alloc: Global,
+    row: usize,
+    function: One,
+    e: Sample,
+    wanted: &str,
+) {
+    let e = made(rt, alloc, e);
+    let answer = answered!(of_one(alloc, function, &e));
+    drop(e);
+    assert_answer(rt, alloc, row, answer, wanted);
+}
+
+pub(super) fn assert_rows_of_one(rt: &impl Abort, alloc: Global, rows: &[(One, Sample, &str)]) {
+    for (row, (function, e, wanted)) in rows.iter().enumerate() {
+        assert_one(rt, alloc, row, *function, *e, wanted);
     }
 }
 
@@ -108,26 +118,29 @@ pub(super) fn of_two(
     }
 }
 
-/// The two values that `a; b` names.
-fn two(rt: &impl Abort, alloc: Global, values: &str) -> (Instance, Instance)
-    ensures first { IsWellFormed (value_of result.0) }
-    ensures second { IsWellFormed (value_of result.1) }
-{
-    let (a, b) = parted(rt, values, "; ");
-    (
-        made(rt, alloc, sample(rt, a)),
-        made(rt, alloc, sample(rt, b)),
-    )
+/// Asserts the text of what the function gives for the two values.
+pub(super) fn assert_two(
+    rt: &impl Abort,
+    alloc: Global,
+    row: usize,
+    function: Two,
+    (a, b): (Sample, Sample),
+    wanted: &str,
+) {
+    let a = made(rt, alloc, a);
+    let b = made(rt, alloc, b);
+    let answer = answered!(of_two(alloc, function, &a, &b));
+    drop((a, b));
+    assert_answer(rt, alloc, row, answer, wanted);
 }
 
-/// Asserts each row: `a; b -> wanted`.
-pub(super) fn assert_rows_of_two(rt: &impl Abort, alloc: Global, function: Two, rows: &str) {
-    for row in rows.lines() {
-        let (values, wanted) = parted(rt, row, " -> ");
-        let (a, b) = two(rt, alloc, values);
-        let answer = answered!(of_two(alloc, function, &a, &b));
-        drop((a, b));
-        assert_answer(rt, alloc, row, answer, wanted);
+pub(super) fn assert_rows_of_two(
+    rt: &impl Abort,
+    alloc: Global,
+    rows: &[(Two, Sample, Sample, &str)],
+) {
+    for (row, (function, a, b, wanted)) in rows.iter().enumerate() {
+        assert_two(rt, alloc, row, *function, (*a, *b), wanted);
     }
 }
 
@@ -158,32 +171,49 @@ pub(super) fn of_three(
     }
 }
 
-/// Asserts each row: `a; b; c -> wanted`.
-pub(super) fn assert_rows_of_three(rt: &impl Abort, alloc: Global, function: Three, rows: &str) {
-    for row in rows.lines() {
-        let (values, wanted) = parted(rt, row, " -> ");
-        let (a, others) = parted(rt, values, "; ");
-        let a = made(rt, alloc, sample(rt, a));
-        let (b, c) = two(rt, alloc, others);
-        let answer = answered!(of_three(alloc, function, &a, &b, &c));
-        drop((a, b, c));
-        assert_answer(rt, alloc, row, answer, wanted);
+/// Asserts the text of what the function gives for the three values.
+pub(super) fn assert_three(
+    rt: &impl Abort,
+    alloc: Global,
+    row: usize,
+    function: Three,
+    (a, b, c): (Sample, Sample, Sample),
+    wanted: &str,
+) {
+    let a = made(rt, alloc, a);
+    let b = made(rt, alloc, b);
+    let c = made(rt, alloc, c);
+    let answer = answered!(of_three(alloc, function, &a, &b, &c));
+    drop((a, b, c));
+    assert_answer(rt, alloc, row, answer, wanted);
+}
+
+pub(super) fn assert_rows_of_three(
+    rt: &impl Abort,
+    alloc: Global,
+    rows: &[(Three, Sample, Sample, Sample, &str)],
+) {
+    for (row, (function, a, b, c, wanted)) in rows.iter().enumerate() {
+        assert_three(rt, alloc, row, *function, (*a, *b, *c), wanted);
     }
 }
 
-/// Asserts each row of a value with bits of another, at an offset and of a count: `value; bits; offset; count -> wanted`.
-pub(super) fn assert_inserted(rt: &impl Abort, alloc: Global, rows: &str) {
-    for row in rows.lines() {
-        let (values, wanted) = parted(rt, row, " -> ");
-        let (e, others) = parted(rt, values, "; ");
-        let (newbits, field) = parted(rt, others, "; ");
-        let e = made(rt, alloc, sample(rt, e));
-        let newbits = made(rt, alloc, sample(rt, newbits));
-        let (offset, count) = two(rt, alloc, field);
-        let answer = answered!(insertBits(alloc, &e, &newbits, &offset, &count));
-        drop((e, newbits, offset, count));
-        assert_answer(rt, alloc, row, answer, wanted);
-    }
+/// Asserts the text of the first value with bits of the second, at the offset and of the count.
+pub(super) fn assert_inserted(
+    rt: &impl Abort,
+    alloc: Global,
+    row: usize,
+    (e, newbits): (Sample, Sample),
+    (offset, count): (Sample, Sample),
+    wanted: &str,
+) {
+    let e = made(rt, alloc, e);
+    let newbits = made(rt, alloc, newbits);
+    let offset = made(rt, alloc, offset);
+    let count = made(rt, alloc, count);
+    let answer = answered!(insertBits(alloc, &e, &newbits, &offset, &count));
+    drop((e, newbits, offset, count));
+    assert_answer(rt, alloc, row, answer, wanted);
 }
 
 /// The scalar of a cast's template.
@@ -209,17 +239,31 @@ fn template(alloc: Global, count: u8, word: Word) -> Result<Type, AllocError> {
     }
 }
 
-/// Asserts each row of a value with the bytes of another, of the scalar, or of a vector of so many where that is not 0:
-/// `value -> wanted`.
-pub(super) fn assert_casts(rt: &impl Abort, alloc: Global, (count, word): (u8, Word), rows: &str) {
+/// Asserts the text of the value with the bytes of the other: of the scalar, or of a vector of so many where that is
+/// not 0.
+pub(super) fn assert_cast(
+    rt: &impl Abort,
+    alloc: Global,
+    row: usize,
+    (count, word): (u8, Word),
+    e: Sample,
+    wanted: &str,
+) {
     let template = again!(rt; template(alloc, count, word));
     assert!(rt; is_bitcast_target(&template));
-    for row in rows.lines() {
-        let (e, wanted) = parted(rt, row, " -> ");
-        let e = made(rt, alloc, sample(rt, e));
-        let answer = answered!(bitcast_t(alloc, &template, &e));
-        drop(e);
-        assert_answer(rt, alloc, row, answer, wanted);
+    let e = made(rt, alloc, e);
+    let answer = answered!(bitcast_t(alloc, &template, &e));
+    drop((template, e));
+    assert_answer(rt, alloc, row, answer, wanted);
+}
+
+pub(super) fn assert_casts(
+    rt: &impl Abort,
+    alloc: Global,
+    word: Word,
+    rows: &[(u8, Sample, &str)],
+) {
+    for (row, (count, e, wanted)) in rows.iter().enumerate() {
+        assert_cast(rt, alloc, row, (*count, word), *e, wanted);
     }
-    drop(template);
 }

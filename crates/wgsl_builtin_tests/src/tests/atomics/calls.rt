@@ -6,7 +6,6 @@ ghost use Rattle.wgsl_values.specs.View.{value_of};
 
 use crate::tests::answers::made;
 use crate::tests::atomics::{Change, OnMemory};
-use crate::tests::rows::{parted, sample};
 use std::alloc::Global;
 use std::process::Abort;
 use wgsl_scalar::Error;
@@ -109,20 +108,19 @@ fn valued(answer: Result<Instance, Error>) -> Result<Option<Instance>, Error> {
     }
 }
 
-/// What the function answers for the arguments behind the pointer, `argument; argument`; none where it answers nothing.
+/// What the function answers; none where it answers nothing.
 pub(super) fn called(
     rt: &impl Abort,
     alloc: Global,
     function: OnMemory,
     store: &mut Store,
     p: &Instance,
-    arguments: &str,
 ) -> Result<Option<Instance>, Error> {
     match function {
         OnMemory::Length => valued(length(rt, alloc, store, p)),
         OnMemory::Load => valued(loaded(rt, alloc, store, p)),
-        OnMemory::Store => {
-            let v = made(rt, alloc, sample(rt, arguments));
+        OnMemory::Store(v) => {
+            let v = made(rt, alloc, v);
             let answer = stored(rt, alloc, store, p, &v);
             drop(v);
             match answer {
@@ -130,16 +128,15 @@ pub(super) fn called(
                 Err(error) => Err(error),
             }
         }
-        OnMemory::Change(change) => {
-            let v = made(rt, alloc, sample(rt, arguments));
+        OnMemory::Change(change, v) => {
+            let v = made(rt, alloc, v);
             let answer = changed(rt, alloc, change, store, p, &v);
             drop(v);
             valued(answer)
         }
-        OnMemory::CompareExchange => {
-            let (comparand, new) = parted(rt, arguments, "; ");
-            let comparand = made(rt, alloc, sample(rt, comparand));
-            let new = made(rt, alloc, sample(rt, new));
+        OnMemory::CompareExchange(comparand, new) => {
+            let comparand = made(rt, alloc, comparand);
+            let new = made(rt, alloc, new);
             let answer = compared(rt, alloc, store, p, &comparand, &new);
             drop((comparand, new));
             valued(answer)

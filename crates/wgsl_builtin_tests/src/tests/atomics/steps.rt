@@ -2,17 +2,17 @@
 
 use crate::tests::answers::{assert_answer, made, settled};
 use crate::tests::atomics::calls::called;
-use crate::tests::atomics::{OnMemory, Place, place};
-use crate::tests::rows::{parted, sample};
-use std::alloc::Global;
+use crate::tests::atomics::{OnMemory, Place};
+use std::alloc::{AllocError, Global};
 use std::process::Abort;
 use wgsl_rules::AccessMode::ReadWrite;
 use wgsl_rules::AddressSpace::Storage;
 use wgsl_rules::Ty;
 use wgsl_samples::operands::Sample;
+use wgsl_samples::values::bytes_of;
 use wgsl_scalar::Error;
 use wgsl_store::{Buffers, References, Store};
-use wgsl_values::{Instance, PtrInstance, RefInstance};
+use wgsl_values::{Instance, MemView, PtrInstance, RefInstance};
 
 /// Makes a cell with the value, and answers the reference to it, for reads and writes.
 fn new_cell(
@@ -34,24 +34,26 @@ fn only_cell(rt: &impl Abort, alloc: Global, store: &mut Store, cell: Sample) ->
     reference
 }
 
+/// The steps of the view: the member of the name, where it is not empty, and then the indices.
+pub(crate) fn view(alloc: Global, name: &str, indices: &[usize]) -> Result<MemView, AllocError> {
+    let mut view = MemView::Whole;
+    if !name.is_empty() {
+        view.append_member(alloc, String::from_str(alloc, name)?)?;
+    }
+    for index in indices {
+        view.append_index(alloc, *index)?;
+    }
+    Ok(view)
+}
+
 /// A pointer to the place in cell 0.
 fn pointer(rt: &impl Abort, alloc: Global, place: Place) -> Instance {
-    let view = again!(rt; place.view(alloc));
+    let view = again!(rt; view(alloc, place.name, place.indices));
     let like = made(rt, alloc, place.like);
     let ty = again!(rt; like.ty(alloc));
     drop(like);
     let reference = RefInstance::from_parts(0, view, ty, Storage, place.access);
     Instance::from(PtrInstance::from(reference))
-}
-
-/// The bytes of the words of `word, word`.
-fn bytes_of_words(rt: &impl Abort, alloc: Global, words: &str) -> Vec<u8> {
-    let mut bytes = Vec::new(alloc);
-    for word in words.split(',') {
-        let word = word.trim().parse::<u32>().ok().expect(rt, "a word");
-        again!(rt; bytes.extend_from_slice(&word.to_le_bytes()));
-    }
-    bytes
 }
 
 /// What a store has: the text of the value in its cell, and its bytes where the type has a layout.
@@ -74,17 +76,17 @@ fn held_by(rt: &impl Abort, alloc: Global, store: &Store, cell: &RefInstance) ->
     Held { cells, text, bytes }
 }
 
-/// Asserts the text of the value in the cell, and its bytes as words: `text => word, word`, or `text => none` where it has
-/// no layout.
-fn assert_held(rt: &impl Abort, alloc: Global, row: &str, held: Held, wanted: &str) {
-    let (text, words) = parted(rt, wanted, " => ");
-    assert_eq!(rt; held.text.as_str(), text, "{row}");
-    let wanted = match words {
-        "none" => None,
-        _ => Some(bytes_of_words(rt, alloc, words)),
-    };
-    assert_eq!(rt; held.bytes, wanted, "{row}");
-    drop((held, wanted));
+/// Asserts the text of the value in the cell, and its bytes as words: none where it has no layout.
+fn assert_held(rt: &impl Abort, alloc: Global, row: usize, held: Held, text: &str, words: &[u32]) {
+    assert_eq!(rt; held.text.as_str(), text, "row {row}");
+    match &held.bytes {
+        Some(bytes) => {
+            let wanted = again!(rt; bytes_of(alloc, words));
+            assert_eq!(rt; bytes, &wanted, "row {row}");
+        }
+        None => assert!(rt; words.is_empty(), "row {row} has no bytes"),
+    }
+    drop(held);
 }
 
 /// Asserts that the store is as before, where the call was refused.
@@ -105,16 +107,17 @@ fn assert_unchanged(
 fn called_again(
     rt: &impl Abort,
     alloc: Global,
-    (function, arguments): (OnMemory, &str),
-    (store, cell): (&mut Store, &RefInstance),
+    function: OnMemory,
+    store: &mut Store,
+    cell: &RefInstance,
     p: &Instance,
 ) -> Result<Option<Instance>, Error> {
     let before = held_by(rt, alloc, store, cell);
-    let answer = called(rt, alloc, function, store, p, arguments);
+    let answer = called(rt, alloc, function, store, p);
     assert_unchanged(rt, alloc, answer.is_err(), store, cell, before);
     match settled(answer) {
         Some(answer) => answer,
-        None => called(rt, alloc, function, store, p, arguments),
+        None => called(rt, alloc, function, store, p),
     }
 }
 
@@ -122,80 +125,94 @@ fn called_again(
 fn assert_outcome(
     rt: &impl Abort,
     alloc: Global,
-    row: &str,
+    row: usize,
     answer: Result<Option<Instance>, Error>,
     wanted: &str,
 ) {
     match answer {
         Ok(Some(value)) => assert_answer(rt, alloc, row, Ok(value), wanted),
-        Ok(None) => assert_eq!(rt; "done", wanted, "{row}"),
+        Ok(None) => assert_eq!(rt; "done", wanted, "row {row}"),
         Err(error) => assert_answer(rt, alloc, row, Err::<Instance, Error>(error), wanted),
     }
 }
 
-/// A row: the function, its place, its arguments behind the pointer, what is wanted, and the whole text.
-#[derive(Clone, Copy)]
-struct Row<'a> {
-    function: OnMemory,
-    place: Place<'a>,
-    arguments: &'a str,
-    wanted: &'a str,
-    text: &'a str,
-}
-
-/// The row `place; argument; argument -> answer`, and where it is not refused ` => text => words` of the cell behind it.
-fn row<'a>(rt: &impl Abort, function: OnMemory, text: &'a str) -> Row<'a> {
-    let (call, wanted) = parted(rt, text, " -> ");
-    let (at, arguments) = call.split_once("; ").unwrap_or((call, ""));
-    let place = place(rt, at);
-    Row {
-        function,
-        place,
-        arguments,
-        wanted,
-        text,
-    }
-}
-
-/// Asserts what the function answers in the store, and what its cell then has.
-fn assert_row(
+/// Asserts what the function answers at the place, and hands out what the store then has.
+fn called_at(
     rt: &impl Abort,
     alloc: Global,
+    row: usize,
     (store, cell): (&mut Store, &RefInstance),
-    row: &Row,
-) {
-    let p = pointer(rt, alloc, row.place);
-    let call = (row.function, row.arguments);
-    let answer = called_again(rt, alloc, call, (&mut *store, cell), &p);
+    (place, function): (Place, OnMemory),
+    wanted: &str,
+) -> Held {
+    let p = pointer(rt, alloc, place);
+    let answer = called_again(rt, alloc, function, store, cell, &p);
     drop(p);
-    match row.wanted.split_once(" => ") {
-        Some((wanted, after)) => {
-            assert_outcome(rt, alloc, row.text, answer, wanted);
-            let held = held_by(rt, alloc, store, cell);
-            assert_held(rt, alloc, row.text, held, after);
-        }
-        None => assert_outcome(rt, alloc, row.text, answer, row.wanted),
-    }
+    assert_outcome(rt, alloc, row, answer, wanted);
+    held_by(rt, alloc, store, cell)
 }
 
-/// Asserts each row of the function, on a store with one cell of its own.
-pub(crate) fn assert_rows(rt: &impl Abort, alloc: Global, function: OnMemory, rows: &str) {
-    for text in rows.lines() {
-        let row = row(rt, function, text);
-        let mut store = Store::new(alloc);
-        let cell = only_cell(rt, alloc, &mut store, row.place.cell);
-        assert_row(rt, alloc, (&mut store, &cell), &row);
-        drop((store, cell));
-    }
-}
-
-/// Asserts the steps on a store with one cell, which has the sample, one after the other.
-pub(crate) fn assert_steps(rt: &impl Abort, alloc: Global, cell: &str, steps: &[(OnMemory, &str)]) {
+/// Asserts what the function answers at the place of a store with one cell, and hands out what the store then has.
+fn outcome(
+    rt: &impl Abort,
+    alloc: Global,
+    row: usize,
+    (cell, place): (Sample, Place),
+    function: OnMemory,
+    wanted: &str,
+) -> Held {
     let mut store = Store::new(alloc);
-    let cell = only_cell(rt, alloc, &mut store, sample(rt, cell));
-    for (function, text) in steps {
-        let row = row(rt, *function, text);
-        assert_row(rt, alloc, (&mut store, &cell), &row);
+    let cell = only_cell(rt, alloc, &mut store, cell);
+    let held = called_at(
+        rt,
+        alloc,
+        row,
+        (&mut store, &cell),
+        (place, function),
+        wanted,
+    );
+    drop((store, cell));
+    held
+}
+
+/// Asserts that the function is refused at the place of a store with one cell; the store is as before.
+pub(crate) fn assert_refused(
+    rt: &impl Abort,
+    alloc: Global,
+    row: usize,
+    at: (Sample, Place),
+    function: OnMemory,
+    wanted: &str,
+) {
+    drop(outcome(rt, alloc, row, at, function, wanted));
+}
+
+/// Asserts what the function answers at the place of a store with one cell, and what the cell then has: the text of
+/// its value, and its bytes as words, or none where it has no layout.
+pub(crate) fn assert_call(
+    rt: &impl Abort,
+    alloc: Global,
+    row: usize,
+    at: (Sample, Place),
+    function: OnMemory,
+    wanted: &str,
+    after: (&str, &[u32]),
+) {
+    let held = outcome(rt, alloc, row, at, function, wanted);
+    assert_held(rt, alloc, row, held, after.0, after.1);
+}
+
+/// A call at a place, what it answers, and what the cell then has: the text of its value, and its bytes as words.
+pub(crate) type Step = (Place, OnMemory, &'static str, &'static str, &'static [u32]);
+
+/// Asserts the steps on a store with one cell, one after the other.
+pub(crate) fn assert_steps(rt: &impl Abort, alloc: Global, cell: Sample, steps: &[Step]) {
+    let mut store = Store::new(alloc);
+    let cell = only_cell(rt, alloc, &mut store, cell);
+    for (row, (place, function, wanted, text, words)) in steps.iter().enumerate() {
+        let call = (*place, *function);
+        let held = called_at(rt, alloc, row, (&mut store, &cell), call, wanted);
+        assert_held(rt, alloc, row, held, text, words);
     }
     drop((store, cell));
 }
@@ -204,13 +221,14 @@ pub(crate) fn assert_steps(rt: &impl Abort, alloc: Global, cell: &str, steps: &[
 pub(super) fn assert_no_pointer(
     rt: &impl Abort,
     alloc: Global,
-    call: (OnMemory, &str),
-    value: &str,
+    row: usize,
+    function: OnMemory,
+    value: Sample,
 ) {
     let mut store = Store::new(alloc);
     let cell = only_cell(rt, alloc, &mut store, Sample::Counters);
-    let p = made(rt, alloc, sample(rt, value));
-    let answer = called_again(rt, alloc, call, (&mut store, &cell), &p);
+    let p = made(rt, alloc, value);
+    let answer = called_again(rt, alloc, function, &mut store, &cell, &p);
     drop((p, cell, store));
-    assert_outcome(rt, alloc, value, answer, "Builtin");
+    assert_outcome(rt, alloc, row, answer, "Builtin");
 }

@@ -2,10 +2,13 @@
 
 use crate::tests::builtins::Word::{Signed, Unsigned};
 use crate::tests::builtins::{
-    One, Three, Two, assert_casts, assert_inserted, assert_rows_of_one, assert_rows_of_three,
-    assert_rows_of_two,
+    One, Three, Two, assert_cast, assert_inserted, assert_one, assert_three, assert_two,
 };
+use std::alloc::Global;
+use std::process::Abort;
 use wgsl_rules::ShaderStage::{Const, Exec};
+use wgsl_samples::operands::{Sample, u};
+use wgsl_scalar::LiteralInstance::I32;
 
 const EACH_OF_ONE: [One; 17] = [
     One::Abs,
@@ -36,132 +39,94 @@ const EACH_OF_TWO: [Two; 6] = [
     Two::Dot4I8Packed,
 ];
 
+const MATRICES: [Sample; 2] = [Sample::Matrix, Sample::Tall];
+
 /// A value of each sort beside numbers, bools, vectors and matrices.
-const OTHERS: &str = "\
-    array -> Builtin
-    structure -> Builtin
-    pointer -> Builtin
-    reference -> Builtin
-    atomic(5i) -> Builtin
-    deferred -> Builtin";
+const OTHERS: [Sample; 6] = [
+    Sample::Array,
+    Sample::Structure,
+    Sample::Pointer,
+    Sample::Reference,
+    Sample::Atomic(I32(5)),
+    Sample::Deferred,
+];
 
 #[test]
 fn functions_of_one_value_refuse_other_sorts(rt: HostRuntime) {
     let alloc = rt.alloc();
     for function in EACH_OF_ONE {
-        assert_rows_of_one(&rt, alloc, function, OTHERS);
+        for (row, other) in OTHERS.iter().enumerate() {
+            assert_one(&rt, alloc, row, function, *other, "Builtin");
+        }
         if function != One::Transpose {
-            assert_rows_of_one(&rt, alloc, function, "matrix -> Builtin");
+            assert_one(&rt, alloc, 6, function, Sample::Matrix, "Builtin");
         }
     }
 }
 
-/// Each of these and each matrix, at each place of two values.
-const OTHERS_OF_TWO: &str = "\
-    array; 1u -> Builtin
-    1u; array -> Builtin
-    array; array -> Builtin
-    structure; 1u -> Builtin
-    1u; structure -> Builtin
-    structure; structure -> Builtin
-    pointer; 1u -> Builtin
-    1u; pointer -> Builtin
-    pointer; pointer -> Builtin
-    reference; 1u -> Builtin
-    1u; reference -> Builtin
-    reference; reference -> Builtin
-    atomic(5i); 1u -> Builtin
-    1u; atomic(5i) -> Builtin
-    atomic(5i); atomic(5i) -> Builtin
-    deferred; 1u -> Builtin
-    1u; deferred -> Builtin
-    deferred; deferred -> Builtin
-    matrix; 1u -> Builtin
-    1u; matrix -> Builtin
-    matrix; matrix -> Builtin
-    tall; 1u -> Builtin
-    1u; tall -> Builtin
-    tall; tall -> Builtin";
+/// Asserts that the function refuses the value at each place.
+fn assert_refused_by_two(rt: &impl Abort, alloc: Global, function: Two, other: Sample) {
+    for (row, arguments) in [(other, u(1)), (u(1), other), (other, other)]
+        .iter()
+        .enumerate()
+    {
+        assert_two(rt, alloc, row, function, *arguments, "Builtin");
+    }
+}
 
 #[test]
 fn functions_of_two_values_refuse_other_sorts(rt: HostRuntime) {
     let alloc = rt.alloc();
     for function in EACH_OF_TWO {
-        assert_rows_of_two(&rt, alloc, function, OTHERS_OF_TWO);
+        for other in OTHERS {
+            assert_refused_by_two(&rt, alloc, function, other);
+        }
+        for other in MATRICES {
+            assert_refused_by_two(&rt, alloc, function, other);
+        }
     }
 }
-
-/// Each of these at each place of three values.
-const OTHERS_OF_THREE: &str = "\
-    array; 1u; 1u -> Builtin
-    1u; array; 1u -> Builtin
-    1u; 1u; array -> Builtin
-    structure; 1u; 1u -> Builtin
-    1u; structure; 1u -> Builtin
-    1u; 1u; structure -> Builtin
-    pointer; 1u; 1u -> Builtin
-    1u; pointer; 1u -> Builtin
-    1u; 1u; pointer -> Builtin
-    reference; 1u; 1u -> Builtin
-    1u; reference; 1u -> Builtin
-    1u; 1u; reference -> Builtin
-    atomic(5i); 1u; 1u -> Builtin
-    1u; atomic(5i); 1u -> Builtin
-    1u; 1u; atomic(5i) -> Builtin
-    deferred; 1u; 1u -> Builtin
-    1u; deferred; 1u -> Builtin
-    1u; 1u; deferred -> Builtin";
 
 #[test]
 fn functions_of_three_values_refuse_other_sorts(rt: HostRuntime) {
     let alloc = rt.alloc();
     for function in [Three::Clamp, Three::ExtractBits, Three::Select] {
-        assert_rows_of_three(&rt, alloc, function, OTHERS_OF_THREE);
+        for other in OTHERS {
+            let places = [
+                (other, u(1), u(1)),
+                (u(1), other, u(1)),
+                (u(1), u(1), other),
+            ];
+            for (row, arguments) in places.iter().enumerate() {
+                assert_three(&rt, alloc, row, function, *arguments, "Builtin");
+            }
+        }
     }
 }
 
-/// Each of these as the value, as the bits, as both, as the offset and as the count.
-const OTHERS_INSERTED: &str = "\
-    array; 1u; 1u; 1u -> Builtin
-    1u; array; 1u; 1u -> Builtin
-    array; array; 1u; 1u -> Builtin
-    1u; 1u; array; 1u -> Builtin
-    1u; 1u; 1u; array -> Builtin
-    structure; 1u; 1u; 1u -> Builtin
-    1u; structure; 1u; 1u -> Builtin
-    structure; structure; 1u; 1u -> Builtin
-    1u; 1u; structure; 1u -> Builtin
-    1u; 1u; 1u; structure -> Builtin
-    pointer; 1u; 1u; 1u -> Builtin
-    1u; pointer; 1u; 1u -> Builtin
-    pointer; pointer; 1u; 1u -> Builtin
-    1u; 1u; pointer; 1u -> Builtin
-    1u; 1u; 1u; pointer -> Builtin
-    reference; 1u; 1u; 1u -> Builtin
-    1u; reference; 1u; 1u -> Builtin
-    reference; reference; 1u; 1u -> Builtin
-    1u; 1u; reference; 1u -> Builtin
-    1u; 1u; 1u; reference -> Builtin
-    atomic(5i); 1u; 1u; 1u -> Builtin
-    1u; atomic(5i); 1u; 1u -> Builtin
-    atomic(5i); atomic(5i); 1u; 1u -> Builtin
-    1u; 1u; atomic(5i); 1u -> Builtin
-    1u; 1u; 1u; atomic(5i) -> Builtin
-    deferred; 1u; 1u; 1u -> Builtin
-    1u; deferred; 1u; 1u -> Builtin
-    deferred; deferred; 1u; 1u -> Builtin
-    1u; 1u; deferred; 1u -> Builtin
-    1u; 1u; 1u; deferred -> Builtin";
-
 #[test]
 fn inserted_bits_are_of_no_other_sort(rt: HostRuntime) {
-    assert_inserted(&rt, rt.alloc(), OTHERS_INSERTED);
+    let alloc = rt.alloc();
+    for other in OTHERS {
+        let places = [
+            ((other, u(1)), (u(1), u(1))),
+            ((u(1), other), (u(1), u(1))),
+            ((other, other), (u(1), u(1))),
+            ((u(1), u(1)), (other, u(1))),
+            ((u(1), u(1)), (u(1), other)),
+        ];
+        for (row, (values, field)) in places.iter().enumerate() {
+            assert_inserted(&rt, alloc, row, *values, *field, "Builtin");
+        }
+    }
 }
 
 #[test]
 fn other_sorts_have_no_bytes_of_a_number(rt: HostRuntime) {
     let alloc = rt.alloc();
-    for template in [(0, Signed), (0, Unsigned), (2, Signed), (4, Unsigned)] {
-        assert_casts(&rt, alloc, template, OTHERS);
+    for (row, other) in OTHERS.iter().enumerate() {
+        for template in [(0, Signed), (0, Unsigned), (2, Signed), (4, Unsigned)] {
+            assert_cast(&rt, alloc, row, template, *other, "Builtin");
+        }
     }
 }

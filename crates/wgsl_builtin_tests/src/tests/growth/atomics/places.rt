@@ -1,110 +1,181 @@
 //! Atomics that are parts of a structure and of an array in it: in a cell of bytes, and in one whose type has no layout.
 
 use crate::tests::atomics::OnMemory::{CompareExchange, Load, Store};
-use crate::tests::atomics::{Change, OnMemory, assert_rows};
-use crate::tests::rows::parted;
-use std::alloc::Global;
+use crate::tests::atomics::{Change, OnMemory, Place, assert_call, assert_refused};
+use std::alloc::{AllocError, Global};
 use std::process::Abort;
+use wgsl_rules::AccessMode::{Read, ReadWrite, Write};
+use wgsl_samples::operands::{Sample, b, i, n, u};
+use wgsl_scalar::LiteralInstance::{I32, U32};
 
-/// Asserts that the call does the same at the place in both structures: `place; arguments -> answer => members => words`.
-fn assert_in_both(rt: &impl Abort, alloc: Global, function: OnMemory, rows: &str) {
-    for row in rows.lines() {
-        let (call, outcome) = parted(rt, row, " -> ");
-        let (answer, after) = parted(rt, outcome, " => ");
-        let (members, words) = parted(rt, after, " => ");
-        let counters = again!(rt; format!(in alloc;
-            "read_write counters:{call} -> {answer} => Counters({members}) => {words}"
-        ));
-        assert_rows(rt, alloc, function, counters.as_str());
-        drop(counters);
-        let flagged = again!(rt; format!(in alloc;
-            "read_write flagged:{call} -> {answer} => Flagged(true, {members}) => none"
-        ));
-        assert_rows(rt, alloc, function, flagged.as_str());
-        drop(flagged);
+/// The count of a structure.
+const COUNT: Place = Place {
+    name: "count",
+    indices: &[],
+    like: Sample::Atomic(U32(0)),
+    access: ReadWrite,
+};
+
+/// A total of a structure.
+const fn total(indices: &'static [usize]) -> Place {
+    Place {
+        name: "totals",
+        indices,
+        like: Sample::Atomic(I32(0)),
+        access: ReadWrite,
     }
 }
 
+/// The texts of the two structures with the atomics of these words.
+fn texts(alloc: Global, words: &[u32; 4]) -> Result<(String, String), AllocError> {
+    let [count, x, y, z] = *words;
+    let [x, y, z] = [x.cast_signed(), y.cast_signed(), z.cast_signed()];
+    let members = format!(in alloc;
+        "atomic<u32>({count}u), array(atomic<i32>({x}i), atomic<i32>({y}i), atomic<i32>({z}i))"
+    )?;
+    let counters = format!(in alloc; "Counters({members})")?;
+    let flagged = format!(in alloc; "Flagged(true, {members})")?;
+    Ok((counters, flagged))
+}
+
+/// A call at a place: what it answers, and the words of the count and of the totals after it.
+type Row = (Place, OnMemory, &'static str, [u32; 4]);
+
+/// Asserts that the call does the same in both structures.
+fn assert_rows(rt: &impl Abort, alloc: Global, rows: &[Row]) {
+    for (row, (place, function, wanted, words)) in rows.iter().enumerate() {
+        let (counters, flagged) = again!(rt; texts(alloc, words));
+        let at = (Sample::Counters, *place);
+        let after = (counters.as_str(), words.as_slice());
+        assert_call(rt, alloc, row, at, *function, wanted, after);
+        let at = (Sample::Flagged, *place);
+        let after = (flagged.as_str(), [].as_slice());
+        assert_call(rt, alloc, row, at, *function, wanted, after);
+        drop((counters, flagged));
+    }
+}
+
+/// -2, as the number of its bits.
+const MINUS_TWO: u32 = 4294967294;
+
 #[test]
 fn a_member_is_changed_alone(rt: HostRuntime) {
-    let alloc = rt.alloc();
-    let rows =
-        "count as atomic(0u) -> 7u => atomic<u32>(7u), array(atomic<i32>(1i), atomic<i32>(-2i), atomic<i32>(3i)) => 7, 1, 4294967294, 3";
-    assert_in_both(&rt, alloc, Load, rows);
-    let rows =
-        "count as atomic(0u); 4294967295 -> done => atomic<u32>(4294967295u), array(atomic<i32>(1i), atomic<i32>(-2i), atomic<i32>(3i)) => 4294967295, 1, 4294967294, 3";
-    assert_in_both(&rt, alloc, Store, rows);
-    let rows =
-        "count as atomic(0u); 3 -> 7u => atomic<u32>(10u), array(atomic<i32>(1i), atomic<i32>(-2i), atomic<i32>(3i)) => 10, 1, 4294967294, 3";
-    assert_in_both(&rt, alloc, OnMemory::Change(Change::Add), rows);
-    let rows =
-        "count as atomic(0u); 8u -> 7u => atomic<u32>(4294967295u), array(atomic<i32>(1i), atomic<i32>(-2i), atomic<i32>(3i)) => 4294967295, 1, 4294967294, 3";
-    assert_in_both(&rt, alloc, OnMemory::Change(Change::Sub), rows);
-    let rows =
-        "count as atomic(0u); 9u -> 7u => atomic<u32>(9u), array(atomic<i32>(1i), atomic<i32>(-2i), atomic<i32>(3i)) => 9, 1, 4294967294, 3";
-    assert_in_both(&rt, alloc, OnMemory::Change(Change::Max), rows);
-    let rows =
-        "count as atomic(0u); 9u -> 7u => atomic<u32>(7u), array(atomic<i32>(1i), atomic<i32>(-2i), atomic<i32>(3i)) => 7, 1, 4294967294, 3";
-    assert_in_both(&rt, alloc, OnMemory::Change(Change::Min), rows);
-    let rows =
-        "count as atomic(0u); 0 -> 7u => atomic<u32>(0u), array(atomic<i32>(1i), atomic<i32>(-2i), atomic<i32>(3i)) => 0, 1, 4294967294, 3";
-    assert_in_both(&rt, alloc, OnMemory::Change(Change::Exchange), rows);
-    let rows = "\
-        count as atomic(0u); 7; 8 -> __atomic_compare_exchange_result(7u, true) => atomic<u32>(8u), array(atomic<i32>(1i), atomic<i32>(-2i), atomic<i32>(3i)) => 8, 1, 4294967294, 3
-        count as atomic(0u); 8; 7 -> __atomic_compare_exchange_result(7u, false) => atomic<u32>(7u), array(atomic<i32>(1i), atomic<i32>(-2i), atomic<i32>(3i)) => 7, 1, 4294967294, 3";
-    assert_in_both(&rt, alloc, CompareExchange, rows);
+    let change = OnMemory::Change;
+    let rows = [
+        (COUNT, Load, "7u", [7, 1, MINUS_TWO, 3]),
+        (
+            COUNT,
+            Store(n(4294967295)),
+            "done",
+            [4294967295, 1, MINUS_TWO, 3],
+        ),
+        (
+            COUNT,
+            change(Change::Add, n(3)),
+            "7u",
+            [10, 1, MINUS_TWO, 3],
+        ),
+        (
+            COUNT,
+            change(Change::Sub, u(8)),
+            "7u",
+            [4294967295, 1, MINUS_TWO, 3],
+        ),
+        (COUNT, change(Change::Max, u(9)), "7u", [9, 1, MINUS_TWO, 3]),
+        (COUNT, change(Change::Min, u(9)), "7u", [7, 1, MINUS_TWO, 3]),
+        (
+            COUNT,
+            change(Change::Exchange, n(0)),
+            "7u",
+            [0, 1, MINUS_TWO, 3],
+        ),
+        (
+            COUNT,
+            CompareExchange(n(7), n(8)),
+            "__atomic_compare_exchange_result(7u, true)",
+            [8, 1, MINUS_TWO, 3],
+        ),
+        (
+            COUNT,
+            CompareExchange(n(8), n(7)),
+            "__atomic_compare_exchange_result(7u, false)",
+            [7, 1, MINUS_TWO, 3],
+        ),
+    ];
+    assert_rows(&rt, rt.alloc(), &rows);
 }
 
 #[test]
 fn an_element_is_changed_alone(rt: HostRuntime) {
-    let alloc = rt.alloc();
-    let rows =
-        "totals:1 as atomic(0i) -> -2i => atomic<u32>(7u), array(atomic<i32>(1i), atomic<i32>(-2i), atomic<i32>(3i)) => 7, 1, 4294967294, 3";
-    assert_in_both(&rt, alloc, Load, rows);
-    let rows =
-        "totals:0 as atomic(0i); -2i -> done => atomic<u32>(7u), array(atomic<i32>(-2i), atomic<i32>(-2i), atomic<i32>(3i)) => 7, 4294967294, 4294967294, 3";
-    assert_in_both(&rt, alloc, Store, rows);
-    let rows =
-        "totals:1 as atomic(0i); -3 -> -2i => atomic<u32>(7u), array(atomic<i32>(1i), atomic<i32>(-3i), atomic<i32>(3i)) => 7, 1, 4294967293, 3";
-    assert_in_both(&rt, alloc, OnMemory::Change(Change::Min), rows);
-    let rows =
-        "totals:1 as atomic(0i); 3i -> -2i => atomic<u32>(7u), array(atomic<i32>(1i), atomic<i32>(2i), atomic<i32>(3i)) => 7, 1, 2, 3";
-    assert_in_both(&rt, alloc, OnMemory::Change(Change::And), rows);
-    let rows =
-        "totals:2 as atomic(0i); 4 -> 3i => atomic<u32>(7u), array(atomic<i32>(1i), atomic<i32>(-2i), atomic<i32>(7i)) => 7, 1, 4294967294, 7";
-    assert_in_both(&rt, alloc, OnMemory::Change(Change::Or), rows);
-    let rows =
-        "totals:2 as atomic(0i); -1 -> 3i => atomic<u32>(7u), array(atomic<i32>(1i), atomic<i32>(-2i), atomic<i32>(-4i)) => 7, 1, 4294967294, 4294967292";
-    assert_in_both(&rt, alloc, OnMemory::Change(Change::Xor), rows);
-    let rows = "\
-        totals:2 as atomic(0i); 3i; -2 -> __atomic_compare_exchange_result(3i, true) => atomic<u32>(7u), array(atomic<i32>(1i), atomic<i32>(-2i), atomic<i32>(-2i)) => 7, 1, 4294967294, 4294967294
-        totals:0 as atomic(0i); 3i; -2 -> __atomic_compare_exchange_result(1i, false) => atomic<u32>(7u), array(atomic<i32>(1i), atomic<i32>(-2i), atomic<i32>(3i)) => 7, 1, 4294967294, 3";
-    assert_in_both(&rt, alloc, CompareExchange, rows);
+    let change = OnMemory::Change;
+    let rows = [
+        (total(&[1]), Load, "-2i", [7, 1, MINUS_TWO, 3]),
+        (
+            total(&[0]),
+            Store(i(-2)),
+            "done",
+            [7, MINUS_TWO, MINUS_TWO, 3],
+        ),
+        (
+            total(&[1]),
+            change(Change::Min, n(-3)),
+            "-2i",
+            [7, 1, 4294967293, 3],
+        ),
+        (total(&[1]), change(Change::And, i(3)), "-2i", [7, 1, 2, 3]),
+        (
+            total(&[2]),
+            change(Change::Or, n(4)),
+            "3i",
+            [7, 1, MINUS_TWO, 7],
+        ),
+        (
+            total(&[2]),
+            change(Change::Xor, n(-1)),
+            "3i",
+            [7, 1, MINUS_TWO, 4294967292],
+        ),
+        (
+            total(&[2]),
+            CompareExchange(i(3), n(-2)),
+            "__atomic_compare_exchange_result(3i, true)",
+            [7, 1, MINUS_TWO, MINUS_TWO],
+        ),
+        (
+            total(&[0]),
+            CompareExchange(i(3), n(-2)),
+            "__atomic_compare_exchange_result(1i, false)",
+            [7, 1, MINUS_TWO, 3],
+        ),
+    ];
+    assert_rows(&rt, rt.alloc(), &rows);
 }
 
 #[test]
 fn refusals_at_a_part_change_nothing(rt: HostRuntime) {
     let alloc = rt.alloc();
-    let rows = "\
-        write counters:totals:1 as atomic(0i) -> NotRead
-        write flagged:totals:1 as atomic(0i) -> NotRead";
-    assert_rows(&rt, alloc, Load, rows);
-    let rows = "\
-        read counters:totals:1 as atomic(0i); 1 -> NotReadWrite
-        read flagged:totals:1 as atomic(0i); 1 -> NotReadWrite
-        read_write counters:totals:1 as atomic(0i); true -> ParamType i32, bool
-        read_write flagged:totals:1 as atomic(0i); true -> ParamType i32, bool";
-    assert_rows(&rt, alloc, Store, rows);
-    let rows = "\
-        read_write counters:totals:1 as atomic(0i); 1u -> Binary + i32, u32
-        read_write flagged:totals:1 as atomic(0i); 1u -> Binary + i32, u32
-        read counters:totals:1 as atomic(0i); 1 -> NotReadWrite
-        read flagged:totals:1 as atomic(0i); 1 -> NotReadWrite";
-    assert_rows(&rt, alloc, OnMemory::Change(Change::Add), rows);
-    let rows = "\
-        read counters:totals:1 as atomic(0i); -2; 1 -> NotReadWrite
-        read flagged:totals:1 as atomic(0i); -2; 1 -> NotReadWrite
-        read_write counters:totals:1 as atomic(0i); -2; 1u -> ParamType i32, u32
-        read_write flagged:totals:1 as atomic(0i); -2; 1u -> ParamType i32, u32";
-    assert_rows(&rt, alloc, CompareExchange, rows);
+    let rows = [
+        (Write, Load, "NotRead"),
+        (Read, Store(n(1)), "NotReadWrite"),
+        (ReadWrite, Store(b(true)), "ParamType i32, bool"),
+        (
+            ReadWrite,
+            OnMemory::Change(Change::Add, u(1)),
+            "Binary + i32, u32",
+        ),
+        (Read, OnMemory::Change(Change::Add, n(1)), "NotReadWrite"),
+        (Read, CompareExchange(n(-2), n(1)), "NotReadWrite"),
+        (
+            ReadWrite,
+            CompareExchange(n(-2), u(1)),
+            "ParamType i32, u32",
+        ),
+    ];
+    for (row, (access, function, wanted)) in rows.iter().enumerate() {
+        let mut place = total(&[1]);
+        place.access = *access;
+        for cell in [Sample::Counters, Sample::Flagged] {
+            assert_refused(&rt, alloc, row, (cell, place), *function, wanted);
+        }
+    }
 }

@@ -1,69 +1,103 @@
 //! Stores to atomics.
 
 use crate::tests::atomics::OnMemory::Store;
-use crate::tests::atomics::assert_rows;
+use crate::tests::atomics::{assert_call, assert_refused, whole};
+use wgsl_rules::AccessMode::{Read, ReadWrite, Write};
+use wgsl_samples::operands::{Sample, b, i, i2, l, n, u};
+use wgsl_scalar::LiteralInstance::{I32, U32};
+
+/// An atomic of an i32.
+const SIGNED: Sample = Sample::Atomic(I32(5));
+
+/// An atomic of a u32.
+const UNSIGNED: Sample = Sample::Atomic(U32(5));
 
 #[test]
 fn stores(rt: HostRuntime) {
     let alloc = rt.alloc();
-    let rows = "\
-        read_write atomic(5i); 3 -> done => atomic<i32>(3i) => 3
-        read_write atomic(5i); 2147483647i -> done => atomic<i32>(2147483647i) => 2147483647
-        write atomic(5i); -2147483648 -> done => atomic<i32>(-2147483648i) => 2147483648
-        write atomic(5u); 7u -> done => atomic<u32>(7u) => 7
-        read_write atomic(5u); 4294967295 -> done => atomic<u32>(4294967295u) => 4294967295";
-    assert_rows(&rt, alloc, Store, rows);
+    let rows = [
+        (SIGNED, ReadWrite, n(3), "atomic<i32>(3i)", 3),
+        (
+            SIGNED,
+            ReadWrite,
+            i(2147483647),
+            "atomic<i32>(2147483647i)",
+            2147483647,
+        ),
+        (
+            SIGNED,
+            Write,
+            n(-2147483648),
+            "atomic<i32>(-2147483648i)",
+            2147483648,
+        ),
+        (UNSIGNED, Write, u(7), "atomic<u32>(7u)", 7),
+        (
+            UNSIGNED,
+            ReadWrite,
+            n(4294967295),
+            "atomic<u32>(4294967295u)",
+            4294967295,
+        ),
+    ];
+    for (row, (cell, access, v, text, word)) in rows.iter().enumerate() {
+        let at = (*cell, whole(*cell, *access));
+        assert_call(&rt, alloc, row, at, Store(*v), "done", (text, &[*word]));
+    }
 }
 
 #[test]
 fn refusals_of_stores_in_order(rt: HostRuntime) {
     let alloc = rt.alloc();
-    let rows = "\
-        read atomic(5i); 1 -> NotReadWrite
-        read atomic(5i); 1li -> NotReadWrite
-        read atomic(5i); deferred -> NotReadWrite
-        read 5i; 1i -> NotReadWrite
-        read_write 5i; 1i -> Builtin
-        read_write 5i; 1li -> Builtin
-        write 5i; reference -> Builtin
-        read_write counters; 1u -> Builtin
-        write array; 1u -> Builtin";
-    assert_rows(&rt, alloc, Store, rows);
+    let rows = [
+        (SIGNED, Read, n(1), "NotReadWrite"),
+        (SIGNED, Read, l(1), "NotReadWrite"),
+        (SIGNED, Read, Sample::Deferred, "NotReadWrite"),
+        (i(5), Read, i(1), "NotReadWrite"),
+        (i(5), ReadWrite, i(1), "Builtin"),
+        (i(5), ReadWrite, l(1), "Builtin"),
+        (i(5), Write, Sample::Reference, "Builtin"),
+        (Sample::Counters, ReadWrite, u(1), "Builtin"),
+        (Sample::Array, Write, u(1), "Builtin"),
+    ];
+    for (row, (cell, access, v, wanted)) in rows.iter().enumerate() {
+        let at = (*cell, whole(*cell, *access));
+        assert_refused(&rt, alloc, row, at, Store(*v), wanted);
+    }
 }
 
 #[test]
 fn values_that_an_atomic_does_not_take(rt: HostRuntime) {
     let alloc = rt.alloc();
-    let rows = "\
-        write atomic(5i); 1li -> ParamType i32, i64
-        read_write atomic(5i); 1li -> ParamType i32, i64
-        write atomic(5i); 1u -> ParamType i32, u32
-        read_write atomic(5i); 1u -> ParamType i32, u32
-        write atomic(5i); true -> ParamType i32, bool
-        read_write atomic(5i); true -> ParamType i32, bool
-        write atomic(5i); 2147483648 -> ParamType i32, AbstractInt
-        read_write atomic(5i); 2147483648 -> ParamType i32, AbstractInt
-        write atomic(5u); -1 -> ParamType u32, AbstractInt
-        read_write atomic(5u); -1 -> ParamType u32, AbstractInt
-        write atomic(5u); 1i -> ParamType u32, i32
-        read_write atomic(5u); 1i -> ParamType u32, i32
-        write atomic(5i); vec2(1i, 2i) -> ParamType i32, vec2<i32>
-        read_write atomic(5i); vec2(1i, 2i) -> ParamType i32, vec2<i32>
-        write atomic(5i); matrix -> ParamType i32, mat2x2<u32>
-        read_write atomic(5i); matrix -> ParamType i32, mat2x2<u32>
-        write atomic(5i); array -> ParamType i32, array<u32, 2>
-        read_write atomic(5i); array -> ParamType i32, array<u32, 2>
-        write atomic(5i); structure -> ParamType i32, Pair
-        read_write atomic(5i); structure -> ParamType i32, Pair
-        write atomic(5i); pointer -> ParamType i32, ptr<storage, i32, read_write>
-        read_write atomic(5i); pointer -> ParamType i32, ptr<storage, i32, read_write>
-        write atomic(5i); reference -> ParamType i32, ref<storage, i32, read_write>
-        read_write atomic(5i); reference -> ParamType i32, ref<storage, i32, read_write>
-        write atomic(5i); atomic(5i) -> ParamType i32, atomic<i32>
-        read_write atomic(5i); atomic(5i) -> ParamType i32, atomic<i32>
-        write atomic(5i); deferred -> Builtin
-        read_write atomic(5i); deferred -> Builtin
-        write atomic(5u); deferred -> Builtin
-        read_write atomic(5u); deferred -> Builtin";
-    assert_rows(&rt, alloc, Store, rows);
+    let rows = [
+        (SIGNED, l(1), "ParamType i32, i64"),
+        (SIGNED, u(1), "ParamType i32, u32"),
+        (SIGNED, b(true), "ParamType i32, bool"),
+        (SIGNED, n(2147483648), "ParamType i32, AbstractInt"),
+        (UNSIGNED, n(-1), "ParamType u32, AbstractInt"),
+        (UNSIGNED, i(1), "ParamType u32, i32"),
+        (SIGNED, i2(1, 2), "ParamType i32, vec2<i32>"),
+        (SIGNED, Sample::Matrix, "ParamType i32, mat2x2<u32>"),
+        (SIGNED, Sample::Array, "ParamType i32, array<u32, 2>"),
+        (SIGNED, Sample::Structure, "ParamType i32, Pair"),
+        (
+            SIGNED,
+            Sample::Pointer,
+            "ParamType i32, ptr<storage, i32, read_write>",
+        ),
+        (
+            SIGNED,
+            Sample::Reference,
+            "ParamType i32, ref<storage, i32, read_write>",
+        ),
+        (SIGNED, SIGNED, "ParamType i32, atomic<i32>"),
+        (SIGNED, Sample::Deferred, "Builtin"),
+        (UNSIGNED, Sample::Deferred, "Builtin"),
+    ];
+    for (row, (cell, v, wanted)) in rows.iter().enumerate() {
+        for access in [Write, ReadWrite] {
+            let at = (*cell, whole(*cell, access));
+            assert_refused(&rt, alloc, row, at, Store(*v), wanted);
+        }
+    }
 }
