@@ -11,29 +11,18 @@ macro_rules! made {
 /// What the call answers. One growth alone is refused: where the call wants memory, it says so, and is made again.
 macro_rules! answer_of {
     ($rt:expr; $call:expr) => {
-        match crate::tests::asserts::answer_or_none($rt, $call) {
-            Some(answer) => answer,
-            None => $call.expect($rt, "memory"),
+        match $call {
+            Ok(answer) => answer,
+            Err(error) => {
+                crate::tests::asserts::assert_memory($rt, error);
+                $call.expect($rt, "memory")
+            }
         }
     };
-}
-
-/// What the call answers or refuses. One growth alone is refused: where the call wants memory, it is made again.
-macro_rules! told {
-    ($call:expr) => {{
-        let answer = $call;
-        if crate::tests::asserts::wants_memory(&answer) {
-            drop(answer);
-            $call
-        } else {
-            answer
-        }
-    }};
 }
 
 mod asserts;
 mod depth;
 mod growth;
 mod samples;
-mod stores;
 mod without_memory;

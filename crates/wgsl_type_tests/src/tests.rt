@@ -8,7 +8,6 @@ mod layouts;
 mod literals;
 mod operators;
 mod reach;
-mod reading;
 mod samples;
 mod shared;
 mod sizes;

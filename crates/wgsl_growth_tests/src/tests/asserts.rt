@@ -10,34 +10,7 @@ pub(super) fn assert_memory<E: Drop>(rt: &impl Abort, error: E)
 where
     Error: From<E>,
 {
-    let error = Error::from(error);
-    let number = error.number();
-    drop(error);
-    assert_eq!(rt; number, 1);
-}
-
-/// What is answered, or that there was no memory for it.
-pub(super) fn answer_or_none<T, E: Drop>(rt: &impl Abort, answer: Result<T, E>) -> Option<T>
-where
-    Error: From<E>,
-{
-    match answer {
-        Ok(answer) => Some(answer),
-        Err(error) => {
-            assert_memory(rt, error);
-            None
-        }
-    }
-}
-
-/// Whether the call was refused for want of memory.
-pub(super) fn wants_memory<T>(answer: &Result<T, Error>) -> bool {
-    is_memory(answer.as_ref().err())
-}
-
-/// Whether the refusal is that of memory.
-pub(super) fn is_memory(refusal: Option<&Error>) -> bool {
-    matches!(refusal, Some(Error::Memory))
+    assert_eq!(rt; Error::from(error).number(), 1);
 }
 
 /// Asserts that the values are equal.
@@ -47,8 +20,7 @@ pub(super) fn assert_same<T: PartialEq + Debug + Drop>(rt: &impl Abort, value: T
 
 /// Asserts that the value is the wanted one.
 pub(super) fn assert_is<T: PartialEq + Debug + Drop>(rt: &impl Abort, value: T, wanted: &T) {
-    assert_same(rt, &value, wanted);
-    drop(value);
+    assert_eq!(rt; &value, wanted);
 }
 
 /// Asserts that the answer is the wanted value, or that there is none.
@@ -57,8 +29,7 @@ pub(super) fn assert_answer<T: PartialEq + Debug + Drop>(
     answer: Option<T>,
     wanted: Option<&T>,
 ) {
-    assert_same(rt, answer.as_ref(), wanted);
-    drop(answer);
+    assert_eq!(rt; answer.as_ref(), wanted);
 }
 
 /// Asserts that the part is there, and is the wanted one.
@@ -67,6 +38,5 @@ pub(super) fn assert_has<T: PartialEq + Debug + Drop>(
     part: Option<&T>,
     wanted: T,
 ) {
-    assert_same(rt, part, Some(&wanted));
-    drop(wanted);
+    assert_eq!(rt; part, Some(&wanted));
 }

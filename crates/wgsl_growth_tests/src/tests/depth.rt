@@ -14,7 +14,6 @@ mod types;
 mod values;
 mod views;
 
-use crate::tests::asserts::assert_same;
 use crate::tests::samples::{array, array_from, member, storable};
 use std::alloc::Global;
 use std::fmt::Display;
@@ -108,6 +107,5 @@ fn nested(rt: &impl Abort, alloc: Global, levels: usize, texts: [&str; 3]) -> St
 /// Asserts the text of the value.
 fn assert_text<T: Display>(rt: &impl Abort, alloc: Global, value: &T, wanted: &str) {
     let text = made!(rt; value.to_string(alloc));
-    assert_same(rt, text.as_str(), wanted);
-    drop(text);
+    assert_eq!(rt; text.as_str(), wanted);
 }

@@ -7,7 +7,6 @@ use std::alloc::Global;
 use std::process::Abort;
 use wgsl_rules::{AccessMode, StructMemberType, StructType, Type};
 use wgsl_samples::{types, values};
-use wgsl_scalar::Error;
 use wgsl_values::{
     ArrayInstance, AtomicInstance, Instance, MatInstance, MemView, RefInstance, StructInstance,
     VecInstance,
@@ -222,14 +221,4 @@ pub(super) fn named(rt: &impl Abort, alloc: Global, name: &str) -> MemView {
 /// The view of a part of an index alone.
 pub(super) fn at(rt: &impl Abort, alloc: Global, index: usize) -> MemView {
     MemView::Index(index, made!(rt; Box::new(alloc, MemView::Whole)))
-}
-
-/// Why what the view leads to can't be written; `None` where it can.
-pub(super) fn refusal_to_write(alloc: Global, value: &mut Instance, view: &MemView) -> Option<Error>
-    requires { IsWellFormed (value_of value.old) }
-{
-    match value.view_mut(alloc, view) {
-        Ok(_) => None,
-        Err(refusal) => Some(refusal),
-    }
 }

@@ -176,7 +176,7 @@ fn a_session_answers_each_call_as_a_plain_memory(rt: HostRuntime) {
         }
         drop(both);
     }
-    coverage.assert_met(&rt);
+    coverage.assert_met(&rt, alloc);
     drop(coverage);
 }
 
@@ -192,6 +192,6 @@ fn a_session_runs_lists_as_a_plain_memory(rt: HostRuntime) {
         }
         drop(both);
     }
-    coverage.assert_met(&rt);
+    coverage.assert_met(&rt, alloc);
     drop(coverage);
 }

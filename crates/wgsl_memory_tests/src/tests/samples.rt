@@ -6,7 +6,7 @@ ghost use Rattle.wgsl_values.specs.View.{value_of, array_view, atomic_view, mat_
 
 use std::alloc::{AllocError, Global};
 use std::process::Abort;
-use wgsl_rules::{StructType, Type};
+use wgsl_rules::{StructMemberType, StructType, Type};
 use wgsl_samples::types::{array, matrix, member, pair, pair_type, struct_type};
 use wgsl_samples::values::{abstract_numbers, numbers};
 use wgsl_values::{
@@ -147,4 +147,18 @@ pub(super) fn light(rt: &impl Abort, alloc: Global) -> Result<Instance, AllocErr
     let pairs = member(alloc, "pairs", array(alloc, pair(alloc)?, None)?, None)?;
     let ty = struct_type(alloc, "Light", vec![in alloc; m, pairs]?)?;
     Ok(storable(rt, Instance::from(structure_from(rt, ty, members))))
+}
+
+/// A structure of two members, each given by its type and its value.
+pub(super) fn two(
+    rt: &impl Abort,
+    alloc: Global,
+    first: (StructMemberType, Instance),
+    second: (StructMemberType, Instance),
+) -> Result<Instance, AllocError>
+    ensures { IfOk result (λ v. IsWellFormed (value_of v)) }
+{
+    let ty = struct_type(alloc, "S", vec![in alloc; first.0, second.0]?)?;
+    let value = structure_from(rt, ty, vec![in alloc; first.1, second.1]?);
+    Ok(storable(rt, Instance::from(value)))
 }

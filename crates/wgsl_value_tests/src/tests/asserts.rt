@@ -1,8 +1,7 @@
 //! Assertions that take what they compare: where a value is let go in a test itself, how it is dropped is
 //! spelled out in the proof of that test.
 
-use std::alloc::Global;
-use std::fmt::{Debug, Display};
+use std::fmt::Debug;
 use std::process::Abort;
 
 /// Asserts that the values are equal.
@@ -17,6 +16,20 @@ pub(super) fn assert_gives<T: PartialEq + Debug + Drop, E: Debug + Drop>(
     wanted: T,
 ) {
     assert_eq!(rt; answer.expect(rt, "an answer"), wanted);
+}
+
+/// Asserts that the answer is the wanted value.
+pub(super) fn assert_some<T: PartialEq + Debug + Drop, E: Debug + Drop>(
+    rt: &impl Abort,
+    answer: Result<Option<T>, E>,
+    wanted: &T,
+) {
+    assert_eq!(rt; answer.expect(rt, "an answer").as_ref(), Some(wanted));
+}
+
+/// Asserts that the answer is none.
+pub(super) fn assert_none<T: Drop, E: Debug + Drop>(rt: &impl Abort, answer: Result<Option<T>, E>) {
+    assert!(rt; answer.expect(rt, "an answer").is_none());
 }
 
 /// Asserts that the value is the wanted one.
@@ -36,36 +49,4 @@ pub(super) fn assert_has<T: PartialEq + Debug + Drop>(
     wanted: T,
 ) {
     assert_eq!(rt; part, Some(&wanted));
-}
-
-/// Asserts that the answer of the row is the wanted one.
-pub(super) fn assert_row<T: PartialEq + Debug + Drop>(
-    rt: &impl Abort,
-    row: &str,
-    answer: T,
-    wanted: T,
-) {
-    assert_eq!(rt; answer, wanted, "{row}");
-}
-
-/// Asserts that the answer is the wanted list, or none.
-pub(super) fn assert_list<T: PartialEq + Debug + Drop, E: Debug + Drop>(
-    rt: &impl Abort,
-    answer: Result<Option<Vec<T>>, E>,
-    wanted: Option<&[T]>,
-) {
-    let answer = answer.expect(rt, "an answer");
-    assert_eq!(rt; answer.as_ref().map(|list| list.as_slice()), wanted);
-}
-
-/// Asserts the text of the value.
-pub(super) fn assert_text<T: Display>(rt: &impl Abort, alloc: Global, value: &T, wanted: &str) {
-    let text = value.to_string(alloc).expect(rt, "memory");
-    assert_eq!(rt; text.as_str(), wanted);
-    drop(text);
-}
-
-/// Asserts that the values differ.
-pub(super) fn assert_differ<T: PartialEq + Debug + Drop>(rt: &impl Abort, value: T, other: T) {
-    assert_ne!(rt; value, other);
 }

@@ -6,7 +6,7 @@ ghost use Rattle.wgsl_values.specs.View.{value_of, array_view, atomic_view, mat_
 use crate::tests::samples;
 use std::alloc::Global;
 use std::process::Abort;
-use wgsl_rules::Type;
+use wgsl_rules::{AccessMode, Type};
 use wgsl_samples::{types, values};
 use wgsl_values::{
     ArrayInstance, AtomicInstance, Instance, MatInstance, MemView, RefInstance, StructInstance,
@@ -17,8 +17,16 @@ pub(super) fn vector(rt: &impl Abort, alloc: Global, n: u8, ty: Type) -> Type {
     types::vector(alloc, n, ty).expect(rt, "memory")
 }
 
+pub(super) fn matrix(rt: &impl Abort, alloc: Global, ty: Type) -> Type {
+    types::matrix(alloc, ty).expect(rt, "memory")
+}
+
 pub(super) fn array(rt: &impl Abort, alloc: Global, ty: Type, count: Option<usize>) -> Type {
     types::array(alloc, ty, count).expect(rt, "memory")
+}
+
+pub(super) fn reference(rt: &impl Abort, alloc: Global, ty: Type, access: AccessMode) -> Type {
+    types::reference(alloc, ty, access).expect(rt, "memory")
 }
 
 /// struct Pair { a: u32, b: vec3<u32> }
@@ -51,6 +59,25 @@ pub(super) fn vector_of(rt: &impl Abort, alloc: Global, components: &[u32]) -> V
     ensures { IsStorable (vec_view result) }
 {
     samples::vector_of(rt, alloc, components).expect(rt, "memory")
+}
+
+/// The vector of the numbers, each an AbstractInt.
+pub(super) fn abstract_vector(rt: &impl Abort, alloc: Global, components: &[i64]) -> VecInstance
+    ensures { IsStorable (vec_view result) }
+{
+    samples::abstract_vector(rt, alloc, components).expect(rt, "memory")
+}
+
+/// The array of the numbers, each an AbstractInt.
+pub(super) fn abstract_array(
+    rt: &impl Abort,
+    alloc: Global,
+    elements: &[i64],
+    runtime_sized: bool,
+) -> ArrayInstance
+    ensures { IsStorable (array_view result) }
+{
+    samples::abstract_array(rt, alloc, elements, runtime_sized).expect(rt, "memory")
 }
 
 /// The matrix with the columns (1, 2, 3) and (4, 5, 6), each number an AbstractInt.

@@ -3,112 +3,212 @@
 ghost use Rattle.wgsl_rules.specs.Values.{IsStorable};
 ghost use Rattle.wgsl_values.specs.View.{struct_view};
 
-use crate::tests::asserts::{assert_gives, assert_is, assert_is_not, assert_row, assert_same};
+use crate::tests::asserts::{assert_gives, assert_is, assert_is_not, assert_same};
 use crate::tests::fixtures::{
-    array_of, atomic_from, integers, mat2x3, member_then_index, one_of_each_kind, pair_value,
-    reference_of, vector, vector_of,
+    array_of, atomic_from, integers, mat2x3, mat3x2, member_then_index, numbers, one_of_each_kind,
+    pair_value, reference_of, twins, vector, vector_of,
 };
-use crate::tests::reading::{is_true, parted, value, values};
 use crate::tests::samples::vector_from;
 use std::alloc::Global;
 use std::mem;
 use std::process::Abort;
 use wgsl_rules::{AccessMode, AddressSpace, Type};
 use wgsl_samples::types::{pair_type, struct_type};
-use wgsl_scalar::LiteralInstance::{AbstractInt, Bool, I32, I64, U32};
+use wgsl_scalar::LiteralInstance::{AbstractInt, Bool, I32, I64, U32, U64};
 use wgsl_values::{
     ArrayInstance, AtomicInstance, Instance, MatInstance, MemView, PtrInstance, RefInstance,
     SharedStructType, StructInstance, VecInstance,
 };
 
-/// Whether a vector, a matrix, an array of either sort, an atomic, a pair or a structure without members is made of the values.
-const MAKINGS: &str = "\
-    a_vector_has_two_to_four_literals_of_one_kind: vector of nothing = false
-    a_vector_has_two_to_four_literals_of_one_kind: vector of 1u = false
-    a_vector_has_two_to_four_literals_of_one_kind: vector of 1u; 2u = true
-    a_vector_has_two_to_four_literals_of_one_kind: vector of 1u; 2u; 3u = true
-    a_vector_has_two_to_four_literals_of_one_kind: vector of 1u; 2u; 3u; 4u = true
-    a_vector_has_two_to_four_literals_of_one_kind: vector of 1u; 2u; 3u; 4u; 5u = false
-    a_vector_has_two_to_four_literals_of_one_kind: vector of 1u; 2i = false
-    a_vector_has_two_to_four_literals_of_one_kind: vector of true; false = true
-    a_vector_has_two_to_four_literals_of_one_kind: vector of vec(1u, 2u); vec(3u, 4u) = false
-    a_vector_has_two_to_four_literals_of_one_kind: vector of deferred(u32); deferred(u32) = false
-    an_array_has_elements_of_one_type: arrays of nothing = false
-    an_array_has_elements_of_one_type: arrays of 1u = true
-    an_array_has_elements_of_one_type: arrays of 1u; 2u; 3u; 4u; 5u = true
-    an_array_has_elements_of_one_type: arrays of 1u; 2i = false
-    an_array_has_elements_of_one_type: arrays of vec(1u, 2u); vec(3u, 4u) = true
-    an_array_has_elements_of_one_type: arrays of vec(1u, 2u); vec(3u, 4u, 5u) = false
-    an_array_has_elements_of_one_type: arrays of deferred(u32) = false
-    a_matrix_has_two_to_four_vectors_of_one_type: matrix of nothing = false
-    a_matrix_has_two_to_four_vectors_of_one_type: matrix of vec(1u, 2u, 3u) = false
-    a_matrix_has_two_to_four_vectors_of_one_type: matrix of vec(1u, 2u, 3u); vec(1u, 2u, 3u) = true
-    a_matrix_has_two_to_four_vectors_of_one_type: matrix of vec(1u, 2u, 3u); vec(1u, 2u, 3u); vec(1u, 2u, 3u) = true
-    a_matrix_has_two_to_four_vectors_of_one_type: matrix of vec(1u, 2u, 3u); vec(1u, 2u, 3u); vec(1u, 2u, 3u); vec(1u, 2u, 3u) = true
-    a_matrix_has_two_to_four_vectors_of_one_type: matrix of vec(1u, 2u, 3u); vec(1u, 2u, 3u); vec(1u, 2u, 3u); vec(1u, 2u, 3u); vec(1u, 2u, 3u) = false
-    a_matrix_has_two_to_four_vectors_of_one_type: matrix of vec(1u, 2u); vec(3u, 4u, 5u) = false
-    a_matrix_has_two_to_four_vectors_of_one_type: matrix of vec(1u, 2u); vec(1i, 2i) = false
-    a_matrix_has_two_to_four_vectors_of_one_type: matrix of 1u; 2u = false
-    an_atomic_holds_an_i32_or_a_u32: atomic of -5i = true
-    an_atomic_holds_an_i32_or_a_u32: atomic of 5u = true
-    an_atomic_holds_an_i32_or_a_u32: atomic of 5 = false
-    an_atomic_holds_an_i32_or_a_u32: atomic of 5li = false
-    an_atomic_holds_an_i32_or_a_u32: atomic of 5lu = false
-    an_atomic_holds_an_i32_or_a_u32: atomic of true = false
-    an_atomic_holds_an_i32_or_a_u32: atomic of vec(1u, 2u) = false
-    an_atomic_holds_an_i32_or_a_u32: atomic of deferred(u32) = false
-    a_structure_has_the_members_of_its_type: pair of 1u; vec(2u, 3u, 4u) = true
-    a_structure_has_the_members_of_its_type: pair of 1i; vec(2u, 3u, 4u) = false
-    a_structure_has_the_members_of_its_type: pair of 1u; vec(2u, 3u) = false
-    a_structure_has_the_members_of_its_type: pair of 1u; deferred(vec3<u32>) = false
-    a_structure_has_the_members_of_its_type: pair of 1u = false
-    a_structure_has_the_members_of_its_type: pair of 1u; vec(2u, 3u, 4u); 5u = false
-    a_structure_has_the_members_of_its_type: structure of nothing = true";
-
-/// Whether a pair, or a structure without members, is made of the members.
-fn can_make_structure(rt: &impl Abort, alloc: Global, is_pair: bool, members: &[Instance]) -> bool {
-    let ty = if is_pair {
-        pair_type(alloc)
-    } else {
-        struct_type(alloc, "None", Vec::new(alloc))
-    };
-    let ty = ty.expect(rt, "memory");
-    let makes = StructInstance::can_make(&ty, members);
-    drop(ty);
-    makes
-}
-
-/// Whether an array is made of the elements, be it runtime-sized or not.
-fn can_make_arrays(rt: &impl Abort, elements: &[Instance]) -> bool {
-    let makes = ArrayInstance::can_make(elements, true);
-    assert_eq!(rt; ArrayInstance::can_make(elements, false), makes);
-    makes
-}
-
-fn can_make(rt: &impl Abort, alloc: Global, what: &str, values: &[Instance]) -> bool {
-    match what {
-        "vector" => VecInstance::can_make(values),
-        "arrays" => can_make_arrays(rt, values),
-        "matrix" => MatInstance::can_make(values),
-        "atomic" => AtomicInstance::can_make(values.first().expect(rt, "a value")),
-        "pair" => can_make_structure(rt, alloc, true, values),
-        "structure" => can_make_structure(rt, alloc, false, values),
-        _ => panic!(rt; "nothing is made as {what}"),
-    }
+fn assert_makes_vector(rt: &impl Abort, components: Vec<Instance>, makes: bool) {
+    assert_eq!(rt; VecInstance::can_make(&components), makes, "{components:?}");
 }
 
 #[test]
-fn values_are_made_of_others(rt: HostRuntime) {
+fn a_vector_has_two_to_four_literals_of_one_kind(rt: HostRuntime) {
     let alloc = rt.alloc();
-    for row in MAKINGS.lines() {
-        let (question, wanted) = parted(&rt, row, " = ");
-        let (_, question) = parted(&rt, question, ": ");
-        let (what, parts) = parted(&rt, question, " of ");
-        let parts = values(&rt, alloc, parts);
-        let makes = can_make(&rt, alloc, what, &parts);
-        assert_row(&rt, row, makes, is_true(&rt, wanted));
-        drop(parts);
+    assert_makes_vector(&rt, numbers(&rt, alloc, &[]), false);
+    assert_makes_vector(&rt, numbers(&rt, alloc, &[1]), false);
+    assert_makes_vector(&rt, numbers(&rt, alloc, &[1, 2]), true);
+    assert_makes_vector(&rt, numbers(&rt, alloc, &[1, 2, 3]), true);
+    assert_makes_vector(&rt, numbers(&rt, alloc, &[1, 2, 3, 4]), true);
+    assert_makes_vector(&rt, numbers(&rt, alloc, &[1, 2, 3, 4, 5]), false);
+    let mixed = vec![in alloc; Instance::from(1u32), Instance::from(2i32)].expect(&rt, "memory");
+    assert_makes_vector(&rt, mixed, false);
+    let bools = vec![in alloc; Instance::from(true), Instance::from(false)].expect(&rt, "memory");
+    assert_makes_vector(&rt, bools, true);
+    let first = Instance::from(vector_of(&rt, alloc, &[1, 2]));
+    let second = Instance::from(vector_of(&rt, alloc, &[3, 4]));
+    assert_makes_vector(
+        &rt,
+        vec![in alloc; first, second].expect(&rt, "memory"),
+        false,
+    );
+    let deferred = vec![in alloc; Instance::from(Type::U32), Instance::from(Type::U32)].expect(
+        &rt, "memory",
+    );
+    assert_makes_vector(&rt, deferred, false);
+}
+
+fn assert_makes_array(rt: &impl Abort, elements: Vec<Instance>, makes: bool) {
+    assert_eq!(rt;
+        ArrayInstance::can_make(&elements, true),
+        makes,
+        "{elements:?}"
+    );
+    assert_eq!(rt;
+        ArrayInstance::can_make(&elements, false),
+        makes,
+        "{elements:?}"
+    );
+}
+
+#[test]
+fn an_array_has_elements_of_one_type(rt: HostRuntime) {
+    let alloc = rt.alloc();
+    assert_makes_array(&rt, numbers(&rt, alloc, &[]), false);
+    assert_makes_array(&rt, numbers(&rt, alloc, &[1]), true);
+    assert_makes_array(&rt, numbers(&rt, alloc, &[1, 2, 3, 4, 5]), true);
+    let mixed = vec![in alloc; Instance::from(1u32), Instance::from(2i32)].expect(&rt, "memory");
+    assert_makes_array(&rt, mixed, false);
+    let first = Instance::from(vector_of(&rt, alloc, &[1, 2]));
+    let second = Instance::from(vector_of(&rt, alloc, &[3, 4]));
+    assert_makes_array(
+        &rt,
+        vec![in alloc; first, second].expect(&rt, "memory"),
+        true,
+    );
+    let shorter = Instance::from(vector_of(&rt, alloc, &[1, 2]));
+    let longer = Instance::from(vector_of(&rt, alloc, &[3, 4, 5]));
+    assert_makes_array(
+        &rt,
+        vec![in alloc; shorter, longer].expect(&rt, "memory"),
+        false,
+    );
+    assert_makes_array(
+        &rt,
+        vec![in alloc; Instance::from(Type::U32)].expect(&rt, "memory"),
+        false,
+    );
+}
+
+fn assert_makes_matrix(rt: &impl Abort, columns: Vec<Instance>, makes: bool) {
+    assert_eq!(rt; MatInstance::can_make(&columns), makes, "{columns:?}");
+}
+
+#[test]
+fn a_matrix_has_two_to_four_vectors_of_one_type(rt: HostRuntime) {
+    let alloc = rt.alloc();
+    for (count, makes) in [
+        (0, false),
+        (1, false),
+        (2, true),
+        (3, true),
+        (4, true),
+        (5, false),
+    ] {
+        let mut columns = Vec::new(alloc);
+        for _ in 0..count {
+            columns
+                .push(Instance::from(vector_of(&rt, alloc, &[1, 2, 3])))
+                .expect(&rt, "memory");
+        }
+        assert_makes_matrix(&rt, columns, makes);
     }
+    let shorter = Instance::from(vector_of(&rt, alloc, &[1, 2]));
+    let longer = Instance::from(vector_of(&rt, alloc, &[3, 4, 5]));
+    assert_makes_matrix(
+        &rt,
+        vec![in alloc; shorter, longer].expect(&rt, "memory"),
+        false,
+    );
+    let unsigned = Instance::from(vector_of(&rt, alloc, &[1, 2]));
+    let signed = Instance::from(vector_from(&rt, integers(&rt, alloc, &[1, 2])));
+    assert_makes_matrix(
+        &rt,
+        vec![in alloc; unsigned, signed].expect(&rt, "memory"),
+        false,
+    );
+    assert_makes_matrix(&rt, numbers(&rt, alloc, &[1, 2]), false);
+}
+
+#[test]
+fn an_atomic_holds_an_i32_or_a_u32(rt: HostRuntime) {
+    let alloc = rt.alloc();
+    for (literal, makes) in [
+        (I32(-5), true),
+        (U32(5), true),
+        (AbstractInt(5), false),
+        (I64(5), false),
+        (U64(5), false),
+        (Bool(true), false),
+    ] {
+        assert_eq!(rt;
+            AtomicInstance::can_make(&Instance::from(literal)),
+            makes,
+            "{literal}"
+        );
+    }
+    let two = Instance::from(vector_of(&rt, alloc, &[1, 2]));
+    assert!(rt; !AtomicInstance::can_make(&two));
+    assert!(rt; !AtomicInstance::can_make(&Instance::from(Type::U32)));
+    let held = atomic_from(&rt, alloc, Instance::from(-5i32));
+    assert_is(&rt, held.inner(), Instance::from(-5i32));
+    drop((two, held));
+}
+
+fn assert_makes_pair(rt: &impl Abort, alloc: Global, members: Vec<Instance>, makes: bool) {
+    let ty = pair_type(alloc).expect(rt, "memory");
+    assert_eq!(rt;
+        StructInstance::can_make(&ty, &members),
+        makes,
+        "{members:?}"
+    );
+}
+
+#[test]
+fn a_structure_has_the_members_of_its_type(rt: HostRuntime) {
+    let alloc = rt.alloc();
+    let b = Instance::from(vector_of(&rt, alloc, &[2, 3, 4]));
+    assert_makes_pair(
+        &rt,
+        alloc,
+        vec![in alloc; Instance::from(1u32), b].expect(&rt, "memory"),
+        true,
+    );
+    let b = Instance::from(vector_of(&rt, alloc, &[2, 3, 4]));
+    assert_makes_pair(
+        &rt,
+        alloc,
+        vec![in alloc; Instance::from(1i32), b].expect(&rt, "memory"),
+        false,
+    );
+    let b = Instance::from(vector_of(&rt, alloc, &[2, 3]));
+    assert_makes_pair(
+        &rt,
+        alloc,
+        vec![in alloc; Instance::from(1u32), b].expect(&rt, "memory"),
+        false,
+    );
+    let b = Instance::from(vector(&rt, alloc, 3, Type::U32));
+    assert_makes_pair(
+        &rt,
+        alloc,
+        vec![in alloc; Instance::from(1u32), b].expect(&rt, "memory"),
+        false,
+    );
+    assert_makes_pair(&rt, alloc, numbers(&rt, alloc, &[1]), false);
+    let b = Instance::from(vector_of(&rt, alloc, &[2, 3, 4]));
+    let third = Instance::from(5u32);
+    assert_makes_pair(
+        &rt,
+        alloc,
+        vec![in alloc; Instance::from(1u32), b, third].expect(&rt, "memory"),
+        false,
+    );
+    let none = struct_type(alloc, "None", Vec::new(alloc)).expect(&rt, "memory");
+    assert!(rt; StructInstance::can_make(&none, &[]));
+    drop(none);
 }
 
 /// Pair(a, vec3(2u, 3u, 4u)), of the type.
@@ -142,8 +242,8 @@ fn structures_share_their_type_alone(rt: HostRuntime) {
     if let Some(a) = second.member_mut("a") {
         drop(mem::replace(a, Instance::from(9u32)));
     }
-    assert_same(&rt, first, pair_value(&rt, alloc));
-    drop(shared);
+    assert_is(&rt, &first, pair_value(&rt, alloc));
+    drop((first, shared));
     let own = SharedStructType::own(pair_type(alloc).expect(&rt, "memory"));
     assert_same(&rt, second, pair_of(&rt, alloc, own, 9));
 }
@@ -170,62 +270,63 @@ fn a_copy_of_a_structure_type_is_that_type(rt: HostRuntime) {
 #[test]
 fn vectors_are_made_of_literals(rt: HostRuntime) {
     let alloc = rt.alloc();
-    let two = VecInstance::from2(alloc, [I32(1), I32(2)]);
-    assert_gives(&rt, two, vector_from(&rt, integers(&rt, alloc, &[1, 2])));
-    let three = VecInstance::from3(alloc, [U32(1), U32(2), U32(3)]);
-    assert_gives(&rt, three, vector_of(&rt, alloc, &[1, 2, 3]));
-    let four = VecInstance::from4(alloc, [U32(1), U32(2), U32(3), U32(4)]);
-    assert_gives(&rt, four, vector_of(&rt, alloc, &[1, 2, 3, 4]));
+    let two = VecInstance::from2(alloc, [I32(1), I32(2)]).expect(&rt, "memory");
+    assert_same(&rt, two, vector_from(&rt, integers(&rt, alloc, &[1, 2])));
+    let three = VecInstance::from3(alloc, [U32(1), U32(2), U32(3)]).expect(&rt, "memory");
+    assert_same(&rt, three, vector_of(&rt, alloc, &[1, 2, 3]));
+    let four = VecInstance::from4(alloc, [U32(1), U32(2), U32(3), U32(4)]).expect(&rt, "memory");
+    assert_same(&rt, four, vector_of(&rt, alloc, &[1, 2, 3, 4]));
 }
 
 #[test]
 fn literals_are_values(rt: HostRuntime) {
-    assert_same(&rt, Instance::from(I64(-7)), Instance::Literal(I64(-7)));
-    assert_same(&rt, Instance::from(true), Instance::Literal(Bool(true)));
-    assert_same(
-        &rt,
-        Instance::from(-4i64),
-        Instance::Literal(AbstractInt(-4)),
-    );
-    assert_same(&rt, Instance::from(-5i32), Instance::Literal(I32(-5)));
-    assert_same(&rt, Instance::from(6u32), Instance::Literal(U32(6)));
+    for (value, literal) in [
+        (Instance::from(I64(-7)), I64(-7)),
+        (Instance::from(true), Bool(true)),
+        (Instance::from(-4i64), AbstractInt(-4)),
+        (Instance::from(-5i32), I32(-5)),
+        (Instance::from(6u32), U32(6)),
+    ] {
+        assert_eq!(rt; value, Instance::Literal(literal));
+    }
 }
 
 #[test]
 fn payloads_are_values(rt: HostRuntime) {
     let alloc = rt.alloc();
-    let pair = pair_value(&rt, alloc);
+    let pair = Instance::from(pair_value(&rt, alloc));
+    assert_same(&rt, pair, Instance::Struct(pair_value(&rt, alloc)));
+    let array = Instance::from(array_of(&rt, alloc, &[1, 2], false));
     assert_same(
         &rt,
-        Instance::from(pair),
-        Instance::Struct(pair_value(&rt, alloc)),
+        array,
+        Instance::Array(array_of(&rt, alloc, &[1, 2], false)),
     );
-    let array = array_of(&rt, alloc, &[1, 2], false);
-    let same = array_of(&rt, alloc, &[1, 2], false);
-    assert_same(&rt, Instance::from(array), Instance::Array(same));
-    let components = vector_of(&rt, alloc, &[1, 2]);
-    let same = vector_of(&rt, alloc, &[1, 2]);
-    assert_same(&rt, Instance::from(components), Instance::Vec(same));
+    let components = Instance::from(vector_of(&rt, alloc, &[1, 2]));
     assert_same(
         &rt,
-        Instance::from(mat2x3(&rt, alloc)),
-        Instance::Mat(mat2x3(&rt, alloc)),
+        components,
+        Instance::Vec(vector_of(&rt, alloc, &[1, 2])),
     );
-    let reference = reference_of(&rt, alloc);
+    let matrix = Instance::from(mat2x3(&rt, alloc));
+    assert_same(&rt, matrix, Instance::Mat(mat2x3(&rt, alloc)));
+    let reference = Instance::from(reference_of(&rt, alloc));
+    assert_same(&rt, reference, Instance::Ref(reference_of(&rt, alloc)));
+    let pointer = Instance::from(PtrInstance::from(reference_of(&rt, alloc)));
     assert_same(
         &rt,
-        Instance::from(reference),
-        Instance::Ref(reference_of(&rt, alloc)),
+        pointer,
+        Instance::Ptr(PtrInstance::from(reference_of(&rt, alloc))),
     );
-    let pointer = PtrInstance::from(reference_of(&rt, alloc));
-    let same = PtrInstance::from(reference_of(&rt, alloc));
-    assert_same(&rt, Instance::from(pointer), Instance::Ptr(same));
-    let atomic = atomic_from(&rt, alloc, Instance::from(5u32));
-    let same = atomic_from(&rt, alloc, Instance::from(5u32));
-    assert_same(&rt, Instance::from(atomic), Instance::Atomic(same));
-    let deferred = vector(&rt, alloc, 2, Type::U32);
-    let same = vector(&rt, alloc, 2, Type::U32);
-    assert_same(&rt, Instance::from(deferred), Instance::Deferred(same));
+    let atomic = Instance::from(atomic_from(&rt, alloc, Instance::from(5u32)));
+    let held = atomic_from(&rt, alloc, Instance::from(5u32));
+    assert_same(&rt, atomic, Instance::Atomic(held));
+    let deferred = Instance::from(vector(&rt, alloc, 2, Type::U32));
+    assert_same(
+        &rt,
+        deferred,
+        Instance::Deferred(vector(&rt, alloc, 2, Type::U32)),
+    );
 }
 
 #[test]
@@ -233,7 +334,7 @@ fn payloads_of_values(rt: HostRuntime) {
     let alloc = rt.alloc();
     let seven = Instance::Literal(U32(7));
     assert_eq!(rt; seven.unwrap_literal_ref(), &U32(7));
-    assert_same(&rt, seven.unwrap_literal(), U32(7));
+    assert_eq!(rt; seven.unwrap_literal(), U32(7));
     let mut components = Instance::Vec(vector_of(&rt, alloc, &[1, 2]));
     assert_is(
         &rt,
@@ -243,11 +344,9 @@ fn payloads_of_values(rt: HostRuntime) {
     if let Some(second) = components.unwrap_vec_mut().get_mut(1) {
         drop(mem::replace(second, Instance::from(9u32)));
     }
-    assert_same(
-        &rt,
-        components,
-        Instance::Vec(vector_of(&rt, alloc, &[1, 9])),
-    );
+    let wanted = Instance::Vec(vector_of(&rt, alloc, &[1, 9]));
+    assert_eq!(rt; components, wanted);
+    drop((components, wanted));
 }
 
 #[test]
@@ -263,21 +362,19 @@ fn values_of_other_kinds_differ(rt: HostRuntime) {
     let values = one_of_each_kind(&rt, alloc);
     for (i, value) in values.iter().enumerate() {
         for (j, other) in values.iter().enumerate() {
-            assert_same(&rt, (i, j, value == other), (i, j, i == j));
+            assert_eq!(rt; value == other, i == j, "{i} and {j}");
         }
         assert_is(&rt, value, value.clone(alloc).expect(&rt, "memory"));
     }
-    drop(values);
 }
 
 #[test]
 fn all_but_deferred_values_are_storable(rt: HostRuntime) {
     let values = one_of_each_kind(&rt, rt.alloc());
     for (i, value) in values.iter().enumerate() {
-        assert_same(&rt, (i, value.is_well_formed()), (i, true));
-        assert_same(&rt, (i, value.is_storable()), (i, i < 8));
+        assert!(rt; value.is_well_formed(), "{i}");
+        assert_eq!(rt; value.is_storable(), i < 8, "{i}");
     }
-    drop(values);
 }
 
 #[test]
@@ -291,101 +388,81 @@ fn a_value_with_a_deferred_part_is_not_well_formed(rt: HostRuntime) {
     assert!(rt; !array.is_well_formed());
     assert!(rt; !array.is_storable());
     let mut atomic = atomic_from(&rt, alloc, Instance::from(5u32));
-    drop(mem::replace(atomic.inner_mut(), Instance::from(true)));
-    let atomic = Instance::from(atomic);
-    assert!(rt; !atomic.is_storable());
-    drop((array, atomic));
+    *atomic.inner_mut() = Instance::from(true);
+    assert!(rt; !Instance::from(atomic).is_storable());
+    drop(array);
 }
-
-/// A copy of the value, by the call on what it holds.
-fn copied(rt: &impl Abort, alloc: Global, value: &Instance) -> Instance {
-    match value {
-        Instance::Struct(s) => Instance::Struct(s.clone(alloc).expect(rt, "memory")),
-        Instance::Array(a) => Instance::Array(a.clone(alloc).expect(rt, "memory")),
-        Instance::Vec(v) => Instance::Vec(v.clone(alloc).expect(rt, "memory")),
-        Instance::Mat(m) => Instance::Mat(m.clone(alloc).expect(rt, "memory")),
-        Instance::Atomic(a) => Instance::Atomic(a.clone(alloc).expect(rt, "memory")),
-        Instance::Ref(r) => Instance::Ref(r.clone(alloc).expect(rt, "memory")),
-        Instance::Ptr(p) => Instance::Ptr(p.clone(alloc).expect(rt, "memory")),
-        _ => panic!(rt; "{value} holds a literal or a type"),
-    }
-}
-
-/// Whether what the two values hold is equal, by the comparison of that.
-fn hold_the_same(rt: &impl Abort, first: &Instance, second: &Instance) -> bool {
-    match (first, second) {
-        (Instance::Struct(a), Instance::Struct(b)) => a == b,
-        (Instance::Array(a), Instance::Array(b)) => a == b,
-        (Instance::Vec(a), Instance::Vec(b)) => a == b,
-        (Instance::Mat(a), Instance::Mat(b)) => a == b,
-        (Instance::Atomic(a), Instance::Atomic(b)) => a == b,
-        (Instance::Ref(a), Instance::Ref(b)) => a == b,
-        (Instance::Ptr(a), Instance::Ptr(b)) => a == b,
-        _ => panic!(rt; "{first} and {second} are of two kinds"),
-    }
-}
-
-/// Values, each with one of its kind that differs.
-const DIFFERENT: &str = "\
-    Pair != Pair(2u)
-    Pair != Twins
-    array(1u, 2u) != runtime_array(1u, 2u)
-    array(1u, 2u) != array(1u, 2u, 3u)
-    vec(1u, 2u) != vec(1u, 3u)
-    vec(1u, 2u) != vec(1i, 2i)
-    mat2x3 != mat3x2
-    atomic(5u) != atomic(5i)";
 
 #[test]
 fn values_differ_in_any_part(rt: HostRuntime) {
     let alloc = rt.alloc();
-    for row in DIFFERENT.lines() {
-        let (first, second) = parted(&rt, row, " != ");
-        let first = value(&rt, alloc, first);
-        let second = value(&rt, alloc, second);
-        let copy = copied(&rt, alloc, &first);
-        assert_row(&rt, row, hold_the_same(&rt, &first, &copy), true);
-        assert_row(&rt, row, hold_the_same(&rt, &first, &second), false);
-        drop((first, second, copy));
+    let pair = pair_value(&rt, alloc);
+    let mut other = pair.clone(alloc).expect(&rt, "memory");
+    assert_eq!(rt; other, pair);
+    if let Some(a) = other.member_mut("a") {
+        drop(mem::replace(a, Instance::from(2u32)));
     }
+    assert_ne!(rt; other, pair);
+    assert_is_not(&rt, &pair, twins(&rt, alloc));
+    let two = array_of(&rt, alloc, &[1, 2], false);
+    assert_is(&rt, &two, two.clone(alloc).expect(&rt, "memory"));
+    assert_is_not(&rt, &two, array_of(&rt, alloc, &[1, 2], true));
+    assert_is_not(&rt, &two, array_of(&rt, alloc, &[1, 2, 3], false));
+    let components = vector_of(&rt, alloc, &[1, 2]);
+    assert_is(
+        &rt,
+        &components,
+        components.clone(alloc).expect(&rt, "memory"),
+    );
+    assert_is_not(&rt, &components, vector_of(&rt, alloc, &[1, 3]));
+    assert_is_not(
+        &rt,
+        &components,
+        vector_from(&rt, integers(&rt, alloc, &[1, 2])),
+    );
+    let matrix = mat2x3(&rt, alloc);
+    assert_is(&rt, &matrix, matrix.clone(alloc).expect(&rt, "memory"));
+    assert_is_not(&rt, &matrix, mat3x2(&rt, alloc));
+    let atomic = atomic_from(&rt, alloc, Instance::from(5u32));
+    assert_is(&rt, &atomic, atomic.clone(alloc).expect(&rt, "memory"));
+    assert_is_not(&rt, &atomic, atomic_from(&rt, alloc, Instance::from(5i32)));
+    drop((pair, other, two, components, matrix, atomic));
 }
 
-/// Asserts that the reference differs from that of `reference_of`, and so do the pointers of the two.
-fn assert_differs(rt: &impl Abort, alloc: Global, other: RefInstance) {
-    assert_is_not(rt, &other, reference_of(rt, alloc));
-    let pointer = PtrInstance::from(reference_of(rt, alloc));
-    assert_is_not(rt, &pointer, PtrInstance::from(other));
-    drop(pointer);
-}
-
-/// The reference to `:m:2` of the cell.
-fn reference_in(
+fn assert_differs(
     rt: &impl Abort,
     alloc: Global,
     cell: usize,
     ty: Type,
     space: AddressSpace,
     access: AccessMode,
-) -> RefInstance {
-    RefInstance::from_parts(cell, member_then_index(rt, alloc), ty, space, access)
+) {
+    let view = member_then_index(rt, alloc);
+    let other = RefInstance::from_parts(cell, view, ty, space, access);
+    assert_ne!(rt; other, reference_of(rt, alloc));
+    assert_ne!(rt;
+        PtrInstance::from(other),
+        PtrInstance::from(reference_of(rt, alloc))
+    );
 }
 
 #[test]
 fn references_differ_in_cell_view_type_space_and_access(rt: HostRuntime) {
     let alloc = rt.alloc();
-    let (storage, mode) = (AddressSpace::Storage, AccessMode::ReadWrite);
     let reference = reference_of(&rt, alloc);
-    assert_gives(&rt, reference.clone(alloc), reference);
+    assert_is(
+        &rt,
+        &reference,
+        reference.clone(alloc).expect(&rt, "memory"),
+    );
     let pointer = PtrInstance::from(reference_of(&rt, alloc));
     assert_gives(&rt, pointer.clone(alloc), pointer);
-    let other = reference_in(&rt, alloc, 8, Type::U32, storage, mode);
-    assert_differs(&rt, alloc, other);
-    let other = reference_in(&rt, alloc, 7, Type::I32, storage, mode);
-    assert_differs(&rt, alloc, other);
-    let other = reference_in(&rt, alloc, 7, Type::U32, AddressSpace::Function, mode);
-    assert_differs(&rt, alloc, other);
-    let other = reference_in(&rt, alloc, 7, Type::U32, storage, AccessMode::Read);
-    assert_differs(&rt, alloc, other);
+    let (storage, mode) = (AddressSpace::Storage, AccessMode::ReadWrite);
+    assert_differs(&rt, alloc, 8, Type::U32, storage, mode);
+    assert_differs(&rt, alloc, 7, Type::I32, storage, mode);
+    assert_differs(&rt, alloc, 7, Type::U32, AddressSpace::Function, mode);
+    assert_differs(&rt, alloc, 7, Type::U32, storage, AccessMode::Read);
     let whole = RefInstance::from_parts(7, MemView::Whole, Type::U32, storage, mode);
-    assert_differs(&rt, alloc, whole);
+    assert_ne!(rt; whole, reference);
+    drop((reference, whole));
 }

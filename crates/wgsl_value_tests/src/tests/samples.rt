@@ -6,7 +6,7 @@ ghost use Rattle.wgsl_values.specs.View.{value_of, array_view, atomic_view, mat_
 
 use std::alloc::{AllocError, Global};
 use std::process::Abort;
-use wgsl_rules::{StructMemberType, StructType, Type};
+use wgsl_rules::{StructType, Type};
 use wgsl_samples::types::{array, matrix, member, pair, pair_type, struct_type};
 use wgsl_samples::values::{abstract_numbers, numbers, reference_of};
 use wgsl_values::{
@@ -82,11 +82,9 @@ pub(super) fn abstract_array(
 pub(super) fn abstract_mat2x3(rt: &impl Abort, alloc: Global) -> Result<MatInstance, AllocError>
     ensures { IfOk result (λ m. IsStorable (mat_view m)) }
 {
-    let mut columns = Vec::new(alloc);
-    for column in [[1i64, 2, 3], [4, 5, 6]] {
-        columns.push(Instance::from(abstract_vector(rt, alloc, &column)?))?;
-    }
-    Ok(matrix_from(rt, columns))
+    let first = Instance::from(abstract_vector(rt, alloc, &[1, 2, 3])?);
+    let second = Instance::from(abstract_vector(rt, alloc, &[4, 5, 6])?);
+    Ok(matrix_from(rt, vec![in alloc; first, second]?))
 }
 
 /// The array of the numbers, each an u32.
@@ -112,22 +110,19 @@ pub(super) fn matrix_from(rt: &impl Abort, columns: Vec<Instance>) -> MatInstanc
 pub(super) fn mat2x3(rt: &impl Abort, alloc: Global) -> Result<MatInstance, AllocError>
     ensures { IfOk result (λ m. IsStorable (mat_view m)) }
 {
-    let mut columns = Vec::new(alloc);
-    for column in [[1u32, 2, 3], [4, 5, 6]] {
-        columns.push(Instance::from(vector_of(rt, alloc, &column)?))?;
-    }
-    Ok(matrix_from(rt, columns))
+    let first = Instance::from(vector_of(rt, alloc, &[1, 2, 3])?);
+    let second = Instance::from(vector_of(rt, alloc, &[4, 5, 6])?);
+    Ok(matrix_from(rt, vec![in alloc; first, second]?))
 }
 
 /// The matrix with the columns (1u, 4u), (2u, 5u) and (3u, 6u).
 pub(super) fn mat3x2(rt: &impl Abort, alloc: Global) -> Result<MatInstance, AllocError>
     ensures { IfOk result (λ m. IsStorable (mat_view m)) }
 {
-    let mut columns = Vec::new(alloc);
-    for column in [[1u32, 4], [2, 5], [3, 6]] {
-        columns.push(Instance::from(vector_of(rt, alloc, &column)?))?;
-    }
-    Ok(matrix_from(rt, columns))
+    let first = Instance::from(vector_of(rt, alloc, &[1, 4])?);
+    let second = Instance::from(vector_of(rt, alloc, &[2, 5])?);
+    let third = Instance::from(vector_of(rt, alloc, &[3, 6])?);
+    Ok(matrix_from(rt, vec![in alloc; first, second, third]?))
 }
 
 pub(super) fn atomic_from(
@@ -172,47 +167,14 @@ pub(super) fn pair_value(rt: &impl Abort, alloc: Global) -> Result<StructInstanc
     pair_with(rt, alloc, 1)
 }
 
-/// What both answers have; an error where one of them is that.
-pub(super) fn both<T: Drop, U: Drop>(
-    first: Result<T, AllocError>,
-    second: Result<U, AllocError>,
-) -> Result<(T, U), AllocError> {
-    Ok((first?, second?))
-}
-
-/// The structure type of the two members.
-fn of_two(
-    alloc: Global,
-    name: &str,
-    first: Result<StructMemberType, AllocError>,
-    second: Result<StructMemberType, AllocError>,
-) -> Result<StructType, AllocError> {
-    let (first, second) = both(first, second)?;
-    struct_type(alloc, name, vec![in alloc; first, second]?)
-}
-
 /// Twins(1u, 2u), whose type has two members of the name a.
 pub(super) fn twins(rt: &impl Abort, alloc: Global) -> Result<StructInstance, AllocError>
     ensures { IfOk result (λ s. IsStorable (struct_view s)) }
 {
-    let first = member(alloc, "a", Type::U32, None);
-    let second = member(alloc, "a", Type::U32, None);
-    let ty = of_two(alloc, "Twins", first, second);
-    let (ty, members) = both(ty, numbers(alloc, &[1, 2]))?;
-    Ok(structure_from(rt, ty, members))
-}
-
-/// array(Pair(1u, vec3(2u, 3u, 4u))), runtime-sized.
-fn pairs(rt: &impl Abort, alloc: Global) -> Result<ArrayInstance, AllocError> {
-    let pairs = vec![in alloc; Instance::from(pair_value(rt, alloc)?)]?;
-    Ok(array_from(rt, pairs, true))
-}
-
-/// struct Light { m: mat2x3<u32>, pairs: array<Pair> }
-fn light_type(alloc: Global) -> Result<StructType, AllocError> {
-    let m = member(alloc, "m", matrix(alloc, Type::U32)?, None);
-    let (m, pairs) = both(m, array(alloc, pair(alloc)?, None))?;
-    of_two(alloc, "Light", Ok(m), member(alloc, "pairs", pairs, None))
+    let first = member(alloc, "a", Type::U32, None)?;
+    let second = member(alloc, "a", Type::U32, None)?;
+    let ty = struct_type(alloc, "Twins", vec![in alloc; first, second]?)?;
+    Ok(structure_from(rt, ty, numbers(alloc, &[1, 2])?))
 }
 
 /// Light(mat2x3(vec3(1u, 2u, 3u), vec3(4u, 5u, 6u)), array(Pair(1u, vec3(2u, 3u, 4u)))), with the
@@ -220,16 +182,14 @@ fn light_type(alloc: Global) -> Result<StructType, AllocError> {
 pub(super) fn light(rt: &impl Abort, alloc: Global) -> Result<Instance, AllocError>
     ensures { IfOk result (λ v. IsStorable (value_of v)) }
 {
-    let (m, pairs) = both(mat2x3(rt, alloc), pairs(rt, alloc))?;
-    let members = vec![in alloc; Instance::from(m), Instance::from(pairs)]?;
-    let (ty, members) = both(light_type(alloc), Ok(members))?;
+    let pairs = vec![in alloc; Instance::from(pair_value(rt, alloc)?)]?;
+    assert!(rt; ArrayInstance::can_make(&pairs, true));
+    let pairs = Instance::from(ArrayInstance::new(pairs, true));
+    let members = vec![in alloc; Instance::from(mat2x3(rt, alloc)?), pairs]?;
+    let m = member(alloc, "m", matrix(alloc, Type::U32)?, None)?;
+    let pairs = member(alloc, "pairs", array(alloc, pair(alloc)?, None)?, None)?;
+    let ty = struct_type(alloc, "Light", vec![in alloc; m, pairs]?)?;
     Ok(storable(rt, Instance::from(structure_from(rt, ty, members))))
-}
-
-/// Puts the value behind the others.
-fn push(values: &mut Vec<Instance>, value: Result<Instance, AllocError>) -> Result<(), AllocError> {
-    values.push(value?)?;
-    Ok(())
 }
 
 /// Nine values, one of each kind; the deferred one is last.
@@ -237,19 +197,16 @@ pub(super) fn one_of_each_kind(
     rt: &impl Abort,
     alloc: Global,
 ) -> Result<Vec<Instance>, AllocError> {
-    let mut values = numbers(alloc, &[7])?;
-    push(&mut values, pair_value(rt, alloc).map(Instance::Struct))?;
-    let array = array_of(rt, alloc, &[1, 2, 3], false);
-    push(&mut values, array.map(Instance::Array))?;
-    let vector = vector_of(rt, alloc, &[1, 2, 3]);
-    push(&mut values, vector.map(Instance::Vec))?;
-    push(&mut values, mat2x3(rt, alloc).map(Instance::Mat))?;
-    let pointer = reference_of(alloc).map(PtrInstance::from);
-    push(&mut values, pointer.map(Instance::Ptr))?;
-    push(&mut values, reference_of(alloc).map(Instance::Ref))?;
-    let atomic = atomic_from(rt, alloc, Instance::from(5u32));
-    push(&mut values, atomic.map(Instance::Atomic))?;
-    push(&mut values, Ok(Instance::Deferred(Type::U32)))?;
+    let mut values = Vec::new(alloc);
+    values.push(Instance::from(7u32))?;
+    values.push(Instance::from(pair_value(rt, alloc)?))?;
+    values.push(Instance::from(array_of(rt, alloc, &[1, 2, 3], false)?))?;
+    values.push(Instance::from(vector_of(rt, alloc, &[1, 2, 3])?))?;
+    values.push(Instance::from(mat2x3(rt, alloc)?))?;
+    values.push(Instance::from(PtrInstance::from(reference_of(alloc)?)))?;
+    values.push(Instance::from(reference_of(alloc)?))?;
+    values.push(Instance::from(atomic_from(rt, alloc, Instance::from(5u32))?))?;
+    values.push(Instance::from(Type::U32))?;
     Ok(values)
 }
 

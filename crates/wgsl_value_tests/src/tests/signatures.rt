@@ -1,9 +1,7 @@
 //! Call signatures and the arguments of templates.
 
-use crate::tests::asserts::{assert_is, assert_is_not, assert_same, assert_text};
+use crate::tests::asserts::assert_is;
 use std::alloc::{AllocError, Global};
-use std::mem;
-use std::process::Abort;
 use wgsl_rules::{AccessMode, Enumerant, Type};
 use wgsl_samples::types::vector;
 use wgsl_values::{CallSignature, Instance, TpltParam};
@@ -37,34 +35,41 @@ pub(super) fn templated(alloc: Global) -> Result<CallSignature, AllocError> {
 #[test]
 fn texts_of_template_arguments(rt: HostRuntime) {
     let alloc = rt.alloc();
-    let params = template(alloc).expect(&rt, "memory");
-    for (param, text) in params.iter().zip(["f32", "4", "read_write"]) {
-        assert_text(&rt, alloc, param, text);
+    let texts = ["f32", "4", "read_write"];
+    for (param, text) in template(alloc).expect(&rt, "memory").iter().zip(texts) {
+        assert_eq!(rt; param.to_string(alloc).expect(&rt, "memory").as_str(), text);
     }
-    drop(params);
-}
-
-/// Asserts the text of the call without a template.
-fn assert_call_text(rt: &impl Abort, alloc: Global, name: &str, args: Vec<Type>, text: &str) {
-    let signature = call(alloc, name, None, args).expect(rt, "memory");
-    assert_text(rt, alloc, &signature, text);
-    drop(signature);
 }
 
 #[test]
 fn texts_of_call_signatures(rt: HostRuntime) {
     let alloc = rt.alloc();
-    assert_call_text(&rt, alloc, "f", Vec::new(alloc), "f()");
-    let args = vec![in alloc; Type::U32, Type::AbstractInt].expect(&rt, "memory");
-    assert_call_text(&rt, alloc, "min", args, "min(u32, AbstractInt)");
-    let templated = templated(alloc).expect(&rt, "memory");
-    assert_text(
-        &rt,
-        alloc,
-        &templated,
-        "f<f32, 4, read_write>(u32, vec2<i32>)",
+    let without = call(alloc, "f", None, Vec::new(alloc)).expect(&rt, "memory");
+    assert_eq!(rt;
+        without.to_string(alloc).expect(&rt, "memory").as_str(),
+        "f()"
     );
-    drop(templated);
+    let arguments = call(
+        alloc,
+        "min",
+        None,
+        vec![in alloc; Type::U32, Type::AbstractInt].expect(&rt, "memory"),
+    )
+    .expect(&rt, "memory");
+    assert_eq!(rt;
+        arguments.to_string(alloc).expect(&rt, "memory").as_str(),
+        "min(u32, AbstractInt)"
+    );
+    let text = "f<f32, 4, read_write>(u32, vec2<i32>)";
+    assert_eq!(rt;
+        templated(alloc)
+            .expect(&rt, "memory")
+            .to_string(alloc)
+            .expect(&rt, "memory")
+            .as_str(),
+        text
+    );
+    drop((without, arguments));
 }
 
 #[test]
@@ -74,7 +79,7 @@ fn copies_of_template_arguments_are_equal(rt: HostRuntime) {
     for (i, param) in params.iter().enumerate() {
         assert_is(&rt, param, param.clone(alloc).expect(&rt, "memory"));
         for (j, other) in params.iter().enumerate() {
-            assert_same(&rt, (i, j, param == other), (i, j, i == j));
+            assert_eq!(rt; param == other, i == j);
         }
     }
     drop(params);
@@ -90,14 +95,13 @@ fn signatures_differ_in_name_template_and_arguments(rt: HostRuntime) {
         signature.clone(alloc).expect(&rt, "memory"),
     );
     let mut other = signature.clone(alloc).expect(&rt, "memory");
-    let name = format!(in alloc; "g").expect(&rt, "memory");
-    drop(mem::replace(&mut other.name, name));
-    assert_is_not(&rt, &signature, other);
+    other.name = format!(in alloc; "g").expect(&rt, "memory");
+    assert_ne!(rt; other, signature);
     let mut other = signature.clone(alloc).expect(&rt, "memory");
-    drop(mem::replace(&mut other.tplt, None));
-    assert_is_not(&rt, &signature, other);
+    other.tplt = None;
+    assert_ne!(rt; other, signature);
     let mut other = signature.clone(alloc).expect(&rt, "memory");
-    drop(mem::replace(&mut other.args, Vec::new(alloc)));
-    assert_is_not(&rt, &signature, other);
-    drop(signature);
+    other.args = Vec::new(alloc);
+    assert_ne!(rt; other, signature);
+    drop((signature, other));
 }

@@ -3,7 +3,6 @@
 
 use crate::tests::asserts::assert_same;
 use crate::tests::depth::{arrays, first_parts, in_arrays, levels, nested};
-use crate::tests::stores::{cell_with, copy, part_at, read, read_write, write};
 use std::alloc::Global;
 use std::process::Abort;
 use wgsl_rules::AccessMode::ReadWrite;
@@ -14,6 +13,39 @@ use wgsl_scalar::{Error, LiteralInstance};
 use wgsl_store::{Loads, References, Show, Store};
 use wgsl_values::{Instance, RefInstance};
 
+/// The reference to a new cell with the value.
+fn cell_with(rt: &impl Abort, alloc: Global, store: &mut Store, value: Instance) -> RefInstance {
+    assert!(rt; value.is_storable());
+    assert!(rt; store.holds_value(&value));
+    made!(rt; RefInstance::new(alloc, store, value, Storage, ReadWrite))
+}
+
+fn write(
+    rt: &impl Abort,
+    alloc: Global,
+    store: &mut Store,
+    reference: &RefInstance,
+    value: Instance,
+) -> Result<(), Error> {
+    assert!(rt; store.holds(reference));
+    assert!(rt; value.is_storable());
+    assert!(rt; store.holds_value(&value));
+    reference.write(alloc, store, value)
+}
+
+fn read_write(
+    rt: &impl Abort,
+    alloc: Global,
+    store: &mut Store,
+    reference: &RefInstance,
+    value: Instance,
+) -> Instance {
+    assert!(rt; store.holds(reference));
+    assert!(rt; value.is_storable());
+    assert!(rt; store.holds_value(&value));
+    made!(rt; reference.read_write(alloc, store, value))
+}
+
 /// Asserts what the reference is read as.
 fn assert_reads(
     rt: &impl Abort,
@@ -22,7 +54,27 @@ fn assert_reads(
     reference: &RefInstance,
     wanted: Instance,
 ) {
-    assert_same(rt, read(rt, alloc, store, reference), wanted);
+    assert!(rt; store.holds(reference));
+    assert_same(rt, made!(rt; reference.read(alloc, store)), wanted);
+}
+
+/// The first part of what the reference names.
+fn first_of(rt: &impl Abort, alloc: Global, store: &Store, whole: &RefInstance) -> RefInstance {
+    assert!(rt; store.holds(whole));
+    made!(rt; whole.view_index(alloc, store, 0))
+}
+
+/// Asserts that what the one reference names is copied to what the other names.
+fn assert_copied(
+    rt: &impl Abort,
+    alloc: Global,
+    store: &mut Store,
+    from: &RefInstance,
+    to: &RefInstance,
+) {
+    assert!(rt; store.holds(from));
+    assert!(rt; store.holds(to));
+    assert_same(rt, from.copy_to(alloc, store, to), Ok(()));
 }
 
 /// The reference to the part of the cell that is so many steps inside.
@@ -52,11 +104,10 @@ fn assert_written(
     let written = write(rt, alloc, store, reference, value);
     assert_same(rt, written, Ok(()));
     let value = in_arrays(rt, alloc, levels, Instance::from(second));
-    let old = made!(rt; read_write(rt, alloc, store, reference, value));
+    let old = read_write(rt, alloc, store, reference, value);
     let wanted = in_arrays(rt, alloc, levels, Instance::from(first));
     assert_same(rt, old, wanted);
-    let copied = copy(rt, alloc, store, reference, reference);
-    assert_same(rt, copied, Ok(()));
+    assert_copied(rt, alloc, store, reference, reference);
     let wanted = in_arrays(rt, alloc, levels, Instance::from(second));
     assert_reads(rt, alloc, store, reference, wanted);
 }
@@ -68,7 +119,7 @@ fn assert_cell(rt: &impl Abort, alloc: Global, depth: usize, values: [LiteralIns
     let mut store = Store::new(alloc);
     let value = in_arrays(rt, alloc, depth, Instance::from(first));
     let whole = cell_with(rt, alloc, &mut store, value);
-    let element = part_at(rt, alloc, &store, &whole, 0);
+    let element = first_of(rt, alloc, &store, &whole);
     let inside = part_of(rt, alloc, &whole, depth, first.literal_ty());
     assert_reads(rt, alloc, &store, &inside, Instance::from(first));
     assert_written(rt, alloc, &mut store, &whole, depth, [first, second]);
@@ -125,8 +176,8 @@ fn what_is_told_of_a_cell(rt: HostRuntime) {
     let value = in_arrays(&rt, alloc, depth, Instance::from(1u32));
     let whole = cell_with(&rt, alloc, &mut store, value);
     assert!(rt; store.holds(&whole));
-    assert_same(&rt, whole.names_component(&store), false);
-    assert_same(&rt, store.element_count(&whole), Some(1));
+    assert!(rt; !whole.names_component(&store));
+    assert_eq!(rt; store.element_count(&whole), Some(1));
     let bytes = [1u8, 0, 0, 0];
     assert_same(&rt, store.read_bytes(&whole), Ok(Some(bytes.as_slice())));
     let shown = made!(&rt; whole.show(alloc, &store));

@@ -3,7 +3,6 @@
 
 use crate::tests::asserts::{assert_is, assert_same};
 use crate::tests::depth::{arrays, assert_text, levels, nested};
-use crate::tests::stores::cell_with;
 use std::alloc::Global;
 use std::process::Abort;
 use wgsl_rules::AccessMode::ReadWrite;
@@ -11,6 +10,13 @@ use wgsl_rules::AddressSpace::Storage;
 use wgsl_rules::{Ty, Type};
 use wgsl_store::{Loads, References, Store};
 use wgsl_values::{Instance, MemView, PtrInstance, RefInstance};
+
+/// The reference to a new cell with the value.
+fn cell_with(rt: &impl Abort, alloc: Global, store: &mut Store, value: Instance) -> RefInstance {
+    assert!(rt; value.is_storable());
+    assert!(rt; store.holds_value(&value));
+    made!(rt; RefInstance::new(alloc, store, value, Storage, ReadWrite))
+}
 
 /// The last of a hundred references, the first of them to 5u.
 fn chain(rt: &impl Abort, alloc: Global, store: &mut Store) -> RefInstance {
@@ -27,7 +33,7 @@ fn a_chain_is_copied_and_printed(rt: HostRuntime) {
     let mut store = Store::new(alloc);
     let reference = chain(&rt, alloc, &mut store);
     let copy = made!(&rt; reference.clone(alloc));
-    assert_same(&rt, &copy, &reference);
+    assert!(rt; copy == reference);
     let wanted = nested(&rt, alloc, 100, ["ref<storage, ", "u32", ", read_write>"]);
     assert_text(&rt, alloc, &reference, wanted.as_str());
     let wanted = nested(&rt, alloc, 99, ["ref<storage, ", "u32", ", read_write>"]);
@@ -69,9 +75,9 @@ fn references_to_deep_types(rt: HostRuntime) {
     let reference = to_arrays(&rt, alloc, depth, Type::U32);
     let other = to_arrays(&rt, alloc, depth, Type::I32);
     assert_is(&rt, made!(&rt; reference.clone(alloc)), &reference);
-    assert_same(&rt, reference != other, true);
+    assert!(rt; reference != other);
     let own = made!(&rt; reference.ty(alloc));
-    assert_same(&rt, reference.has_ty(&own), true);
+    assert!(rt; reference.has_ty(&own));
     drop(own);
     let ty = nested(&rt, alloc, depth, ["array<", "u32", ", 1>"]);
     let wanted = made!(&rt; format!(in alloc; "ref<storage, {ty}, read_write>"));

@@ -7,7 +7,6 @@ ghost use Rattle.wgsl_values.specs.View.{value_of};
 use crate::tests::asserts::{assert_answer, assert_has, assert_is, assert_same};
 use crate::tests::depth::{assert_text, levels, nested, structure, structure_chain};
 use crate::tests::samples::{storable, text};
-use crate::tests::stores::{cell_with, read, write};
 use std::alloc::Global;
 use std::mem;
 use std::process::Abort;
@@ -55,10 +54,10 @@ fn copies_types_and_texts(rt: HostRuntime) {
     let other = in_structures(&rt, alloc, depth, 2);
     let ty = structure_chain(&rt, alloc, depth, Type::U32);
     assert_is(&rt, made!(&rt; value.clone(alloc)), &value);
-    assert_same(&rt, value != other, true);
+    assert!(rt; value != other);
     assert_is(&rt, made!(&rt; value.ty(alloc)), &ty);
-    assert_same(&rt, value.has_ty(&ty), true);
-    assert_same(&rt, value.is_convertible_to(&ty), true);
+    assert!(rt; value.has_ty(&ty));
+    assert!(rt; value.is_convertible_to(&ty));
     let answer = made!(&rt; value.convert_to(alloc, &ty));
     assert_answer(&rt, answer, Some(&value));
     let wanted = nested(&rt, alloc, depth, ["S(", "1u", ")"]);
@@ -103,12 +102,15 @@ fn a_cell_of_structures(rt: HostRuntime) {
     let depth = levels(&rt) / 8;
     let mut store = Store::new(alloc);
     let value = in_structures(&rt, alloc, depth, 1);
-    let whole = cell_with(&rt, alloc, &mut store, value);
+    assert!(rt; store.holds_value(&value));
+    let whole = made!(&rt; RefInstance::new(alloc, &mut store, value, Storage, ReadWrite));
     let next = in_structures(&rt, alloc, depth, 2);
-    let written = write(&rt, alloc, &mut store, &whole, next);
-    assert_same(&rt, written, Ok(()));
+    assert!(rt; store.holds(&whole));
+    assert!(rt; store.holds_value(&next));
+    assert_same(&rt, whole.write(alloc, &mut store, next), Ok(()));
+    assert!(rt; store.holds(&whole));
     let wanted = in_structures(&rt, alloc, depth, 2);
-    assert_same(&rt, read(&rt, alloc, &store, &whole), wanted);
+    assert_same(&rt, made!(&rt; whole.read(alloc, &store)), wanted);
     drop((store, whole));
 }
 
@@ -120,8 +122,8 @@ fn types_that_are_shared(rt: HostRuntime) {
     let other = structure(&rt, alloc, structure_chain(&rt, alloc, around, Type::I32));
     let own = SharedStructType::own(ty);
     let copy = made!(&rt; own.clone(alloc));
-    assert_same(&rt, &copy, &own);
-    assert_same(&rt, own.is_type(copy.get()), true);
-    assert_same(&rt, own.is_type(&other), false);
+    assert!(rt; copy == own);
+    assert!(rt; own.is_type(copy.get()));
+    assert!(rt; !own.is_type(&other));
     drop((own, copy, other));
 }

@@ -18,7 +18,7 @@ fn copies_and_whether_values_are_equal(rt: HostRuntime) {
     let depth = levels(&rt);
     let value = in_arrays(&rt, alloc, depth, Instance::from(1u32));
     let other = in_arrays(&rt, alloc, depth, Instance::from(2u32));
-    assert_same(&rt, value != other, true);
+    assert!(rt; value != other);
     drop(other);
     assert_is(&rt, made!(&rt; value.clone(alloc)), &value);
     drop(value);
@@ -38,10 +38,10 @@ fn types_of_values(rt: HostRuntime) {
     let other = arrays(&rt, alloc, depth, Type::I32);
     assert_is(&rt, made!(&rt; value.ty(alloc)), &ty);
     assert_is(&rt, made!(&rt; value.inner_ty(alloc)), &inner);
-    assert_same(&rt, value.has_ty(&ty), true);
-    assert_same(&rt, value.has_ty(&other), false);
-    assert_same(&rt, value.is_convertible_to(&ty), true);
-    assert_same(&rt, value.is_convertible_to(&other), false);
+    assert!(rt; value.has_ty(&ty));
+    assert!(rt; !value.has_ty(&other));
+    assert!(rt; value.is_convertible_to(&ty));
+    assert!(rt; !value.is_convertible_to(&other));
     drop((value, ty, inner, other));
 }
 

@@ -1,9 +1,11 @@
 //! Views of 100,000 steps, whatever the levels of types and values are: they are gone along in loops.
 
+ghost use Rattle.wgsl_rules.specs.Values.{IsWellFormed};
+ghost use Rattle.wgsl_values.specs.View.{value_of};
+
 use crate::tests::asserts::{assert_is, assert_same};
 use crate::tests::depth::{assert_text, first_parts, nested};
-use crate::tests::samples::{array, array_of, refusal_to_write, storable, text};
-use crate::tests::stores::{cell_with, layout_of};
+use crate::tests::samples::{array, array_of, storable, text};
 use std::alloc::Global;
 use std::process::Abort;
 use wgsl_rules::AccessMode::ReadWrite;
@@ -11,7 +13,7 @@ use wgsl_rules::AddressSpace::Storage;
 use wgsl_rules::Type;
 use wgsl_scalar::Error;
 use wgsl_store::LayoutRefusal::NoPart;
-use wgsl_store::{References, Store};
+use wgsl_store::{Layout, References, Store};
 use wgsl_values::{Instance, MemView, RefInstance};
 
 const STEPS: usize = 100_000;
@@ -25,21 +27,31 @@ fn copies_of_views_with_a_step_more(rt: HostRuntime) {
     let alloc = rt.alloc();
     let view = long_view(&rt, alloc);
     let mut copy = made!(&rt; view.clone(alloc));
-    assert_same(&rt, &copy, &view);
+    assert!(rt; copy == view);
     made!(&rt; copy.append_index(alloc, 7));
     let longer = made!(&rt; view.with_index(alloc, 7));
-    assert_same(&rt, &longer, &copy);
-    assert_same(&rt, longer != view, true);
+    assert!(rt; longer == copy);
+    assert!(rt; longer != view);
     let wanted = nested(&rt, alloc, STEPS, [":0", ":7", ""]);
     assert_text(&rt, alloc, &longer, wanted.as_str());
     drop((copy, longer));
     let mut copy = made!(&rt; view.clone(alloc));
     made!(&rt; copy.append_member(alloc, text(&rt, alloc, "m")));
     let longer = made!(&rt; view.with_member(alloc, text(&rt, alloc, "m")));
-    assert_same(&rt, &longer, &copy);
+    assert!(rt; longer == copy);
     let wanted = nested(&rt, alloc, STEPS, [":0", ":m", ""]);
     assert_text(&rt, alloc, &longer, wanted.as_str());
     drop((view, copy, longer));
+}
+
+/// Why what the view leads to can't be written; `None` where it can.
+fn refusal_to_write(alloc: Global, value: &mut Instance, view: &MemView) -> Option<Error>
+    requires { IsWellFormed (value_of value.old) }
+{
+    match value.view_mut(alloc, view) {
+        Ok(_) => None,
+        Err(refusal) => Some(refusal),
+    }
 }
 
 #[test]
@@ -53,8 +65,8 @@ fn a_view_that_leads_nowhere_behind_its_first_step(rt: HostRuntime) {
     assert_same(&rt, refusal, Some(Error::NotIndexable(Type::U32)));
     assert_same(&rt, value.put(&view, Instance::from(7u32)), None);
     let ty = array(&rt, alloc, Type::U32, Some(1));
-    let layout = layout_of(&rt, alloc, &ty);
-    assert_same(&rt, layout.range(4, &view), Err(NoPart));
+    let layout = made!(&rt; Layout::of(alloc, &ty)).expect(&rt, "a layout");
+    assert_eq!(rt; layout.range(4, &view), Err(NoPart));
     drop((view, value, ty));
     drop(layout);
 }
@@ -64,14 +76,15 @@ fn references_with_long_views(rt: HostRuntime) {
     let alloc = rt.alloc();
     let mut store = Store::new(alloc);
     let value = storable(&rt, Instance::from(array_of(&rt, alloc, &[1], false)));
-    let whole = cell_with(&rt, alloc, &mut store, value);
+    assert!(rt; store.holds_value(&value));
+    let whole = made!(&rt; RefInstance::new(alloc, &mut store, value, Storage, ReadWrite));
     let (view, other) = (long_view(&rt, alloc), long_view(&rt, alloc));
     let long = RefInstance::from_parts(whole.cell(), view, Type::U32, Storage, ReadWrite);
     let longer = made!(&rt; other.with_index(alloc, 0));
     let longer = RefInstance::from_parts(whole.cell(), longer, Type::U32, Storage, ReadWrite);
     assert!(rt; store.holds(&whole));
-    assert_same(&rt, store.holds(&long), false);
-    assert_same(&rt, long != longer, true);
+    assert!(rt; !store.holds(&long));
+    assert!(rt; long != longer);
     assert_is(&rt, made!(&rt; long.clone(alloc)), &long);
     drop((store, whole, other));
     drop((long, longer));

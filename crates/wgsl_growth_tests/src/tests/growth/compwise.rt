@@ -5,7 +5,7 @@ ghost use Rattle.wgsl_rules.specs.Types as types;
 ghost use Rattle.wgsl_rules.specs.Values.{type_of};
 ghost use Rattle.wgsl_scalar.specs.Literals.{literal_of};
 
-use crate::tests::asserts::{assert_is, assert_same, wants_memory};
+use crate::tests::asserts::{assert_is, assert_memory, assert_same};
 use crate::tests::samples::{mat2x3, two_columns, vector_of};
 use std::alloc::Global;
 use std::process::Abort;
@@ -55,13 +55,12 @@ fn a_matrix_of_answers(rt: HostRuntime) {
 fn answers_take_the_place_of_components(rt: HostRuntime) {
     let alloc = rt.alloc();
     let (mut matrix, copy) = (mat2x3(&rt, alloc), mat2x3(&rt, alloc));
-    let answer = matrix.compwise_unary_mut(alloc, doubled);
-    if wants_memory(&answer) {
-        drop(answer);
-        assert_same(&rt, &matrix, &copy);
-        assert_same(&rt, matrix.compwise_unary_mut(alloc, doubled), Ok(()));
-    } else {
-        assert_same(&rt, answer, Ok(()));
+    if let Err(error) = matrix.compwise_unary_mut(alloc, doubled) {
+        assert_memory(&rt, error);
+        assert!(rt; matrix == copy);
+        matrix
+            .compwise_unary_mut(alloc, doubled)
+            .expect(&rt, "memory");
     }
     assert_same(&rt, matrix, twice(&rt, alloc));
     drop(copy);
@@ -71,14 +70,12 @@ fn answers_take_the_place_of_components(rt: HostRuntime) {
 fn answers_at_two_take_the_place_of_the_first(rt: HostRuntime) {
     let alloc = rt.alloc();
     let (mut matrix, copy) = (mat2x3(&rt, alloc), mat2x3(&rt, alloc));
-    let answer = matrix.compwise_binary_mut(alloc, &copy, added);
-    if wants_memory(&answer) {
-        drop(answer);
-        assert_same(&rt, &matrix, &copy);
-        let answer = matrix.compwise_binary_mut(alloc, &copy, added);
-        assert_same(&rt, answer, Ok(()));
-    } else {
-        assert_same(&rt, answer, Ok(()));
+    if let Err(error) = matrix.compwise_binary_mut(alloc, &copy, added) {
+        assert_memory(&rt, error);
+        assert!(rt; matrix == copy);
+        matrix
+            .compwise_binary_mut(alloc, &copy, added)
+            .expect(&rt, "memory");
     }
     assert_same(&rt, matrix, twice(&rt, alloc));
     drop(copy);

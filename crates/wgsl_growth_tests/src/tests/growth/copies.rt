@@ -1,6 +1,6 @@
 //! Copies of refusals, calls and replies.
 
-use crate::tests::asserts::assert_same;
+use crate::tests::asserts::assert_is;
 use crate::tests::samples::{pair, pair_with, text, vector, vector_of};
 use std::alloc::Global;
 use std::process::Abort;
@@ -16,84 +16,79 @@ fn vec3(rt: &impl Abort, alloc: Global) -> Type {
     vector(rt, alloc, 3, Type::U32)
 }
 
-/// Asserts that a copy of the error is equal.
-fn assert_error(rt: &impl Abort, alloc: Global, error: Error) {
-    assert_same(rt, answer_of!(rt; error.clone(alloc)), error);
+/// An error of each case that holds a type, and some of those that hold none.
+fn errors(rt: &impl Abort, alloc: Global) -> [Error; 13] {
+    [
+        Error::WriteRefType(pair(rt, alloc), vec3(rt, alloc)),
+        Error::Component(pair(rt, alloc), text(rt, alloc, "member")),
+        Error::NotIndexable(pair(rt, alloc)),
+        Error::OutOfBounds(3, vec3(rt, alloc), 3),
+        Error::ConvOverflow(AbstractInt(-1), vec3(rt, alloc)),
+        Error::Unary(UnaryOperator::Negation, vec3(rt, alloc)),
+        Error::Binary(BinaryOperator::Addition, vec3(rt, alloc), pair(rt, alloc)),
+        Error::CompwiseBinary(vec3(rt, alloc), pair(rt, alloc)),
+        Error::ParamType(pair(rt, alloc), vec3(rt, alloc)),
+        Error::NotRead,
+        Error::ShlOverflow(63, I32(1)),
+        Error::Builtin(BuiltinReason::OutOfRange),
+        Error::Todo(BuiltinName::Dot4U8Packed),
+    ]
 }
 
 #[test]
 fn copies_of_errors(rt: HostRuntime) {
     let alloc = rt.alloc();
-    // each case that holds a type, and some of those that hold none
-    let error = Error::WriteRefType(pair(&rt, alloc), vec3(&rt, alloc));
-    assert_error(&rt, alloc, error);
-    let error = Error::Component(pair(&rt, alloc), text(&rt, alloc, "member"));
-    assert_error(&rt, alloc, error);
-    assert_error(&rt, alloc, Error::NotIndexable(pair(&rt, alloc)));
-    assert_error(&rt, alloc, Error::OutOfBounds(3, vec3(&rt, alloc), 3));
-    let error = Error::ConvOverflow(AbstractInt(-1), vec3(&rt, alloc));
-    assert_error(&rt, alloc, error);
-    let error = Error::Unary(UnaryOperator::Negation, vec3(&rt, alloc));
-    assert_error(&rt, alloc, error);
-    let error = Error::Binary(BinaryOperator::Addition, vec3(&rt, alloc), pair(&rt, alloc));
-    assert_error(&rt, alloc, error);
-    let error = Error::CompwiseBinary(vec3(&rt, alloc), pair(&rt, alloc));
-    assert_error(&rt, alloc, error);
-    let error = Error::ParamType(pair(&rt, alloc), vec3(&rt, alloc));
-    assert_error(&rt, alloc, error);
-    assert_error(&rt, alloc, Error::NotRead);
-    assert_error(&rt, alloc, Error::ShlOverflow(63, I32(1)));
-    assert_error(&rt, alloc, Error::Builtin(BuiltinReason::OutOfRange));
-    assert_error(&rt, alloc, Error::Todo(BuiltinName::Dot4U8Packed));
-}
-
-/// Asserts that a copy of the fault is equal.
-fn assert_fault(rt: &impl Abort, alloc: Global, fault: Fault) {
-    assert_same(rt, answer_of!(rt; fault.clone(alloc)), fault);
+    let errors = errors(&rt, alloc);
+    for error in &errors {
+        assert_is(&rt, answer_of!(&rt; error.clone(alloc)), error);
+    }
+    drop(errors);
 }
 
 #[test]
 fn copies_of_faults(rt: HostRuntime) {
     let alloc = rt.alloc();
-    assert_fault(&rt, alloc, Fault::NoHandle);
-    let error = Error::NotIndexable(pair(&rt, alloc));
-    assert_fault(&rt, alloc, Fault::Of(error));
-    let error = Error::Component(Type::U32, text(&rt, alloc, "c"));
-    assert_fault(&rt, alloc, Fault::Of(error));
-}
-
-/// Asserts that a copy of the call is equal.
-fn assert_call(rt: &impl Abort, alloc: Global, call: Call) {
-    assert_same(rt, answer_of!(rt; call.clone(alloc)), call);
+    let faults = [
+        Fault::NoHandle,
+        Fault::Of(Error::NotIndexable(pair(&rt, alloc))),
+        Fault::Of(Error::Component(Type::U32, text(&rt, alloc, "c"))),
+    ];
+    for fault in &faults {
+        assert_is(&rt, answer_of!(&rt; fault.clone(alloc)), fault);
+    }
+    drop(faults);
 }
 
 #[test]
 fn copies_of_calls(rt: HostRuntime) {
     let alloc = rt.alloc();
-    let pair = Instance::from(pair_with(&rt, alloc, 1));
-    assert_call(&rt, alloc, Call::New(pair, Storage, ReadWrite));
-    assert_call(&rt, alloc, Call::NewOf(1, Function, ReadWrite));
-    assert_call(&rt, alloc, Call::Member(1, text(&rt, alloc, "b")));
-    assert_call(&rt, alloc, Call::Index(1, 2));
-    assert_call(&rt, alloc, Call::Read(1));
-    let vector = Instance::from(vector_of(&rt, alloc, &[1, 2]));
-    assert_call(&rt, alloc, Call::Write(1, vector));
-    let pair = Instance::from(pair_with(&rt, alloc, 2));
-    assert_call(&rt, alloc, Call::Replace(1, pair));
-    assert_call(&rt, alloc, Call::Copy(1, 2));
-    assert_call(&rt, alloc, Call::Load(1));
-}
-
-/// Asserts that a copy of the reply is equal.
-fn assert_reply(rt: &impl Abort, alloc: Global, reply: Reply) {
-    assert_same(rt, answer_of!(rt; reply.clone(alloc)), reply);
+    let calls = [
+        Call::New(Instance::from(pair_with(&rt, alloc, 1)), Storage, ReadWrite),
+        Call::NewOf(1, Function, ReadWrite),
+        Call::Member(1, text(&rt, alloc, "b")),
+        Call::Index(1, 2),
+        Call::Read(1),
+        Call::Write(1, Instance::from(vector_of(&rt, alloc, &[1, 2]))),
+        Call::Replace(1, Instance::from(pair_with(&rt, alloc, 2))),
+        Call::Copy(1, 2),
+        Call::Load(1),
+    ];
+    for call in &calls {
+        assert_is(&rt, answer_of!(&rt; call.clone(alloc)), call);
+    }
+    drop(calls);
 }
 
 #[test]
 fn copies_of_replies(rt: HostRuntime) {
     let alloc = rt.alloc();
-    assert_reply(&rt, alloc, Reply::Handle(7));
-    let pair = Instance::from(pair_with(&rt, alloc, 1));
-    assert_reply(&rt, alloc, Reply::Value(pair));
-    assert_reply(&rt, alloc, Reply::Done);
+    let replies = [
+        Reply::Handle(7),
+        Reply::Value(Instance::from(pair_with(&rt, alloc, 1))),
+        Reply::Done,
+    ];
+    for reply in &replies {
+        assert_is(&rt, answer_of!(&rt; reply.clone(alloc)), reply);
+    }
+    drop(replies);
 }

@@ -1,9 +1,8 @@
 //! Cells and writes of the values that bytes lay out: where memory is wanting nothing has changed.
 
-use crate::tests::asserts::{answer_or_none, assert_same};
+use crate::tests::asserts::{assert_memory, assert_same};
 use crate::tests::growth::sessions::held;
-use crate::tests::samples::{array, array_of, pair, pair_with};
-use crate::tests::stores::{cell_with, is_memory, layout_of, part_named, read};
+use crate::tests::samples::{array, array_of, pair, pair_with, text};
 use std::alloc::Global;
 use std::process::Abort;
 use std::sync::Arc;
@@ -22,28 +21,30 @@ const PAIR: [u8; 32] = [
     1, 0, 0, 0, 0, 0, 0, 0, 0, 0, 0, 0, 0, 0, 0, 0, 2, 0, 0, 0, 3, 0, 0, 0, 4, 0, 0, 0, 0, 0, 0, 0,
 ];
 
-/// The bytes of the numbers 1 and 2.
-const TWO_WORDS: [u8; 8] = [1, 0, 0, 0, 2, 0, 0, 0];
-
 /// The bytes of the numbers 5, 6 and 7.
 const WORDS: [u8; 12] = [5, 0, 0, 0, 6, 0, 0, 0, 7, 0, 0, 0];
 
 /// The reference to the first cell of a store, of the bytes of a Pair: where memory is wanting there is no cell.
 fn pair_in(rt: &impl Abort, alloc: Global, store: &mut Store) -> RefInstance {
     let (ty, again) = (pair(rt, alloc), pair(rt, alloc));
-    let made = store.new_from_bytes(alloc, ty, &PAIR, Storage, ReadWrite);
-    let made = match answer_or_none(rt, made) {
-        Some(made) => {
+    let made = match store.new_from_bytes(alloc, ty, &PAIR, Storage, ReadWrite) {
+        Ok(made) => {
             drop(again);
             made
         }
-        None => {
-            assert_same(rt, store.len(), 0);
+        Err(error) => {
+            assert_memory(rt, error);
+            assert_eq!(rt; store.len(), 0);
             let made = store.new_from_bytes(alloc, again, &PAIR, Storage, ReadWrite);
             made.expect(rt, "memory")
         }
     };
     made.expect(rt, "a value")
+}
+
+fn read(rt: &impl Abort, alloc: Global, store: &Store, reference: &RefInstance) -> Instance {
+    assert!(rt; store.holds(reference));
+    answer_of!(rt; reference.read(alloc, store))
 }
 
 #[test]
@@ -53,14 +54,14 @@ fn a_cell_of_bytes_wants_memory_or_is_made(rt: HostRuntime) {
     let whole = pair_in(&rt, alloc, &mut store);
     let wanted = Instance::from(pair_with(&rt, alloc, 1));
     assert_same(&rt, read(&rt, alloc, &store, &whole), wanted);
-    assert_same(&rt, store.len(), 1);
+    assert_eq!(rt; store.len(), 1);
     drop((store, whole));
 }
 
 /// The layout of a Pair, to be shared.
 fn shared(rt: &impl Abort, alloc: Global) -> Arc<Layout> {
     let ty = pair(rt, alloc);
-    let layout = layout_of(rt, alloc, &ty);
+    let layout = made!(rt; Layout::of(alloc, &ty)).expect(rt, "a layout");
     drop(ty);
     made!(rt; Arc::new(alloc, layout))
 }
@@ -71,14 +72,14 @@ fn a_cell_that_shares_its_layout_wants_memory_or_is_made(rt: HostRuntime) {
     let mut store = Store::new(alloc);
     let layout = shared(&rt, alloc);
     let (ty, again) = (pair(&rt, alloc), pair(&rt, alloc));
-    let made = store.new_sharing(alloc, ty, Some(&layout), &PAIR, Storage, ReadWrite);
-    let made = match answer_or_none(&rt, made) {
-        Some(made) => {
+    let made = match store.new_sharing(alloc, ty, Some(&layout), &PAIR, Storage, ReadWrite) {
+        Ok(made) => {
             drop(again);
             made
         }
-        None => {
-            assert_same(&rt, store.len(), 0);
+        Err(error) => {
+            assert_memory(&rt, error);
+            assert_eq!(rt; store.len(), 0);
             let made = store.new_sharing(alloc, again, Some(&layout), &PAIR, Storage, ReadWrite);
             made.expect(&rt, "memory")
         }
@@ -96,15 +97,16 @@ fn a_session_wants_memory_or_shares_a_layout(rt: HostRuntime) {
     let layout = shared(&rt, alloc);
     let (ty, again) = (pair(&rt, alloc), pair(&rt, alloc));
     let before = held(&rt, alloc, &session);
-    let made = session.new_sharing(ty, Some(&layout), &PAIR, Storage, ReadWrite);
-    if is_memory(&made) {
-        assert_same(&rt, held(&rt, alloc, &session), before);
-        drop(made);
-        let made = session.new_sharing(again, Some(&layout), &PAIR, Storage, ReadWrite);
-        assert_same(&rt, made, Ok(Some(Reply::Handle(0))));
-    } else {
-        assert_same(&rt, made, Ok(Some(Reply::Handle(0))));
-        drop((before, again));
+    match session.new_sharing(ty, Some(&layout), &PAIR, Storage, ReadWrite) {
+        Err(Fault::Of(Error::Memory)) => {
+            assert_same(&rt, held(&rt, alloc, &session), before);
+            let made = session.new_sharing(again, Some(&layout), &PAIR, Storage, ReadWrite);
+            assert_same(&rt, made, Ok(Some(Reply::Handle(0))));
+        }
+        made => {
+            assert_same(&rt, made, Ok(Some(Reply::Handle(0))));
+            drop((before, again));
+        }
     }
     drop((session, layout));
 }
@@ -119,8 +121,20 @@ fn assert_writes(
     wanted: Result<bool, Error>,
 ) {
     assert!(rt; store.holds(reference));
-    let answer = told!(store.write_bytes(alloc, reference, bytes));
-    assert_same(rt, answer, wanted);
+    match store.write_bytes(alloc, reference, bytes) {
+        Err(Error::Memory) => {
+            let again = store.write_bytes(alloc, reference, bytes);
+            assert_same(rt, again, wanted);
+        }
+        answer => assert_same(rt, answer, wanted),
+    }
+}
+
+/// The reference to a new cell with the value, where memory is not refused.
+fn cell_with(rt: &impl Abort, alloc: Global, store: &mut Store, value: Instance) -> RefInstance {
+    assert!(rt; value.is_storable());
+    assert!(rt; store.holds_value(&value));
+    made!(rt; RefInstance::new(alloc, store, value, Storage, ReadWrite))
 }
 
 #[test]
@@ -144,10 +158,12 @@ fn a_write_of_bytes_to_a_cell_that_is_none_wants_memory_or_is_made(rt: HostRunti
     let mut store = Store::new(alloc);
     let flagged = made!(&rt; flagged(alloc, 7, &[1, -2, 3])).expect(&rt, "a value");
     let whole = cell_with(&rt, alloc, &mut store, flagged);
-    let count = part_named(&rt, alloc, &store, &whole, "count");
+    let name = text(&rt, alloc, "count");
+    assert!(rt; store.holds(&whole));
+    let count = made!(&rt; whole.view_member(alloc, &store, name));
     assert_writes(&rt, alloc, &mut store, &count, &[5, 0, 0, 0], Ok(true));
     assert!(rt; store.holds(&count));
-    assert_same(&rt, count.atomic_number(&store), Some(U32(5)));
+    assert_eq!(rt; count.atomic_number(&store), Some(U32(5)));
     drop((store, whole, count));
 }
 
@@ -161,15 +177,16 @@ fn assert_makes(
     bytes: &[u8],
 ) {
     let before = held(rt, alloc, session);
-    let made = session.new_from_bytes(ty, bytes, Storage, ReadWrite);
-    if is_memory(&made) {
-        assert_same(rt, held(rt, alloc, session), before);
-        drop(made);
-        let made = session.new_from_bytes(again, bytes, Storage, ReadWrite);
-        assert_same(rt, made, Ok(Some(Reply::Handle(0))));
-    } else {
-        assert_same(rt, made, Ok(Some(Reply::Handle(0))));
-        drop((before, again));
+    match session.new_from_bytes(ty, bytes, Storage, ReadWrite) {
+        Err(Fault::Of(Error::Memory)) => {
+            assert_same(rt, held(rt, alloc, session), before);
+            let made = session.new_from_bytes(again, bytes, Storage, ReadWrite);
+            assert_same(rt, made, Ok(Some(Reply::Handle(0))));
+        }
+        made => {
+            assert_same(rt, made, Ok(Some(Reply::Handle(0))));
+            drop((before, again));
+        }
     }
 }
 
@@ -185,13 +202,11 @@ fn a_session_wants_memory_or_takes_the_bytes_of_values(rt: HostRuntime) {
     let again = array(&rt, alloc, Type::U32, None);
     let refusal = Fault::Of(Error::WriteRefType(own, again));
     // two words in the place of three
-    let answer = session.write_bytes(0, &TWO_WORDS);
-    if is_memory(&answer) {
-        drop(answer);
-        assert_same(&rt, session.write_bytes(0, &TWO_WORDS), Err(refusal));
-    } else {
-        assert_same(&rt, answer, Err(refusal));
-    }
+    let answer = match session.write_bytes(0, &[1, 0, 0, 0, 2, 0, 0, 0]) {
+        Err(Fault::Of(Error::Memory)) => session.write_bytes(0, &[1, 0, 0, 0, 2, 0, 0, 0]),
+        answer => answer,
+    };
+    assert_same(&rt, answer, Err(refusal));
     assert_same(&rt, held(&rt, alloc, &session), before);
     drop(session);
 }

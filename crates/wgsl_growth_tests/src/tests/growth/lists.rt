@@ -6,9 +6,8 @@ ghost use Rattle.wgsl_session.specs.Calls.{AreSoundCalls};
 ghost use Rattle.wgsl_session.specs.View.{call_of};
 
 use crate::tests::asserts::assert_same;
-use crate::tests::growth::sessions::{held, new, value};
+use crate::tests::growth::sessions::{held, is_memory, new, sound, value};
 use crate::tests::samples::{array_of, pair_with, text, vector_of};
-use crate::tests::stores::{is_memory, make, sound};
 use std::alloc::Global;
 use std::process::Abort;
 use wgsl_rules::AccessMode::ReadWrite;
@@ -16,6 +15,10 @@ use wgsl_rules::AddressSpace::{Function, Storage};
 use wgsl_scalar::Error;
 use wgsl_session::{Call, Fault, Reply, Session};
 use wgsl_values::Instance;
+
+fn make(rt: &impl Abort, session: &mut Session, call: Call) {
+    drop(made!(rt; session.call(sound(rt, call))));
+}
 
 /// A session with three cells, and six handles: of Pair(1u, vec3(2u, 3u, 4u)), of a reference to it, of its vector and of
 /// the last component there, of an array of 10u, 11u and 12u, and of the second of these.
@@ -87,11 +90,10 @@ fn wanted(
 fn assert_held(rt: &impl Abort, session: &mut Session, refused: Option<usize>) {
     let is_cell_refused = refused.is_some_and(|refused| refused < 2);
     let is_handle_refused = refused.is_some_and(|refused| refused < 4);
-    let cells = if is_cell_refused { 4 } else { 5 };
-    assert_same(rt, session.store().len(), cells);
-    assert_same(rt, session.reference(8).is_some(), true);
-    assert_same(rt, session.reference(9).is_some(), !is_handle_refused);
-    assert_same(rt, session.reference(10).is_some(), false);
+    assert_eq!(rt; session.store().len(), if is_cell_refused { 4 } else { 5 });
+    assert!(rt; session.reference(8).is_some());
+    assert_eq!(rt; session.reference(9).is_some(), !is_handle_refused);
+    assert!(rt; session.reference(10).is_none());
     let last = if refused == Some(7) { 9u32 } else { 11u32 };
     let read = session.call(sound(rt, Call::Read(3)));
     assert_same(rt, read, value(Instance::from(last)));
@@ -107,8 +109,8 @@ fn assert_replies(
     replies: Vec<Result<Reply, Fault>>,
 ) {
     let refused = replies.iter().position(is_memory);
-    assert_same(rt, replies.len(), 9);
-    assert_same(rt, refused == Some(8), false);
+    assert_eq!(rt; replies.len(), 9);
+    assert!(rt; refused != Some(8));
     for (number, reply) in replies.into_iter().enumerate() {
         assert_same(rt, reply, wanted(rt, alloc, number, refused));
     }

@@ -1,8 +1,7 @@
 //! Calls on references: where memory is wanting the store is as before.
 
-use crate::tests::asserts::{answer_or_none, assert_same, wants_memory};
+use crate::tests::asserts::{assert_memory, assert_same};
 use crate::tests::samples::{pair, pair_with, text, vector, vector_of};
-use crate::tests::stores::{cell_with, copy, read, read_write};
 use std::alloc::Global;
 use std::process::Abort;
 use wgsl_rules::AccessMode::ReadWrite;
@@ -12,10 +11,35 @@ use wgsl_scalar::Error;
 use wgsl_store::{References, Show, Store};
 use wgsl_values::{Instance, PtrInstance, RefInstance};
 
+/// The reference to a new cell with the value, where memory is not refused.
+fn cell_with(rt: &impl Abort, alloc: Global, store: &mut Store, value: Instance) -> RefInstance {
+    assert!(rt; value.is_storable());
+    assert!(rt; store.holds_value(&value));
+    made!(rt; RefInstance::new(alloc, store, value, Storage, ReadWrite))
+}
+
 /// The reference to a new cell with Pair(1u, vec3(2u, 3u, 4u)).
 fn pair_in(rt: &impl Abort, alloc: Global, store: &mut Store) -> RefInstance {
     let pair = Instance::from(pair_with(rt, alloc, 1));
     cell_with(rt, alloc, store, pair)
+}
+
+fn read(rt: &impl Abort, alloc: Global, store: &Store, reference: &RefInstance) -> Instance {
+    assert!(rt; store.holds(reference));
+    answer_of!(rt; reference.read(alloc, store))
+}
+
+fn read_write(
+    rt: &impl Abort,
+    alloc: Global,
+    store: &mut Store,
+    reference: &RefInstance,
+    value: Instance,
+) -> Result<Instance, Error> {
+    assert!(rt; store.holds(reference));
+    assert!(rt; value.is_storable());
+    assert!(rt; store.holds_value(&value));
+    reference.read_write(alloc, store, value)
 }
 
 /// Exchanges what the reference names for the value, which is given twice: a call that wants memory takes it, and
@@ -29,19 +53,19 @@ fn assert_exchanged(
     old: Instance,
 ) {
     let cells = store.len();
-    let answer = read_write(rt, alloc, store, reference, values.0);
-    match answer_or_none(rt, answer) {
-        Some(answer) => {
+    match read_write(rt, alloc, store, reference, values.0) {
+        Ok(answer) => {
             assert_same(rt, answer, old);
             drop(values.1);
         }
-        None => {
+        Err(error) => {
+            assert_memory(rt, error);
             assert_same(rt, read(rt, alloc, store, reference), old);
             let answer = read_write(rt, alloc, store, reference, values.1);
             drop(answer.expect(rt, "memory"));
         }
     }
-    assert_same(rt, store.len(), cells);
+    assert_eq!(rt; store.len(), cells);
 }
 
 #[test]
@@ -72,6 +96,18 @@ fn an_accepted_exchange_of_what_has_no_bytes(rt: HostRuntime) {
     drop((store, outer));
 }
 
+fn copy(
+    rt: &impl Abort,
+    alloc: Global,
+    store: &mut Store,
+    from: &RefInstance,
+    to: &RefInstance,
+) -> Result<(), Error> {
+    assert!(rt; store.holds(from));
+    assert!(rt; store.holds(to));
+    from.copy_to(alloc, store, to)
+}
+
 #[test]
 fn a_copy_of_what_has_no_bytes_wants_memory_or_is_made(rt: HostRuntime) {
     let alloc = rt.alloc();
@@ -83,13 +119,11 @@ fn a_copy_of_what_has_no_bytes_wants_memory_or_is_made(rt: HostRuntime) {
     let old = Instance::from(made!(&rt; other.clone(alloc)));
     let held = Instance::from(made!(&rt; other.clone(alloc)));
     let to = cell_with(&rt, alloc, &mut store, held);
-    let answer = copy(&rt, alloc, &mut store, &from, &to);
-    if wants_memory(&answer) {
-        drop(answer);
+    if let Err(error) = copy(&rt, alloc, &mut store, &from, &to) {
+        assert_memory(&rt, error);
         assert_same(&rt, read(&rt, alloc, &store, &to), old);
         assert_same(&rt, copy(&rt, alloc, &mut store, &from, &to), Ok(()));
     } else {
-        assert_same(&rt, answer, Ok(()));
         drop(old);
     }
     assert_same(&rt, read(&rt, alloc, &store, &to), Instance::from(pair));
@@ -104,8 +138,13 @@ fn a_copy_that_is_refused_wants_memory_or_is_told_with_its_types(rt: HostRuntime
     let whole = pair_in(&rt, alloc, &mut store);
     let word = cell_with(&rt, alloc, &mut store, Instance::from(9u32));
     let refusal = Error::WriteRefType(pair(&rt, alloc), Type::U32);
-    let answer = told!(copy(&rt, alloc, &mut store, &whole, &word));
-    assert_same(&rt, answer, Err(refusal));
+    match copy(&rt, alloc, &mut store, &whole, &word) {
+        Err(Error::Memory) => {
+            let again = copy(&rt, alloc, &mut store, &whole, &word);
+            assert_same(&rt, again, Err(refusal));
+        }
+        answer => assert_same(&rt, answer, Err(refusal)),
+    }
     let value = read(&rt, alloc, &store, &word);
     assert_same(&rt, value, Instance::from(9u32));
     drop((store, whole, word));
@@ -120,8 +159,8 @@ fn the_text_of_a_pointer_wants_memory_or_is_whole(rt: HostRuntime) {
     assert!(rt; store.holds(pointer.ptr()));
     let text = answer_of!(&rt; pointer.show(alloc, &store));
     let wanted = "ptr<storage, Pair, read_write>(Pair(1u, vec3(2u, 3u, 4u)))";
-    assert_same(&rt, text.as_str(), wanted);
-    drop((text, store, pointer));
+    assert_eq!(rt; text.as_str(), wanted);
+    drop((store, pointer));
 }
 
 fn view_member(
@@ -155,8 +194,11 @@ fn assert_no_part(
     i: usize,
     error: Error,
 ) {
-    let answer = told!(view_index(rt, alloc, store, reference, i));
-    assert_same(rt, answer.err(), Some(error));
+    let refusal = match view_index(rt, alloc, store, reference, i).err() {
+        Some(Error::Memory) => view_index(rt, alloc, store, reference, i).err(),
+        refusal => refusal,
+    };
+    assert_same(rt, refusal, Some(error));
 }
 
 #[test]
@@ -166,15 +208,14 @@ fn a_step_that_leads_nowhere_wants_memory_or_is_told_with_its_type(rt: HostRunti
     let whole = pair_in(&rt, alloc, &mut store);
     let (name, again) = (text(&rt, alloc, "c"), text(&rt, alloc, "c"));
     let component = Error::Component(pair(&rt, alloc), text(&rt, alloc, "c"));
-    let answer = view_member(&rt, alloc, &store, &whole, name);
-    if wants_memory(&answer) {
-        drop(answer);
-        let answer = view_member(&rt, alloc, &store, &whole, again);
-        assert_same(&rt, answer.err(), Some(component));
-    } else {
-        assert_same(&rt, answer.err(), Some(component));
-        drop(again);
-    }
+    let refusal = match view_member(&rt, alloc, &store, &whole, name).err() {
+        Some(Error::Memory) => view_member(&rt, alloc, &store, &whole, again).err(),
+        refusal => {
+            drop(again);
+            refusal
+        }
+    };
+    assert_same(&rt, refusal, Some(component));
     let error = Error::NotIndexable(pair(&rt, alloc));
     assert_no_part(&rt, alloc, &store, &whole, 0, error);
     drop((store, whole));

@@ -2,8 +2,8 @@
 
 use crate::tests::asserts::assert_answer;
 use crate::tests::samples::{
-    array, array_from, array_of, member, of_two, pair_with, storable, two_elements, two_members,
-    vector, vector_of,
+    array, array_from, array_of, member, of_two, pair_with, two_elements, two_members, vector,
+    vector_of,
 };
 use std::alloc::Global;
 use std::process::Abort;
@@ -56,40 +56,44 @@ fn two_vectors(rt: &impl Abort, alloc: Global) -> Instance {
     Instance::from(two_elements(rt, alloc, first, vector_of(rt, alloc, &[4, 5, 6])))
 }
 
-/// What so many of the bytes are read as.
-fn read(rt: &impl Abort, alloc: Global, bytes: &[u8], len: usize, ty: &Type) -> Option<Instance> {
-    let bytes = bytes.get(..len).expect(rt, "as many bytes");
-    answer_of!(rt; Instance::from_buffer(alloc, bytes, ty))
-}
-
 /// Asserts that the words, each little-endian, are the bytes of the value, and lay it out.
-fn assert_laid_out(rt: &impl Abort, alloc: Global, value: Instance, words: &[u32]) {
-    let value = storable(rt, value);
+fn assert_laid_out(rt: &impl Abort, alloc: Global, value: &Instance, words: &[u32]) {
+    assert!(rt; value.is_storable());
+    assert!(rt; value.is_well_formed());
     let bytes = made!(rt; bytes_of(alloc, words));
     let buffer = answer_of!(rt; value.to_buffer(alloc));
     assert_answer(rt, buffer, Some(&bytes));
     let ty = made!(rt; value.ty(alloc));
-    let read = read(rt, alloc, &bytes, bytes.len(), &ty);
-    assert_answer(rt, read, Some(&value));
-    drop((ty, value));
+    let read = answer_of!(rt; Instance::from_buffer(alloc, &bytes, &ty));
+    assert_answer(rt, read, Some(value));
+    drop(ty);
 }
 
 #[test]
 fn values_and_their_bytes(rt: HostRuntime) {
     let alloc = rt.alloc();
-    let pair = Instance::from(pair_with(&rt, alloc, 1));
-    assert_laid_out(&rt, alloc, pair, &[1, 0, 0, 0, 2, 3, 4, 0]);
-    let vectors = two_vectors(&rt, alloc);
-    assert_laid_out(&rt, alloc, vectors, &[1, 2, 3, 0, 4, 5, 6, 0]);
-    let elements = elements_behind_a_vector(&rt, alloc, &[5, 6]);
-    assert_laid_out(&rt, alloc, elements, &[1, 2, 3, 4, 5, 6]);
-    let pairs = pairs_behind_a_scalar(&rt, alloc);
-    assert_laid_out(&rt, alloc, pairs, &[1, 0, 2, 3]);
-    let array = Instance::from(array_of(&rt, alloc, &[10, 11, 12], true));
-    assert_laid_out(&rt, alloc, array, &[10, 11, 12]);
-    let vector = Instance::from(vector_of(&rt, alloc, &[5, 6]));
-    assert_laid_out(&rt, alloc, vector, &[5, 6]);
-    assert_laid_out(&rt, alloc, sized(&rt, alloc), &[1, 0, 0, 0, 2]);
+    let rows: [(Instance, &[u32]); 7] = [
+        (
+            Instance::from(pair_with(&rt, alloc, 1)),
+            &[1, 0, 0, 0, 2, 3, 4, 0],
+        ),
+        (two_vectors(&rt, alloc), &[1, 2, 3, 0, 4, 5, 6, 0]),
+        (
+            elements_behind_a_vector(&rt, alloc, &[5, 6]),
+            &[1, 2, 3, 4, 5, 6],
+        ),
+        (pairs_behind_a_scalar(&rt, alloc), &[1, 0, 2, 3]),
+        (
+            Instance::from(array_of(&rt, alloc, &[10, 11, 12], true)),
+            &[10, 11, 12],
+        ),
+        (Instance::from(vector_of(&rt, alloc, &[5, 6])), &[5, 6]),
+        (sized(&rt, alloc), &[1, 0, 0, 0, 2]),
+    ];
+    for (value, words) in &rows {
+        assert_laid_out(&rt, alloc, value, words);
+    }
+    drop(rows);
 }
 
 #[test]
@@ -99,18 +103,26 @@ fn as_many_elements_as_there_are_bytes(rt: HostRuntime) {
     let one = elements_behind_a_vector(&rt, alloc, &[5]);
     let two = elements_behind_a_vector(&rt, alloc, &[5, 6]);
     let bytes = made!(&rt; bytes_of(alloc, &[1, 2, 3, 4, 5, 6]));
-    assert_answer(&rt, read(&rt, alloc, &bytes, 19, &ty), None);
-    assert_answer(&rt, read(&rt, alloc, &bytes, 20, &ty), Some(&one));
-    assert_answer(&rt, read(&rt, alloc, &bytes, 23, &ty), Some(&one));
-    assert_answer(&rt, read(&rt, alloc, &bytes, 24, &ty), Some(&two));
-    drop((ty, one, two, bytes));
+    for (len, wanted) in [
+        (19, None),
+        (20, Some(&one)),
+        (23, Some(&one)),
+        (24, Some(&two)),
+    ] {
+        let bytes = bytes.get(..len).expect(&rt, "as many bytes");
+        let read = answer_of!(&rt; Instance::from_buffer(alloc, bytes, &ty));
+        assert_answer(&rt, read, wanted);
+    }
+    drop((ty, one, two));
 }
 
 #[test]
 fn no_pair_behind_a_scalar_in_fifteen_bytes(rt: HostRuntime) {
     let alloc = rt.alloc();
-    let value = storable(&rt, pairs_behind_a_scalar(&rt, alloc));
+    let value = pairs_behind_a_scalar(&rt, alloc);
+    assert!(rt; value.is_well_formed());
     let ty = made!(&rt; value.ty(alloc));
-    assert_answer(&rt, read(&rt, alloc, &[0u8; 15], 15, &ty), None);
+    let none = answer_of!(&rt; Instance::from_buffer(alloc, &[0u8; 15], &ty));
+    assert_answer(&rt, none, None);
     drop((value, ty));
 }

@@ -4,15 +4,23 @@
 ghost use Rattle.wgsl_rules.specs.Values.{IsWellFormed};
 ghost use Rattle.wgsl_values.specs.View.{value_of};
 
-use crate::tests::asserts::{assert_answer, assert_same, is_memory};
-use crate::tests::samples::{
-    array, array_of, at, named, pair, pair_with, refusal_to_write, storable, text,
-};
+use crate::tests::asserts::assert_same;
+use crate::tests::samples::{array, array_of, at, named, pair, pair_with, storable, text};
 use std::alloc::Global;
 use std::process::Abort;
 use wgsl_rules::Type;
 use wgsl_scalar::Error;
 use wgsl_values::{Instance, MemView};
+
+/// Why what the view leads to can't be written; `None` where it can.
+fn refusal_to_write(alloc: Global, value: &mut Instance, view: &MemView) -> Option<Error>
+    requires { IsWellFormed (value_of value.old) }
+{
+    match value.view_mut(alloc, view) {
+        Ok(_) => None,
+        Err(refusal) => Some(refusal),
+    }
+}
 
 /// Asserts that the view is refused to be looked at.
 fn assert_not_viewed(
@@ -24,13 +32,12 @@ fn assert_not_viewed(
 )
     requires { IsWellFormed (value_of value.now) }
 {
-    let refusal = value.view(alloc, view).err();
-    if is_memory(refusal.as_ref()) {
-        drop(refusal);
-        assert_answer(rt, value.view(alloc, view).err(), Some(error));
-    } else {
-        assert_answer(rt, refusal, Some(error));
-    }
+    let refusal = match value.view(alloc, view).err() {
+        Some(Error::Memory) => value.view(alloc, view).err(),
+        refusal => refusal,
+    };
+    assert!(rt; refusal.as_ref() == Some(error));
+    drop(refusal);
 }
 
 /// Asserts that the view is refused, where the value is looked at and where it is to be written.
@@ -41,15 +48,13 @@ fn assert_refused(rt: &impl Abort, alloc: Global, value: Instance, view: MemView
     let copy = made!(rt; value.clone(alloc));
     let mut value = value;
     let refusal = refusal_to_write(alloc, &mut value, &view);
-    assert_same(rt, &value, &copy);
+    assert_eq!(rt; value, copy);
     let mut value = storable(rt, value);
-    if is_memory(refusal.as_ref()) {
-        drop(refusal);
-        let again = refusal_to_write(alloc, &mut value, &view);
-        assert_same(rt, again, Some(error));
-    } else {
-        assert_same(rt, refusal, Some(error));
-    }
+    let refusal = match refusal {
+        Some(Error::Memory) => refusal_to_write(alloc, &mut value, &view),
+        refusal => refusal,
+    };
+    assert_same(rt, refusal, Some(error));
     assert_same(rt, value, copy);
     drop(view);
 }

@@ -1,10 +1,12 @@
 //! What a store and a session answer without memory: tests, bytes that are lent, and writes and copies that are accepted.
 
+ghost use Rattle.wgsl_session.specs.Calls.{IsSoundCall};
+ghost use Rattle.wgsl_session.specs.View.{call_of};
+
 use crate::tests::asserts::{assert_memory, assert_same};
 use crate::tests::samples::{
     array, array_from, array_of, atomic_of, pair_with, reference_of, text, vector_of,
 };
-use crate::tests::stores::{cell_with, copy, is_memory, make, part_at, part_named, sound, write};
 use std::alloc::Global;
 use std::process::Abort;
 use std::rt::Env;
@@ -12,11 +14,45 @@ use wgsl_rules::AccessMode::{ReadWrite, Write};
 use wgsl_rules::AddressSpace::Storage;
 use wgsl_rules::Type;
 use wgsl_samples::atomics::{counters, flagged};
-use wgsl_scalar::LiteralInstance;
 use wgsl_scalar::LiteralInstance::U32;
+use wgsl_scalar::{Error, LiteralInstance};
 use wgsl_session::{Call, Fault, Reply, Session};
 use wgsl_store::{References, Store};
 use wgsl_values::{AtomicInstance, Instance, MemView, RefInstance};
+
+/// The reference to a new cell with the value.
+pub(super) fn cell_with(
+    rt: &impl Abort,
+    alloc: Global,
+    store: &mut Store,
+    value: Instance,
+) -> RefInstance {
+    assert!(rt; value.is_storable());
+    assert!(rt; store.holds_value(&value));
+    made!(rt; RefInstance::new(alloc, store, value, Storage, ReadWrite))
+}
+
+pub(super) fn view_index(
+    rt: &impl Abort,
+    alloc: Global,
+    store: &Store,
+    whole: &RefInstance,
+    i: usize,
+) -> RefInstance {
+    assert!(rt; store.holds(whole));
+    made!(rt; whole.view_index(alloc, store, i))
+}
+
+fn view_member(
+    rt: &impl Abort,
+    alloc: Global,
+    store: &Store,
+    whole: &RefInstance,
+    name: &str,
+) -> RefInstance {
+    assert!(rt; store.holds(whole));
+    made!(rt; whole.view_member(alloc, store, text(rt, alloc, name)))
+}
 
 /// Asserts that the reference is written.
 fn assert_written(
@@ -26,7 +62,10 @@ fn assert_written(
     reference: &RefInstance,
     value: Instance,
 ) {
-    assert_same(rt, write(rt, alloc, store, reference, value), Ok(()));
+    assert!(rt; store.holds(reference));
+    assert!(rt; value.is_storable());
+    assert!(rt; store.holds_value(&value));
+    assert_same(rt, reference.write(alloc, store, value), Ok(()));
 }
 
 /// Whether growths are refused in this run.
@@ -50,7 +89,7 @@ fn assert_reads<R: Env + Abort>(
     match reference.read(alloc, store) {
         Ok(value) => assert_same(rt, value, wanted),
         Err(error) => {
-            assert_same(rt, are_refused(rt), true);
+            assert!(rt; are_refused(rt));
             assert_memory(rt, error);
             drop(wanted);
         }
@@ -63,22 +102,22 @@ fn accepted_writes_and_tests_of_references(rt: HostRuntime) {
     let mut store = Store::new(alloc);
     let vector = Instance::from(vector_of(&rt, alloc, &[1, 2, 3]));
     let whole = cell_with(&rt, alloc, &mut store, vector);
-    let component = part_at(&rt, alloc, &store, &whole, 2);
+    let component = view_index(&rt, alloc, &store, &whole, 2);
     let array = Instance::from(array_of(&rt, alloc, &[10, 11], true));
     let array = cell_with(&rt, alloc, &mut store, array);
-    let element = part_at(&rt, alloc, &store, &array, 1);
+    let element = view_index(&rt, alloc, &store, &array, 1);
     let next = Instance::from(vector_of(&rt, alloc, &[7, 8, 9]));
     let held = Instance::from(reference_of(&rt, alloc));
     let wanted = Instance::from(vector_of(&rt, alloc, &[7, 8, 5]));
-    assert_same(&rt, store.len(), 2);
-    assert_same(&rt, store.holds_value(&held), false);
+    assert_eq!(rt; store.len(), 2);
+    assert!(rt; !store.holds_value(&held));
     assert_written(&rt, alloc, &mut store, &whole, next);
     assert_written(&rt, alloc, &mut store, &component, Instance::from(5u32));
     assert_written(&rt, alloc, &mut store, &element, Instance::from(6u32));
     assert!(rt; store.holds(&component));
-    assert_same(&rt, component.names_component(&store), true);
+    assert!(rt; component.names_component(&store));
     assert!(rt; store.holds(&element));
-    assert_same(&rt, element.names_component(&store), false);
+    assert!(rt; !element.names_component(&store));
     assert_reads(&rt, alloc, &store, &whole, wanted);
     assert_reads(&rt, alloc, &store, &element, Instance::from(6u32));
     drop((store, whole, component));
@@ -106,9 +145,7 @@ fn put_number(rt: &impl Abort, store: &mut Store, reference: &RefInstance, numbe
     assert!(rt; store.holds(reference));
     assert!(rt; reference.access().is_write());
     assert!(rt; reference.target_ty().as_atomic() == Some(&Type::U32));
-    let content = Instance::from(number);
-    assert!(rt; AtomicInstance::can_make(&content));
-    drop(content);
+    assert!(rt; AtomicInstance::can_make(&Instance::from(number)));
     reference.put_atomic_number(store, U32(number));
 }
 
@@ -120,7 +157,7 @@ fn assert_number(
     number: Option<LiteralInstance>,
 ) {
     assert!(rt; store.holds(reference));
-    assert_same(rt, reference.atomic_number(store), number);
+    assert_eq!(rt; reference.atomic_number(store), number);
 }
 
 #[test]
@@ -143,7 +180,8 @@ fn the_number_of_an_atomic_in_a_cell_that_is_no_bytes(rt: HostRuntime) {
     let mut store = Store::new(alloc);
     let flagged = made!(&rt; flagged(alloc, 7, &[1, -2, 3])).expect(&rt, "a value");
     let whole = cell_with(&rt, alloc, &mut store, flagged);
-    let count = part_named(&rt, alloc, &store, &whole, "count");
+    assert!(rt; store.holds(&whole));
+    let count = made!(&rt; whole.view_member(alloc, &store, text(&rt, alloc, "count")));
     assert_number(&rt, &store, &whole, None);
     assert_number(&rt, &store, &count, Some(U32(7)));
     put_number(&rt, &mut store, &count, 8);
@@ -154,7 +192,7 @@ fn the_number_of_an_atomic_in_a_cell_that_is_no_bytes(rt: HostRuntime) {
 /// Asserts how many elements the array has that the reference names; none where it names no array.
 fn assert_counts(rt: &impl Abort, store: &Store, reference: &RefInstance, wanted: Option<usize>) {
     assert!(rt; store.holds(reference));
-    assert_same(rt, store.element_count(reference), wanted);
+    assert_eq!(rt; store.element_count(reference), wanted);
 }
 
 #[test]
@@ -163,12 +201,12 @@ fn counts_of_elements(rt: HostRuntime) {
     let mut store = Store::new(alloc);
     let endless = Instance::from(array_of(&rt, alloc, &[10, 11, 12], true));
     let endless = cell_with(&rt, alloc, &mut store, endless);
-    let element = part_at(&rt, alloc, &store, &endless, 2);
+    let element = view_index(&rt, alloc, &store, &endless, 2);
     let fixed = Instance::from(array_of(&rt, alloc, &[10, 11], false));
     let fixed = cell_with(&rt, alloc, &mut store, fixed);
     let vector = Instance::from(vector_of(&rt, alloc, &[1, 2, 3]));
     let vector = cell_with(&rt, alloc, &mut store, vector);
-    let component = part_at(&rt, alloc, &store, &vector, 1);
+    let component = view_index(&rt, alloc, &store, &vector, 1);
     // read access is not asked
     let ty = array(&rt, alloc, Type::U32, None);
     let unread = RefInstance::from_parts(endless.cell(), MemView::Whole, ty, Storage, Write);
@@ -193,29 +231,13 @@ fn counts_of_arrays_in_arrays(rt: HostRuntime) {
     let pairs = made!(&rt; vec![in alloc; pair, other, last]);
     let pairs = Instance::from(array_from(&rt, pairs, true));
     let pairs = cell_with(&rt, alloc, &mut store, pairs);
-    let last = part_at(&rt, alloc, &store, &pairs, 2);
-    let number = part_at(&rt, alloc, &store, &last, 0);
+    let last = view_index(&rt, alloc, &store, &pairs, 2);
+    let number = view_index(&rt, alloc, &store, &last, 0);
     assert_counts(&rt, &store, &pairs, Some(3));
     assert_counts(&rt, &store, &last, Some(2));
     assert_counts(&rt, &store, &number, None);
     drop((store, pairs));
     drop((last, number));
-}
-
-/// Asserts that the totals alone are an array, of so many elements, of the structure that the reference names.
-fn assert_counts_in(
-    rt: &impl Abort,
-    alloc: Global,
-    store: &Store,
-    whole: &RefInstance,
-    wanted: usize,
-) {
-    let count = part_named(rt, alloc, store, whole, "count");
-    let totals = part_named(rt, alloc, store, whole, "totals");
-    assert_counts(rt, store, whole, None);
-    assert_counts(rt, store, &count, None);
-    assert_counts(rt, store, &totals, Some(wanted));
-    drop((count, totals));
 }
 
 #[test]
@@ -226,8 +248,14 @@ fn counts_in_structures(rt: HostRuntime) {
     let counters = cell_with(&rt, alloc, &mut store, counters);
     let flagged = made!(&rt; flagged(alloc, 7, &[1, -2, 3])).expect(&rt, "a value");
     let flagged = cell_with(&rt, alloc, &mut store, flagged);
-    assert_counts_in(&rt, alloc, &store, &counters, 4);
-    assert_counts_in(&rt, alloc, &store, &flagged, 3);
+    for (whole, wanted) in [(&counters, 4), (&flagged, 3)] {
+        let count = view_member(&rt, alloc, &store, whole, "count");
+        let totals = view_member(&rt, alloc, &store, whole, "totals");
+        assert_counts(&rt, &store, whole, None);
+        assert_counts(&rt, &store, &count, None);
+        assert_counts(&rt, &store, &totals, Some(wanted));
+        drop((count, totals));
+    }
     drop((store, counters, flagged));
 }
 
@@ -248,7 +276,7 @@ fn bytes_that_are_lent(rt: HostRuntime) {
     let mut store = Store::new(alloc);
     let vector = Instance::from(vector_of(&rt, alloc, &[1, 2, 3]));
     let whole = cell_with(&rt, alloc, &mut store, vector);
-    let component = part_at(&rt, alloc, &store, &whole, 2);
+    let component = view_index(&rt, alloc, &store, &whole, 2);
     let truth = cell_with(&rt, alloc, &mut store, Instance::from(true));
     let words = [1, 0, 0, 0, 2, 0, 0, 0, 3, 0, 0, 0];
     assert_lends(&rt, &store, &whole, Some(words.as_slice()));
@@ -266,7 +294,9 @@ fn assert_copied(
     from: &RefInstance,
     to: &RefInstance,
 ) {
-    assert_same(rt, copy(rt, alloc, store, from, to), Ok(()));
+    assert!(rt; store.holds(from));
+    assert!(rt; store.holds(to));
+    assert_same(rt, from.copy_to(alloc, store, to), Ok(()));
 }
 
 #[test]
@@ -275,11 +305,11 @@ fn copies_between_parts_of_cells_of_bytes(rt: HostRuntime) {
     let mut store = Store::new(alloc);
     let array = Instance::from(array_of(&rt, alloc, &[10, 11, 12], true));
     let array = cell_with(&rt, alloc, &mut store, array);
-    let first = part_at(&rt, alloc, &store, &array, 0);
-    let last = part_at(&rt, alloc, &store, &array, 2);
+    let first = view_index(&rt, alloc, &store, &array, 0);
+    let last = view_index(&rt, alloc, &store, &array, 2);
     let vector = Instance::from(vector_of(&rt, alloc, &[1, 2, 3]));
     let vector = cell_with(&rt, alloc, &mut store, vector);
-    let component = part_at(&rt, alloc, &store, &vector, 1);
+    let component = view_index(&rt, alloc, &store, &vector, 1);
     let in_one = [10, 0, 0, 0, 11, 0, 0, 0, 10, 0, 0, 0];
     let onward = [1, 0, 0, 0, 10, 0, 0, 0, 3, 0, 0, 0];
     let back = [10, 0, 0, 0, 11, 0, 0, 0, 7, 0, 0, 0];
@@ -295,13 +325,23 @@ fn copies_between_parts_of_cells_of_bytes(rt: HostRuntime) {
     drop((first, last, component));
 }
 
+/// The call, which a session takes.
+fn sound(rt: &impl Abort, call: Call) -> Call
+    ensures { IsSoundCall (call_of result) }
+{
+    assert!(rt; call.is_sound());
+    call
+}
+
 #[test]
 fn an_accepted_write_of_a_session(rt: HostRuntime) {
     let alloc = rt.alloc();
     let mut session = Session::new(alloc);
     let pair = Instance::from(pair_with(&rt, alloc, 1));
-    make(&rt, &mut session, Call::New(pair, Storage, ReadWrite));
-    make(&rt, &mut session, Call::Member(0, text(&rt, alloc, "a")));
+    let made = sound(&rt, Call::New(pair, Storage, ReadWrite));
+    drop(made!(&rt; session.call(made)));
+    let member = sound(&rt, Call::Member(0, text(&rt, alloc, "a")));
+    drop(made!(&rt; session.call(member)));
     let next = Instance::from(pair_with(&rt, alloc, 9));
     let held = Call::Write(0, Instance::from(reference_of(&rt, alloc)));
     let wanted = Instance::from(pair_with(&rt, alloc, 8));
@@ -312,16 +352,16 @@ fn an_accepted_write_of_a_session(rt: HostRuntime) {
     assert_same(&rt, written, Ok(Reply::Done));
     let missing = session.call(sound(&rt, Call::Read(2)));
     assert_same(&rt, missing, Err(Fault::NoHandle));
-    assert_same(&rt, held.is_sound(), false);
-    assert_same(&rt, session.store().len(), 1);
-    assert_same(&rt, session.reference(1).is_some(), true);
-    assert_same(&rt, session.reference(2).is_none(), true);
-    let answer = session.call(sound(&rt, Call::Read(0)));
-    if is_memory(&answer) {
-        assert_same(&rt, are_refused(&rt), true);
-        drop((answer, wanted));
-    } else {
-        assert_same(&rt, answer, Ok(Reply::Value(wanted)));
+    assert!(rt; !held.is_sound());
+    assert_eq!(rt; session.store().len(), 1);
+    assert!(rt; session.reference(1).is_some());
+    assert!(rt; session.reference(2).is_none());
+    match session.call(sound(&rt, Call::Read(0))) {
+        Err(Fault::Of(Error::Memory)) => {
+            assert!(rt; are_refused(&rt));
+            drop(wanted);
+        }
+        answer => assert_same(&rt, answer, Ok(Reply::Value(wanted))),
     }
     drop((session, held));
 }
@@ -330,12 +370,15 @@ fn an_accepted_write_of_a_session(rt: HostRuntime) {
 fn an_accepted_copy_of_a_session(rt: HostRuntime) {
     let alloc = rt.alloc();
     let mut session = Session::new(alloc);
-    let first = Instance::from(vector_of(&rt, alloc, &[1, 2, 3]));
-    make(&rt, &mut session, Call::New(first, Storage, ReadWrite));
-    let second = Instance::from(vector_of(&rt, alloc, &[7, 8, 9]));
-    make(&rt, &mut session, Call::New(second, Storage, ReadWrite));
-    make(&rt, &mut session, Call::Index(0, 2));
-    make(&rt, &mut session, Call::Index(1, 0));
+    for components in [[1, 2, 3], [7, 8, 9]] {
+        let vector = Instance::from(vector_of(&rt, alloc, &components));
+        let made = sound(&rt, Call::New(vector, Storage, ReadWrite));
+        drop(made!(&rt; session.call(made)));
+    }
+    let index = sound(&rt, Call::Index(0, 2));
+    drop(made!(&rt; session.call(index)));
+    let index = sound(&rt, Call::Index(1, 0));
+    drop(made!(&rt; session.call(index)));
     let copied = session.call(sound(&rt, Call::Copy(3, 2)));
     assert_same(&rt, copied, Ok(Reply::Done));
     let copied = session.call(sound(&rt, Call::Copy(0, 1)));

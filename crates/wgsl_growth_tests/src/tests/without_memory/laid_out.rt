@@ -2,8 +2,7 @@
 
 use crate::tests::asserts::assert_same;
 use crate::tests::samples::{pair, vector_of};
-use crate::tests::stores::{cell_with, part_at};
-use crate::tests::without_memory::cells::assert_lends;
+use crate::tests::without_memory::cells::{assert_lends, cell_with, view_index};
 use std::alloc::Global;
 use std::process::Abort;
 use wgsl_rules::AccessMode::ReadWrite;
@@ -30,7 +29,7 @@ fn accepted_writes_of_bytes(rt: HostRuntime) {
     let mut store = Store::new(alloc);
     let vector = Instance::from(vector_of(&rt, alloc, &[1, 2, 3]));
     let whole = cell_with(&rt, alloc, &mut store, vector);
-    let last = part_at(&rt, alloc, &store, &whole, 2);
+    let last = view_index(&rt, alloc, &store, &whole, 2);
     let words = [7, 0, 0, 0, 8, 0, 0, 0, 9, 0, 0, 0];
     assert_writes(&rt, alloc, &mut store, &whole, &words);
     assert_lends(&rt, &store, &whole, Some(words.as_slice()));

@@ -12,21 +12,26 @@ use wgsl_scalar::{Error, LiteralInstance};
 fn operators(rt: HostRuntime) {
     let ty = vector(&rt, rt.alloc(), 2, Type::U32);
     let (a, b, yes) = (U32(12), U32(10), Bool(true));
-    assert_same(&rt, yes.op_not(), Ok(Bool(false)));
-    assert_same(&rt, I32(5).op_neg(), Ok(I32(-5)));
-    assert_same(&rt, yes.op_or(&Bool(false)), Ok(Bool(true)));
-    assert_same(&rt, yes.op_and(&Bool(false)), Ok(Bool(false)));
-    assert_same(&rt, a.op_add(&b, Const), Ok(U32(22)));
-    assert_same(&rt, a.op_sub(&b, Const), Ok(U32(2)));
-    assert_same(&rt, a.op_mul(&b, Const), Ok(U32(120)));
-    assert_same(&rt, a.op_div(&b, Const), Ok(U32(1)));
-    assert_same(&rt, a.op_rem(&b, Const), Ok(U32(2)));
-    assert_same(&rt, a.op_bitnot(), Ok(U32(4294967283)));
-    assert_same(&rt, a.op_bitor(&b), Ok(U32(14)));
-    assert_same(&rt, a.op_bitand(&b), Ok(U32(8)));
-    assert_same(&rt, a.op_bitxor(&b), Ok(U32(6)));
-    assert_same(&rt, a.op_shl(&U32(2), Const), Ok(U32(48)));
-    assert_same(&rt, a.op_shr(&U32(2), Exec), Ok(U32(3)));
+    let answers = [
+        (yes.op_not(), Bool(false)),
+        (I32(5).op_neg(), I32(-5)),
+        (yes.op_or(&Bool(false)), Bool(true)),
+        (yes.op_and(&Bool(false)), Bool(false)),
+        (a.op_add(&b, Const), U32(22)),
+        (a.op_sub(&b, Const), U32(2)),
+        (a.op_mul(&b, Const), U32(120)),
+        (a.op_div(&b, Const), U32(1)),
+        (a.op_rem(&b, Const), U32(2)),
+        (a.op_bitnot(), U32(4294967283)),
+        (a.op_bitor(&b), U32(14)),
+        (a.op_bitand(&b), U32(8)),
+        (a.op_bitxor(&b), U32(6)),
+        (a.op_shl(&U32(2), Const), U32(48)),
+        (a.op_shr(&U32(2), Exec), U32(3)),
+    ];
+    for (answer, wanted) in answers {
+        assert_same(&rt, answer, Ok(wanted));
+    }
     drop(ty);
 }
 
@@ -34,12 +39,17 @@ fn operators(rt: HostRuntime) {
 fn comparisons_and_refusals(rt: HostRuntime) {
     let ty = vector(&rt, rt.alloc(), 2, Type::U32);
     let (a, b) = (U32(12), U32(10));
-    assert_same(&rt, a.op_eq(&b), Ok(false));
-    assert_same(&rt, a.op_ne(&b), Ok(true));
-    assert_same(&rt, a.op_lt(&b), Ok(false));
-    assert_same(&rt, a.op_le(&b), Ok(false));
-    assert_same(&rt, a.op_gt(&b), Ok(true));
-    assert_same(&rt, a.op_ge(&b), Ok(true));
+    let answers = [
+        (a.op_eq(&b), false),
+        (a.op_ne(&b), true),
+        (a.op_lt(&b), false),
+        (a.op_le(&b), false),
+        (a.op_gt(&b), true),
+        (a.op_ge(&b), true),
+    ];
+    for (answer, wanted) in answers {
+        assert_same(&rt, answer, Ok(wanted));
+    }
     let refusal = Error::Binary(Addition, Type::Bool, Type::U32);
     assert_same(&rt, Bool(true).op_add(&a, Const), Err(refusal));
     assert_same(&rt, a.op_div(&U32(0), Const), Err(Error::DivByZero));
@@ -50,41 +60,44 @@ fn comparisons_and_refusals(rt: HostRuntime) {
 fn counts_and_fields(rt: HostRuntime) {
     let ty = vector(&rt, rt.alloc(), 2, Type::U32);
     let (a, b) = (U32(12), U32(10));
-    assert_same(&rt, I32(-5).abs(), Ok(I32(5)));
-    assert_same(&rt, I32(-5).sign(), Ok(I32(-1)));
-    assert_same(&rt, a.min(&b), Ok(U32(10)));
-    assert_same(&rt, a.max(&b), Ok(U32(12)));
-    assert_same(&rt, a.count_leading_zeros(), Ok(U32(28)));
-    assert_same(&rt, a.count_one_bits(), Ok(U32(2)));
-    assert_same(&rt, a.count_trailing_zeros(), Ok(U32(2)));
-    assert_same(&rt, a.extract_bits(1, 3), Ok(U32(6)));
-    assert_same(&rt, a.insert_bits(&U32(1), 0, 2), Ok(U32(13)));
-    assert_same(&rt, a.first_leading_bit(), Ok(U32(3)));
-    assert_same(&rt, a.first_trailing_bit(), Ok(U32(2)));
-    assert_same(&rt, U32(1).reverse_bits(), Ok(U32(2147483648)));
+    let answers = [
+        (I32(-5).abs(), I32(5)),
+        (I32(-5).sign(), I32(-1)),
+        (a.min(&b), U32(10)),
+        (a.max(&b), U32(12)),
+        (a.count_leading_zeros(), U32(28)),
+        (a.count_one_bits(), U32(2)),
+        (a.count_trailing_zeros(), U32(2)),
+        (a.extract_bits(1, 3), U32(6)),
+        (a.insert_bits(&U32(1), 0, 2), U32(13)),
+        (a.first_leading_bit(), U32(3)),
+        (a.first_trailing_bit(), U32(2)),
+        (U32(1).reverse_bits(), U32(2147483648)),
+    ];
+    for (answer, wanted) in answers {
+        assert_same(&rt, answer, Ok(wanted));
+    }
     drop(ty);
 }
 
 #[test]
 fn kinds_and_payloads(rt: HostRuntime) {
     let ty = vector(&rt, rt.alloc(), 2, Type::U32);
-    assert_same(&rt, AbstractInt(5).to_kind(&Type::U32), Some(U32(5)));
-    assert_same(&rt, AbstractInt(-5).to_kind(&Type::U32), None);
-    assert_same(&rt, U32(5).to_kind(&ty), None);
+    assert_eq!(rt; AbstractInt(5).to_kind(&Type::U32), Some(U32(5)));
+    assert_eq!(rt; AbstractInt(-5).to_kind(&Type::U32), None);
+    assert_eq!(rt; U32(5).to_kind(&ty), None);
     assert_same(&rt, I64(5).literal_ty(), Type::I64);
-    assert_same(&rt, U64(5).is_finite(), true);
-    assert_same(&rt, U64(5).is_infinite(), false);
-    assert_same(&rt, LiteralInstance::from(true), Bool(true));
-    assert_same(&rt, LiteralInstance::from(5i64), AbstractInt(5));
-    assert_same(&rt, LiteralInstance::from(5i32), I32(5));
-    assert_same(&rt, LiteralInstance::from(5u32), U32(5));
-    assert_same(&rt, Bool(true).unwrap_bool(), true);
-    assert_same(&rt, AbstractInt(5).unwrap_abstract_int(), 5);
-    assert_same(&rt, I32(5).unwrap_i32(), 5);
-    assert_same(&rt, U32(5).unwrap_u32(), 5);
-    assert_same(&rt, I64(5).unwrap_i64(), 5);
-    assert_same(&rt, U64(5).unwrap_u64(), 5);
-    let error = Error::NotIndexable(ty);
-    assert_same(&rt, error.number(), 9);
-    drop(error);
+    assert!(rt; U64(5).is_finite());
+    assert!(rt; !U64(5).is_infinite());
+    assert_eq!(rt; LiteralInstance::from(true), Bool(true));
+    assert_eq!(rt; LiteralInstance::from(5i64), AbstractInt(5));
+    assert_eq!(rt; LiteralInstance::from(5i32), I32(5));
+    assert_eq!(rt; LiteralInstance::from(5u32), U32(5));
+    assert!(rt; Bool(true).unwrap_bool());
+    assert_eq!(rt; AbstractInt(5).unwrap_abstract_int(), 5);
+    assert_eq!(rt; I32(5).unwrap_i32(), 5);
+    assert_eq!(rt; U32(5).unwrap_u32(), 5);
+    assert_eq!(rt; I64(5).unwrap_i64(), 5);
+    assert_eq!(rt; U64(5).unwrap_u64(), 5);
+    assert_eq!(rt; Error::NotIndexable(ty).number(), 9);
 }

@@ -37,9 +37,9 @@ fn of_shared(rt: &impl Abort, ty: SharedStructType, members: Vec<Instance>) -> S
 
 /// Asserts that it is the type, and not the other one.
 fn assert_is_type(rt: &impl Abort, shared: &SharedStructType, ty: &StructType, other: &StructType) {
-    assert_same(rt, shared.get(), ty);
-    assert_same(rt, shared.is_type(ty), true);
-    assert_same(rt, shared.is_type(other), false);
+    assert!(rt; shared.get() == ty);
+    assert!(rt; shared.is_type(ty));
+    assert!(rt; !shared.is_type(other));
 }
 
 /// The same type for another value. The condition: values share it.
@@ -78,7 +78,7 @@ fn structures_of_a_type_that_they_share(rt: HostRuntime) {
     let (ones, nines) = (members_with(&rt, alloc, 1), members_with(&rt, alloc, 9));
     let (one, nine) = (pair_with(&rt, alloc, 1), pair_with(&rt, alloc, 9));
     let two = numbers(&rt, alloc, &[1, 2]);
-    assert_same(&rt, StructInstance::can_make(shared.get(), &two), false);
+    assert!(rt; !StructInstance::can_make(shared.get(), &two));
     let first = of_shared(&rt, shared, ones);
     let again = again(&rt, alloc, first.shared_ty());
     assert_same(&rt, first, one);
@@ -92,6 +92,6 @@ fn a_structure_of_a_type_of_its_own(rt: HostRuntime) {
     let (ty, members) = (pair_type(&rt, alloc), members_with(&rt, alloc, 1));
     let wanted = pair_with(&rt, alloc, 1);
     let value = of_shared(&rt, SharedStructType::own(ty), members);
-    assert_same(&rt, value.shared_ty().is_type(wanted.struct_ty()), true);
+    assert!(rt; value.shared_ty().is_type(wanted.struct_ty()));
     assert_same(&rt, value, wanted);
 }

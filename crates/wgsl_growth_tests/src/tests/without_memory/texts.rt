@@ -40,8 +40,8 @@ impl Write for Wanted<'_> {
 fn assert_text<T: Display>(rt: &impl Abort, value: &T, wanted: &str) {
     let mut wanted = Wanted { rest: wanted };
     let written = write!(wanted, "{value}");
-    assert_same(rt, written.is_ok(), true);
-    assert_same(rt, wanted.rest, "");
+    assert!(rt; written.is_ok());
+    assert_eq!(rt; wanted.rest, "");
 }
 
 #[test]
@@ -59,30 +59,40 @@ fn texts_of_types_and_words(rt: HostRuntime) {
     assert_text(&rt, &BinaryOperator::Addition, "+");
     assert_text(&rt, &UnaryOperator::Negation, "-");
     assert_text(&rt, &I32(-5), "-5i");
-    assert_same(&rt, BuiltinName::ExtractBits.as_str(), "extractBits");
-    assert_same(&rt, BuiltinReason::NotBool.as_str().is_empty(), false);
+    assert_eq!(rt; BuiltinName::ExtractBits.as_str(), "extractBits");
+    assert!(rt; !BuiltinReason::NotBool.as_str().is_empty());
     drop((pair, pointer));
 }
 
 #[test]
 fn texts_of_values(rt: HostRuntime) {
     let alloc = rt.alloc();
+    let rows = [
+        (
+            Instance::from(pair_with(&rt, alloc, 1)),
+            "Pair(1u, vec3(2u, 3u, 4u))",
+        ),
+        (
+            Instance::from(array_of(&rt, alloc, &[1, 2], true)),
+            "array(1u, 2u)",
+        ),
+        (
+            Instance::from(mat2x3(&rt, alloc)),
+            "mat2x3(vec3(1u, 2u, 3u), vec3(4u, 5u, 6u))",
+        ),
+        (Instance::from(atomic_of(&rt, alloc, 5)), "atomic<u32>(5u)"),
+        (
+            Instance::from(reference_of(&rt, alloc)),
+            "ref<storage, u32, read_write>",
+        ),
+        (Instance::from(pair(&rt, alloc)), "__deferred<Pair>"),
+    ];
     let view = made!(&rt; member_then_index(alloc));
-    let one = Instance::from(pair_with(&rt, alloc, 1));
-    let list = Instance::from(array_of(&rt, alloc, &[1, 2], true));
-    let columns = Instance::from(mat2x3(&rt, alloc));
-    let five = Instance::from(atomic_of(&rt, alloc, 5));
-    let reference = Instance::from(reference_of(&rt, alloc));
-    let deferred = Instance::from(pair(&rt, alloc));
-    assert_text(&rt, &one, "Pair(1u, vec3(2u, 3u, 4u))");
-    assert_text(&rt, &list, "array(1u, 2u)");
-    assert_text(&rt, &columns, "mat2x3(vec3(1u, 2u, 3u), vec3(4u, 5u, 6u))");
-    assert_text(&rt, &five, "atomic<u32>(5u)");
-    assert_text(&rt, &reference, "ref<storage, u32, read_write>");
-    assert_text(&rt, &deferred, "__deferred<Pair>");
+    for (value, wanted) in &rows {
+        assert_text(&rt, value, wanted);
+    }
     assert_text(&rt, &view, ":m:2");
-    drop((view, one, list, columns));
-    drop((five, reference, deferred));
+    drop((rows, view));
 }
 
 #[test]
@@ -102,8 +112,8 @@ fn signatures(rt: HostRuntime) {
     };
     assert_text(&rt, &signature, "f<f32, 4>(u32)");
     assert_text(&rt, &other, "f(u32)");
-    assert_same(&rt, &signature, &signature);
-    assert_same(&rt, signature != other, true);
+    assert!(rt; signature == signature);
+    assert!(rt; signature != other);
     drop((signature, other));
 }
 
@@ -118,18 +128,18 @@ fn each_sort_is_compared_and_has_its_type(rt: HostRuntime) {
         reference_of(&rt, alloc),
         PtrInstance::from(reference_of(&rt, alloc)),
     );
-    assert_same(&rt, &pair, &one);
-    assert_same(&rt, pair.has_ty(&ty), true);
-    assert_same(&rt, &matrix, &same);
-    assert_same(&rt, matrix.has_ty(&ty), false);
-    assert_same(&rt, atomic != six, true);
-    assert_same(&rt, atomic.has_ty(&Type::U32), false);
-    assert_same(&rt, reference.has_ty(&Type::U32), false);
-    assert_same(&rt, &reference, pointer.ptr());
-    assert_same(&rt, &pointer, &pointer);
-    assert_same(&rt, pointer.has_ty(&Type::U32), false);
+    assert!(rt; pair == one);
+    assert!(rt; pair.has_ty(&ty));
+    assert!(rt; matrix == same);
+    assert!(rt; !matrix.has_ty(&ty));
+    assert!(rt; atomic != six);
+    assert!(rt; !atomic.has_ty(&Type::U32));
+    assert!(rt; !reference.has_ty(&Type::U32));
+    assert!(rt; &reference == pointer.ptr());
+    assert!(rt; pointer == pointer);
+    assert!(rt; !pointer.has_ty(&Type::U32));
     assert_text(&rt, &pointer, "ptr<storage, u32, read_write>");
-    assert_same(&rt, I32(5).has_ty(&Type::I32), true);
+    assert!(rt; I32(5).has_ty(&Type::I32));
     drop((pair, one, ty));
     drop((matrix, same, atomic));
     drop((six, reference, pointer));
@@ -146,12 +156,12 @@ fn lists_are_compared_and_have_their_types(rt: HostRuntime) {
         array(&rt, alloc, Type::U32, Some(2)),
         vector_type(&rt, alloc, 2, Type::U32),
     );
-    assert_same(&rt, &list, &list);
-    assert_same(&rt, &vector, &vector);
-    assert_same(&rt, list.has_ty(&elements), true);
-    assert_same(&rt, list.has_ty(&components), false);
-    assert_same(&rt, vector.has_ty(&components), true);
-    assert_same(&rt, vector.has_ty(&elements), false);
+    assert!(rt; list == list);
+    assert!(rt; vector == vector);
+    assert!(rt; list.has_ty(&elements));
+    assert!(rt; !list.has_ty(&components));
+    assert!(rt; vector.has_ty(&components));
+    assert!(rt; !vector.has_ty(&elements));
     assert_text(&rt, &list, "array(1u, 2u)");
     assert_text(&rt, &vector, "vec2(1u, 2u)");
     drop((list, vector));
@@ -163,12 +173,12 @@ fn a_value_is_put_in_its_place(rt: HostRuntime) {
     let alloc = rt.alloc();
     let mut pair = Instance::from(pair_with(&rt, alloc, 1));
     let (view, same) = (named(&rt, alloc, "a"), named(&rt, alloc, "a"));
-    let (whole, wanted) = (MemView::Whole, Instance::from(pair_with(&rt, alloc, 9)));
-    assert_same(&rt, &view, &same);
-    assert_same(&rt, view != whole, true);
+    let wanted = Instance::from(pair_with(&rt, alloc, 9));
+    assert!(rt; view == same);
+    assert!(rt; view != MemView::Whole);
     Instance::from(9u32).place(&mut pair, &view);
     assert_same(&rt, pair, wanted);
-    drop((view, same, whole));
+    drop((view, same));
 }
 
 #[test]

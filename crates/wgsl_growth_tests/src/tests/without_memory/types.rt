@@ -8,62 +8,56 @@ use wgsl_rules::AccessMode::{Read, ReadWrite, Write};
 use wgsl_rules::AddressSpace::Storage;
 use wgsl_rules::{Ty, Type, conversion_rank, convert_all_ty, convert_ty};
 
-/// array<Pair, 5>
-fn five_pairs(rt: &impl Abort, alloc: Global) -> Type {
-    array(rt, alloc, pair(rt, alloc), Some(5))
-}
+/// A type, its size, its least size and its alignment, and whether it has a layout.
+type Row = (Type, Option<u32>, Option<u32>, Option<u32>, bool);
 
-/// array<vec3<u32>>
-fn threes(rt: &impl Abort, alloc: Global) -> Type {
-    array(rt, alloc, vector(rt, alloc, 3, Type::U32), None)
-}
-
-/// Asserts the size of the type, its least size and its alignment.
-fn assert_sizes(rt: &impl Abort, ty: &Type, wanted: [Option<u32>; 3]) {
-    let sizes = [ty.size_of(), ty.min_size_of(), ty.align_of()];
-    assert_same(rt, sizes, wanted);
-    assert_same(rt, ty.measures().size, wanted[0]);
-    assert_same(rt, ty.has_ty(ty), true);
-    assert_same(rt, ty.has_ty(&Type::Bool), false);
-}
-
-/// Asserts the sizes of a type with a layout.
-fn assert_laid_out(rt: &impl Abort, ty: Type, wanted: [Option<u32>; 3]) {
-    assert_sizes(rt, &ty, wanted);
-    assert_same(rt, ty.has_layout(), true);
-    drop(ty);
-}
-
-/// Asserts the sizes of a type without a layout.
-fn assert_not_laid_out(rt: &impl Abort, ty: Type, wanted: [Option<u32>; 3]) {
-    assert_sizes(rt, &ty, wanted);
-    assert_same(rt, ty.has_layout(), false);
-    drop(ty);
+fn rows(rt: &impl Abort, alloc: Global) -> [Row; 7] {
+    let five = array(rt, alloc, pair(rt, alloc), Some(5));
+    let threes = array(rt, alloc, vector(rt, alloc, 3, Type::U32), None);
+    let truths = vector(rt, alloc, 2, Type::Bool);
+    let reads = reference(rt, alloc, Type::U32, Read);
+    [
+        (pair(rt, alloc), Some(32), Some(32), Some(16), true),
+        (five, Some(160), Some(160), Some(16), true),
+        (threes, None, Some(16), Some(16), true),
+        (truths, Some(8), Some(8), Some(8), false),
+        (
+            matrix(rt, alloc, Type::U32),
+            Some(32),
+            Some(32),
+            Some(16),
+            true,
+        ),
+        (
+            atomic(rt, alloc, Type::U32),
+            Some(4),
+            Some(4),
+            Some(4),
+            true,
+        ),
+        (reads, None, None, None, false),
+    ]
 }
 
 #[test]
 fn sizes_and_layouts(rt: HostRuntime) {
     let alloc = rt.alloc();
-    let (two, five) = (pair(&rt, alloc), five_pairs(&rt, alloc));
-    let (threes, matrix) = (threes(&rt, alloc), matrix(&rt, alloc, Type::U32));
-    let (truths, atomic) = (
-        vector(&rt, alloc, 2, Type::Bool),
-        atomic(&rt, alloc, Type::U32),
-    );
-    let reads = reference(&rt, alloc, Type::U32, Read);
+    let rows = rows(&rt, alloc);
     let structure = pair_type(&rt, alloc);
-    assert_same(&rt, structure.size_of(), Some(32));
-    assert_same(&rt, structure.align_of(), Some(16));
-    assert_same(&rt, structure.is_convertible_to(&two), true);
-    assert_same(&rt, structure.is_convertible_to(&five), false);
-    assert_laid_out(&rt, two, [Some(32), Some(32), Some(16)]);
-    assert_laid_out(&rt, five, [Some(160), Some(160), Some(16)]);
-    assert_laid_out(&rt, threes, [None, Some(16), Some(16)]);
-    assert_not_laid_out(&rt, truths, [Some(8), Some(8), Some(8)]);
-    assert_laid_out(&rt, matrix, [Some(32), Some(32), Some(16)]);
-    assert_laid_out(&rt, atomic, [Some(4), Some(4), Some(4)]);
-    assert_not_laid_out(&rt, reads, [None, None, None]);
-    drop(structure);
+    for (ty, size, least, align, has_layout) in &rows {
+        assert_eq!(rt; ty.size_of(), *size);
+        assert_eq!(rt; ty.min_size_of(), *least);
+        assert_eq!(rt; ty.align_of(), *align);
+        assert_eq!(rt; ty.has_layout(), *has_layout);
+        assert_eq!(rt; ty.measures().size, *size);
+        assert!(rt; ty.has_ty(ty));
+        assert!(rt; !ty.has_ty(&Type::Bool));
+    }
+    assert_eq!(rt; structure.size_of(), Some(32));
+    assert_eq!(rt; structure.align_of(), Some(16));
+    assert!(rt; structure.is_convertible_to(&rows[0].0));
+    assert!(rt; !structure.is_convertible_to(&rows[1].0));
+    drop((rows, structure));
 }
 
 #[test]
@@ -73,47 +67,41 @@ fn ranks_and_common_types(rt: HostRuntime) {
         array(&rt, alloc, vector(&rt, alloc, 2, Type::AbstractInt), None),
         array(&rt, alloc, vector(&rt, alloc, 2, Type::U32), None),
     ];
-    let [from, to] = &types;
-    assert_same(&rt, conversion_rank(from, to), Some(4));
-    assert_same(&rt, conversion_rank(to, from), None);
-    assert_same(&rt, from.is_convertible_to(to), true);
-    assert_same(&rt, to.is_convertible_to(from), false);
-    assert_same(&rt, convert_ty(from, to), Some(to));
-    assert_same(&rt, convert_ty(to, from), Some(to));
-    assert_same(&rt, convert_ty(from, &Type::U32), None);
-    assert_same(&rt, convert_all_ty(&types), Some(to));
-    assert_same(&rt, convert_all_ty(&[]), None);
+    assert_eq!(rt; conversion_rank(&types[0], &types[1]), Some(4));
+    assert_eq!(rt; conversion_rank(&types[1], &types[0]), None);
+    assert!(rt; types[0].is_convertible_to(&types[1]));
+    assert!(rt; !types[1].is_convertible_to(&types[0]));
+    assert!(rt; convert_ty(&types[0], &types[1]) == Some(&types[1]));
+    assert!(rt; convert_ty(&types[1], &types[0]) == Some(&types[1]));
+    assert!(rt; convert_ty(&types[0], &Type::U32).is_none());
+    assert!(rt; convert_all_ty(&types) == Some(&types[1]));
+    assert!(rt; convert_all_ty(&[]).is_none());
     drop(types);
 }
 
 #[test]
 fn parts_of_types(rt: HostRuntime) {
     let alloc = rt.alloc();
+    let rows = rows(&rt, alloc);
     let (two, structure) = (pair(&rt, alloc), pair_type(&rt, alloc));
-    let (five, threes) = (five_pairs(&rt, alloc), threes(&rt, alloc));
-    let (truths, matrix) = (
-        vector(&rt, alloc, 2, Type::Bool),
-        matrix(&rt, alloc, Type::U32),
-    );
-    let (atomic, reads) = (
-        atomic(&rt, alloc, Type::U32),
-        reference(&rt, alloc, Type::U32, Read),
-    );
     let target = made!(&rt; Box::new(alloc, Type::I32));
     let pointer = Type::Ptr(Storage, target, Write);
-    assert_has(&rt, two.as_struct(), structure);
-    assert_same(&rt, five.as_array(), Some((&two, Some(5))));
-    let count = threes.as_array().map(|(_, count)| count);
-    assert_same(&rt, count, Some(None));
-    assert_same(&rt, truths.as_vec(), Some((2, &Type::Bool)));
-    assert_same(&rt, matrix.as_mat(), Some((2, 3, &Type::U32)));
-    assert_same(&rt, atomic.as_atomic(), Some(&Type::U32));
-    assert_same(&rt, reads.as_reference(), Some((Storage, &Type::U32, Read)));
-    assert_same(&rt, pointer.as_ptr(), Some((Storage, &Type::I32, Write)));
-    assert_same(&rt, five.inner(), &two);
-    assert_same(&rt, two.as_vec(), None);
-    drop((two, five, threes, truths));
-    drop((matrix, atomic, reads, pointer));
+    assert_has(&rt, rows[0].0.as_struct(), structure);
+    assert!(rt; rows[1].0.as_array() == Some((&two, Some(5))));
+    assert!(rt;
+        rows[2]
+            .0
+            .as_array()
+            .is_some_and(|(_, count)| count.is_none())
+    );
+    assert!(rt; rows[3].0.as_vec() == Some((2, &Type::Bool)));
+    assert!(rt; rows[4].0.as_mat() == Some((2, 3, &Type::U32)));
+    assert!(rt; rows[5].0.as_atomic() == Some(&Type::U32));
+    assert!(rt; rows[6].0.as_reference() == Some((Storage, &Type::U32, Read)));
+    assert!(rt; pointer.as_ptr() == Some((Storage, &Type::I32, Write)));
+    assert!(rt; rows[1].0.inner() == &two);
+    assert!(rt; two.as_vec().is_none());
+    drop((rows, two, pointer));
 }
 
 #[test]

@@ -27,7 +27,7 @@ fn structures_arrays_and_vectors_are_made(rt: HostRuntime) {
         array_of(&rt, alloc, &[1, 2], true),
     );
     let (components, two) = (numbers(&rt, alloc, &[1, 2]), vector_of(&rt, alloc, &[1, 2]));
-    assert_same(&rt, StructInstance::can_make(&ty, &elements), false);
+    assert!(rt; !StructInstance::can_make(&ty, &elements));
     assert!(rt; StructInstance::can_make(&ty, &members));
     assert_is(&rt, StructInstance::new(ty, members), &pair);
     assert!(rt; ArrayInstance::can_make(&elements, true));
@@ -52,9 +52,7 @@ fn matrices_and_references_are_made(rt: HostRuntime) {
     );
     assert!(rt; MatInstance::can_make(&columns));
     assert_is(&rt, MatInstance::from_cols(columns), &matrix);
-    let five = Instance::from(5i32);
-    assert_same(&rt, AtomicInstance::can_make(&five), true);
-    drop(five);
+    assert!(rt; AtomicInstance::can_make(&Instance::from(5i32)));
     let made = RefInstance::from_parts(
         7,
         view,
@@ -64,23 +62,6 @@ fn matrices_and_references_are_made(rt: HostRuntime) {
     );
     assert_is(&rt, RefInstance::from(PtrInstance::from(made)), &reference);
     drop((matrix, reference));
-}
-
-/// Asserts whether the value has the type.
-fn assert_type(rt: &impl Abort, value: Instance, ty: &Type, wanted: bool) {
-    assert_same(rt, value.has_ty(ty), wanted);
-    drop(value);
-}
-
-/// Asserts whether the value can be stored.
-fn assert_storable(rt: &impl Abort, value: Instance, wanted: bool) {
-    assert_same(rt, value.is_storable(), wanted);
-    drop(value);
-}
-
-fn assert_well_formed(rt: &impl Abort, value: Instance) {
-    assert_same(rt, value.is_well_formed(), true);
-    drop(value);
 }
 
 #[test]
@@ -93,52 +74,62 @@ fn each_sort_becomes_a_value(rt: HostRuntime) {
     let (two, matrix) = (vector_of(&rt, alloc, &[1, 2]), mat2x3(&rt, alloc));
     let (five, reference) = (atomic_of(&rt, alloc, 5), reference_of(&rt, alloc));
     let pointer = PtrInstance::from(reference_of(&rt, alloc));
-    assert_type(&rt, Instance::from(pair), &Type::U32, false);
-    assert_type(&rt, Instance::from(list), &Type::U32, false);
-    assert_storable(&rt, Instance::from(two), true);
-    assert_storable(&rt, Instance::from(matrix), true);
-    assert_storable(&rt, Instance::from(five), true);
-    assert_well_formed(&rt, Instance::from(reference));
-    assert_well_formed(&rt, Instance::from(pointer));
+    assert_same(&rt, Instance::from(pair).has_ty(&Type::U32), false);
+    assert_same(&rt, Instance::from(list).has_ty(&Type::U32), false);
+    assert_same(&rt, Instance::from(two).is_storable(), true);
+    assert_same(&rt, Instance::from(matrix).is_storable(), true);
+    assert_same(&rt, Instance::from(five).is_storable(), true);
+    assert_same(&rt, Instance::from(reference).is_well_formed(), true);
+    assert_same(&rt, Instance::from(pointer).is_well_formed(), true);
     assert_same(&rt, Instance::from(U32(7)), Instance::from(7u32));
-    assert_type(&rt, Instance::from(true), &Type::Bool, true);
-    assert_type(&rt, Instance::from(-7i64), &Type::AbstractInt, true);
-    assert_type(&rt, Instance::from(-7i32), &Type::I32, true);
-    assert_storable(&rt, Instance::from(Type::U32), false);
+    assert_same(&rt, Instance::from(true).has_ty(&Type::Bool), true);
+    assert_same(&rt, Instance::from(-7i64).has_ty(&Type::AbstractInt), true);
+    assert_same(&rt, Instance::from(-7i32).has_ty(&Type::I32), true);
+    assert_same(&rt, Instance::from(Type::U32).is_storable(), false);
 }
 
-/// Asserts that the value has the type and not the target, and whether it converts to that.
-fn assert_tested(rt: &impl Abort, value: Instance, ty: Type, target: &Type, converts: bool) {
-    let value = storable(rt, value);
-    assert_same(rt, value.has_ty(&ty), true);
-    assert_same(rt, value.has_ty(target), false);
-    assert_same(rt, value.is_convertible_to(target), converts);
-    drop((value, ty));
+/// Values, the type of each, and whether it converts to a vector of two i32.
+fn rows(rt: &impl Abort, alloc: Global) -> [(Instance, Type, bool); 6] {
+    let elements = Instance::from(array_of(rt, alloc, &[1, 2, 3], true));
+    let integers = Instance::from(abstract_vector(rt, alloc, &[1, 2]));
+    [
+        (Instance::from(7u32), Type::U32, false),
+        (
+            Instance::from(pair_with(rt, alloc, 1)),
+            pair(rt, alloc),
+            false,
+        ),
+        (elements, array(rt, alloc, Type::U32, None), false),
+        (integers, vector(rt, alloc, 2, Type::AbstractInt), true),
+        (
+            Instance::from(mat2x3(rt, alloc)),
+            matrix(rt, alloc, Type::U32),
+            false,
+        ),
+        (
+            Instance::from(atomic_of(rt, alloc, 5)),
+            atomic(rt, alloc, Type::U32),
+            false,
+        ),
+    ]
 }
 
 #[test]
 fn values_are_tested(rt: HostRuntime) {
     let alloc = rt.alloc();
+    let rows = rows(&rt, alloc);
     let target = vector(&rt, alloc, 2, Type::I32);
     let deferred = Instance::from(pair(&rt, alloc));
-    let (one, of_pairs) = (Instance::from(pair_with(&rt, alloc, 1)), pair(&rt, alloc));
-    let elements = Instance::from(array_of(&rt, alloc, &[1, 2, 3], true));
-    let of_elements = array(&rt, alloc, Type::U32, None);
-    let integers = Instance::from(abstract_vector(&rt, alloc, &[1, 2]));
-    let of_integers = vector(&rt, alloc, 2, Type::AbstractInt);
-    let columns = Instance::from(mat2x3(&rt, alloc));
-    let of_columns = matrix(&rt, alloc, Type::U32);
-    let five = Instance::from(atomic_of(&rt, alloc, 5));
-    let of_five = atomic(&rt, alloc, Type::U32);
-    assert_tested(&rt, Instance::from(7u32), Type::U32, &target, false);
-    assert_tested(&rt, one, of_pairs, &target, false);
-    assert_tested(&rt, elements, of_elements, &target, false);
-    assert_tested(&rt, integers, of_integers, &target, true);
-    assert_tested(&rt, columns, of_columns, &target, false);
-    assert_tested(&rt, five, of_five, &target, false);
-    assert_same(&rt, deferred.is_well_formed(), true);
-    assert_storable(&rt, deferred, false);
-    drop(target);
+    for (value, ty, converts) in &rows {
+        assert!(rt; value.is_storable());
+        assert!(rt; value.is_well_formed());
+        assert!(rt; value.has_ty(ty));
+        assert!(rt; !value.has_ty(&target));
+        assert_eq!(rt; value.is_convertible_to(&target), *converts);
+    }
+    assert!(rt; deferred.is_well_formed());
+    assert!(rt; !deferred.is_storable());
+    drop((rows, target, deferred));
 }
 
 #[test]
@@ -150,9 +141,9 @@ fn payloads_are_taken_out(rt: HostRuntime) {
     );
     let mut value = Instance::Vec(vector_of(&rt, alloc, &[1, 2]));
     let seven = Instance::Literal(U32(7));
-    assert_same(&rt, seven.unwrap_literal_ref(), &U32(7));
-    assert_same(&rt, seven.unwrap_literal(), U32(7));
-    assert_same(&rt, value.unwrap_vec_ref(), &first);
+    assert_eq!(rt; seven.unwrap_literal_ref(), &U32(7));
+    assert_eq!(rt; seven.unwrap_literal(), U32(7));
+    assert!(rt; value.unwrap_vec_ref() == &first);
     if let Some(second) = value.unwrap_vec_mut().get_mut(1) {
         drop(mem::replace(second, Instance::from(9u32)));
     }

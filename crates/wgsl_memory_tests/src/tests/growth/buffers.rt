@@ -1,6 +1,5 @@
 //! Buffers of values: want of memory is told as such, and never as no bytes or no value.
 
-use crate::tests::asserts::assert_same;
 use crate::tests::samples::{light, pair_value, storable};
 use std::alloc::{AllocError, Global};
 use wgsl_rules::{Ty, Type};
@@ -18,8 +17,7 @@ fn a_buffer_wants_memory_or_is_whole(rt: HostRuntime) {
         wanted[i * 4] = *word;
     }
     let buffer = answer_of!(&rt; pair.to_buffer(alloc));
-    assert_same(&rt, buffer.as_deref(), Some(wanted.as_slice()));
-    drop(buffer);
+    assert!(rt; buffer.is_some_and(|buffer| buffer.as_slice() == wanted.as_slice()));
     drop(pair);
 }
 
@@ -54,7 +52,6 @@ fn a_buffer_of_wide_vectors_wants_memory_or_is_whole(rt: HostRuntime) {
     let read = answer_of!(&rt; Instance::from_buffer(alloc, &bytes, &ty));
     let read = storable(&rt, read.expect(&rt, "a value"));
     let buffer = answer_of!(&rt; read.to_buffer(alloc));
-    assert_same(&rt, buffer.as_deref(), Some(bytes.as_slice()));
-    drop(buffer);
+    assert!(rt; buffer.is_some_and(|buffer| buffer.as_slice() == bytes.as_slice()));
     drop((ty, read));
 }

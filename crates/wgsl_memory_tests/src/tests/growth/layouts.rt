@@ -23,7 +23,10 @@ fn a_layout_wants_memory_or_is_whole(rt: HostRuntime) {
     let seven = storable(&rt, Instance::from(7u32));
     let mut bytes = [0xff; 32];
     assert_eq!(rt; layout.write(&mut bytes, &view, &seven), Ok(()));
-    assert_same(&rt, layout.range(32, &view), Ok(20..24));
+    assert_eq!(rt;
+        layout.range(32, &view).map(|r| (r.start, r.end)),
+        Ok((20, 24))
+    );
     let read = answer_of!(&rt; layout.read(alloc, &bytes, &view));
     assert_same(&rt, read, Some(seven));
     let whole = answer_of!(&rt; layout.read(alloc, &bytes, &MemView::Whole));
@@ -41,6 +44,9 @@ fn a_copy_of_a_layout_wants_memory_or_is_whole(rt: HostRuntime) {
     let layout = answer_of!(&rt; Layout::of(alloc, &ty)).expect(&rt, "a layout");
     let copy = answer_of!(&rt; layout.clone(alloc));
     assert_same(&rt, &copy, &layout);
-    assert_same(&rt, copy.range(32, &view), Ok(20..24));
+    assert_eq!(rt;
+        copy.range(32, &view).map(|r| (r.start, r.end)),
+        Ok((20, 24))
+    );
     drop((ty, view, layout, copy));
 }

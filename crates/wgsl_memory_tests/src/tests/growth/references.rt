@@ -260,52 +260,21 @@ struct Places {
     element: RefInstance,
 }
 
-/// The reference to the second of three elements, in a cell beside that of the other reference.
-fn element_beside(
-    rt: &impl Abort,
-    alloc: Global,
-    store: &mut Store,
-    whole: &RefInstance,
-) -> RefInstance {
-    let three = Instance::from(answer_of!(rt; array_of(rt, alloc, &[10, 11, 12], true)));
-    let again = Instance::from(answer_of!(rt; array_of(rt, alloc, &[10, 11, 12], true)));
-    let elements = cell_beside(rt, alloc, store, slice::from_ref(whole), three, again);
-    let element = answer_of!(rt; view_index(rt, alloc, store, &elements, 1));
-    drop(elements);
-    element
-}
-
 fn places_in(rt: &impl Abort, alloc: Global, store: &mut Store) -> Places {
     let whole = pair_in(rt, alloc, store);
     let vector = answer_of!(rt; view_member(rt, alloc, store, &whole, "b"));
     let component = answer_of!(rt; view_index(rt, alloc, store, &vector, 2));
-    let element = element_beside(rt, alloc, store, &whole);
+    let three = Instance::from(answer_of!(rt; array_of(rt, alloc, &[10, 11, 12], true)));
+    let again = Instance::from(answer_of!(rt; array_of(rt, alloc, &[10, 11, 12], true)));
+    let elements = cell_beside(rt, alloc, store, slice::from_ref(&whole), three, again);
+    let element = answer_of!(rt; view_index(rt, alloc, store, &elements, 1));
+    drop(elements);
     Places {
         whole,
         vector,
         component,
         element,
     }
-}
-
-/// Asserts that the value is written, whatever memory there is.
-fn assert_written(
-    rt: &impl Abort,
-    alloc: Global,
-    store: &mut Store,
-    reference: &RefInstance,
-    value: Instance,
-) {
-    assert_gives(rt, write(rt, alloc, store, reference, value), ());
-}
-
-/// Asserts what the places hold behind the writes.
-fn assert_all_written(rt: &impl Abort, alloc: Global, store: &Store, places: &Places) {
-    let text = answer_of!(rt; show(rt, alloc, store, &places.whole));
-    let wanted = "ref<storage, Pair, read_write>(Pair(9u, vec3(7u, 8u, 5u)))";
-    assert_same(rt, text.as_str(), wanted);
-    let element = answer_of!(rt; read(rt, alloc, store, &places.element));
-    assert_same(rt, element, Instance::from(6u32));
 }
 
 #[test]
@@ -315,12 +284,24 @@ fn an_accepted_write_takes_no_memory(rt: HostRuntime) {
     let places = places_in(&rt, alloc, &mut store);
     let pair = Instance::from(answer_of!(&rt; pair_with(&rt, alloc, 9)));
     let vector = Instance::from(answer_of!(&rt; vector_of(&rt, alloc, &[7, 8, 9])));
-    assert_written(&rt, alloc, &mut store, &places.whole, pair);
-    assert_written(&rt, alloc, &mut store, &places.vector, vector);
+    assert_gives(&rt, write(&rt, alloc, &mut store, &places.whole, pair), ());
+    assert_gives(
+        &rt,
+        write(&rt, alloc, &mut store, &places.vector, vector),
+        (),
+    );
     let five = Instance::from(5u32);
-    assert_written(&rt, alloc, &mut store, &places.component, five);
+    assert_gives(
+        &rt,
+        write(&rt, alloc, &mut store, &places.component, five),
+        (),
+    );
     let six = Instance::from(6u32);
-    assert_written(&rt, alloc, &mut store, &places.element, six);
-    assert_all_written(&rt, alloc, &store, &places);
+    assert_gives(&rt, write(&rt, alloc, &mut store, &places.element, six), ());
+    let text = answer_of!(&rt; show(&rt, alloc, &store, &places.whole));
+    let wanted = "ref<storage, Pair, read_write>(Pair(9u, vec3(7u, 8u, 5u)))";
+    assert_eq!(rt; text.as_str(), wanted);
+    let element = answer_of!(&rt; read(&rt, alloc, &store, &places.element));
+    assert_same(&rt, element, Instance::from(6u32));
     drop((store, places));
 }

@@ -78,12 +78,10 @@ fn wanted(
 
 /// The number of the call that memory is refused to.
 fn refused_in(replies: &[Result<Reply, Fault>]) -> Option<usize> {
-    for (i, reply) in replies.iter().enumerate() {
-        if matches!(reply, Err(Fault::Of(Error::Memory))) {
-            return Some(i);
-        }
-    }
-    None
+    let memory = memory();
+    let refused = replies.iter().position(|reply| reply == &memory);
+    drop(memory);
+    refused
 }
 
 /// Runs the calls on a new session, and asserts what is answered and made. Answers whether memory was refused.

@@ -108,7 +108,10 @@ impl Memory {
 
     /// Whether the part has a layout, and its cell has none.
     fn is_loose(&self, named: Named) -> bool {
-        let cell = self.cell_shape(named.cell);
+        let cell = self
+            .cells
+            .get(named.cell)
+            .map_or(0, |content| content.shape);
         let is_laid_out = self.shapes.laid(named.shape).layout != Layout::Missing;
         is_laid_out && self.shapes.laid(cell).layout == Layout::Missing
     }
@@ -132,19 +135,8 @@ impl Memory {
     }
 
     /// The type of what the handle names; type 0 where it is not there.
-    pub(super) fn shape_at(&self, handle: usize) -> usize {
-        match self.handles.get(handle) {
-            Some(named) => named.shape,
-            None => 0,
-        }
-    }
-
-    /// The cell of what the handle names; cell 0 where it is not there.
-    pub(super) fn cell_at(&self, handle: usize) -> usize {
-        match self.handles.get(handle) {
-            Some(named) => named.cell,
-            None => 0,
-        }
+    fn shape_at(&self, handle: usize) -> usize {
+        self.handles.get(handle).map_or(0, |named| named.shape)
     }
 
     /// A value for what the handle names; one of a few is of another type or length.
@@ -159,7 +151,7 @@ impl Memory {
         if is_reference || numbers.is_one_in(8) {
             return self.shapes.any_content(alloc, numbers);
         }
-        let cell = self.cell_at(handle);
+        let cell = self.handles.get(handle).map_or(0, |named| named.cell);
         let elements = if numbers.is_one_in(2) {
             numbers.below(4).wrapping_add(1)
         } else {

@@ -199,10 +199,9 @@ impl Shapes {
         let Some((last, others)) = members.split_last() else {
             return Layout::Missing;
         };
-        let mut are_fixed = true;
-        for member in others {
-            are_fixed &= self.is_in(*member, Layout::Fixed);
-        }
+        let are_fixed = others
+            .iter()
+            .all(|member| self.is_in(*member, Layout::Fixed));
         let is_array = matches!(self.shape(last.shape), Shape::Row(Sort::Open, _, _));
         if are_fixed && self.is_in(*last, Layout::Fixed) {
             Layout::Fixed

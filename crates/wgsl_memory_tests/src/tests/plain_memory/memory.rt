@@ -138,26 +138,15 @@ impl Memory {
 
     /// How many elements the runtime-sized array of a cell has.
     pub(super) fn elements(&self, cell: usize) -> usize {
-        match self.cells.get(cell) {
-            Some(content) => content.elements,
-            None => 0,
-        }
-    }
-
-    /// The type of a cell; type 0 where it is not there.
-    pub(super) fn cell_shape(&self, cell: usize) -> usize {
-        match self.cells.get(cell) {
-            Some(content) => content.shape,
-            None => 0,
-        }
+        self.cells.get(cell).map_or(0, |content| content.elements)
     }
 
     /// The bytes that are named.
     fn bytes(&self, named: Named) -> &[u8] {
-        let bytes: &[u8] = match self.cells.get(named.cell) {
-            Some(content) => content.bytes.as_slice(),
-            None => &[],
-        };
+        let bytes: &[u8] = self
+            .cells
+            .get(named.cell)
+            .map_or(&[], |content| content.bytes.as_slice());
         let len = self.shapes.laid(named.shape).len(self.elements(named.cell));
         range(bytes, named.first, len)
     }
@@ -240,7 +229,8 @@ impl Memory {
 
     fn member(&mut self, rt: &impl Abort, handle: usize, name: usize) -> Result<Answer, Refusal> {
         let named = self.readable(handle)?;
-        let member = self.shapes.member(named.shape, name);
+        let members = self.shapes.members(named.shape);
+        let member = members.iter().find(|member| member.name == name).copied();
         let member = member.ok_or(Refusal::Component(named.shape, name))?;
         let part = Named {
             from: Some((handle, Step::Name(name))),

@@ -112,16 +112,6 @@ impl Shapes {
         }
     }
 
-    /// The first member of the name.
-    pub(super) fn member(&self, shape: usize, name: usize) -> Option<Member> {
-        for member in self.members(shape) {
-            if member.name == name {
-                return Some(*member);
-            }
-        }
-        None
-    }
-
     /// The number of the type, which is added where it is not there. It is no structure.
     pub(super) fn add(&mut self, shape: Shape) -> Result<usize, AllocError> {
         for (i, entry) in self.entries.iter().enumerate() {

@@ -213,10 +213,8 @@ impl Memory {
         let mut view = MemView::Whole;
         let mut handle = handle;
         for _ in 0..self.handles.len() {
-            let Ok(named) = self.named(handle) else {
-                break;
-            };
-            let Some((whole, step)) = named.from else {
+            let from = self.handles.get(handle).and_then(|named| named.from);
+            let Some((whole, step)) = from else {
                 break;
             };
             let rest = boxed(rt, alloc, view);

@@ -1,11 +1,8 @@
 //! Conversions of values and types: want of memory is told as such, and never as no conversion.
 
-ghost use Rattle.std.specs.Prelude.{All};
-ghost use Rattle.wgsl_rules.specs.Values.{IsWellFormed};
-
 use crate::tests::asserts::assert_is;
 use crate::tests::samples::{
-    abstract_array, abstract_vector, array_of, both, pair_value, storable, vector_of,
+    abstract_array, abstract_vector, array_of, pair_value, storable, vector_of,
 };
 use std::alloc::{AllocError, Global};
 use std::process::Abort;
@@ -52,31 +49,16 @@ fn a_converted_array_wants_memory_or_is_whole(rt: HostRuntime) {
 
 /// A vector of AbstractInt and one of u32.
 fn vectors(rt: &impl Abort, alloc: Global) -> Result<(Instance, Instance), AllocError> {
-    let any = abstract_vector(rt, alloc, &[1, 2]);
-    let (any, typed) = both(any, vector_of(rt, alloc, &[3, 4]))?;
-    Ok((Instance::from(any), Instance::from(typed)))
+    let any = Instance::from(abstract_vector(rt, alloc, &[1, 2])?);
+    let typed = Instance::from(vector_of(rt, alloc, &[3, 4])?);
+    Ok((any, typed))
 }
 
 /// The same vectors, both of u32.
 fn typed_vectors(rt: &impl Abort, alloc: Global) -> Result<(Instance, Instance), AllocError> {
-    let first = vector_of(rt, alloc, &[1, 2]);
-    let (first, second) = both(first, vector_of(rt, alloc, &[3, 4]))?;
-    Ok((Instance::from(first), Instance::from(second)))
-}
-
-/// Asserts what two are in their common type.
-fn assert_two<T: Convert + PartialEq + Drop>(
-    rt: &impl Abort,
-    alloc: Global,
-    first: &T,
-    second: &T,
-    wanted: &(T, T),
-)
-    requires first { IsWellFormed (T.value_of first.now) }
-    requires second { IsWellFormed (T.value_of second.now) }
-{
-    assert!(rt; is(answer_of!(rt; convert(alloc, first, second)), wanted));
-    assert!(rt; is(answer_of!(rt; convert_inner(alloc, first, second)), wanted));
+    let first = Instance::from(vector_of(rt, alloc, &[1, 2])?);
+    let second = Instance::from(vector_of(rt, alloc, &[3, 4])?);
+    Ok((first, second))
 }
 
 #[test]
@@ -86,28 +68,9 @@ fn two_converted_values_want_memory_or_have_one_type(rt: HostRuntime) {
     let wanted = answer_of!(&rt; typed_vectors(&rt, alloc));
     let any = storable(&rt, any);
     let typed = storable(&rt, typed);
-    assert_two(&rt, alloc, &any, &typed, &wanted);
+    assert!(rt; is(answer_of!(&rt; convert(alloc, &any, &typed)), &wanted));
+    assert!(rt; is(answer_of!(&rt; convert_inner(alloc, &any, &typed)), &wanted));
     drop((any, typed, wanted));
-}
-
-/// Asserts what a list is in its common type, in the type, and with what is inside taken to u32.
-fn assert_all<T: Convert + PartialEq + Drop>(
-    rt: &impl Abort,
-    alloc: Global,
-    list: &[T],
-    ty: &Type,
-    wanted: &[T],
-)
-    requires { All (λ x. IsWellFormed (T.value_of x)) list.now }
-{
-    assert!(rt; is_list(answer_of!(rt; convert_all(alloc, list)), wanted));
-    assert!(rt; is_list(answer_of!(rt; convert_all_to(alloc, list, ty)), wanted));
-    assert!(rt;
-        is_list(
-            answer_of!(rt; convert_all_inner_to(alloc, list, &Type::U32)),
-            wanted
-        )
-    );
 }
 
 #[test]
@@ -118,20 +81,34 @@ fn a_converted_list_of_values_wants_memory_or_is_whole(rt: HostRuntime) {
     let ty = answer_of!(&rt; vector(alloc, 2, Type::U32));
     let values = [storable(&rt, any), storable(&rt, typed)];
     let wanted = [first, second];
-    assert_all(&rt, alloc, &values, &ty, &wanted);
+    assert!(rt; is_list(answer_of!(&rt; convert_all(alloc, &values)), &wanted));
+    assert!(rt;
+        is_list(
+            answer_of!(&rt; convert_all_to(alloc, &values, &ty)),
+            &wanted
+        )
+    );
+    assert!(rt;
+        is_list(
+            answer_of!(&rt; convert_all_inner_to(alloc, &values, &Type::U32)),
+            &wanted
+        )
+    );
     drop((values, wanted, ty));
 }
 
 /// The types of a vector of AbstractInt and of one of u32.
 fn vector_types(alloc: Global) -> Result<(Type, Type), AllocError> {
-    let any = vector(alloc, 2, Type::AbstractInt);
-    both(any, vector(alloc, 2, Type::U32))
+    let any = vector(alloc, 2, Type::AbstractInt)?;
+    let typed = vector(alloc, 2, Type::U32)?;
+    Ok((any, typed))
 }
 
 /// The same types, both of u32.
 fn typed_vector_types(alloc: Global) -> Result<(Type, Type), AllocError> {
-    let first = vector(alloc, 2, Type::U32);
-    both(first, vector(alloc, 2, Type::U32))
+    let first = vector(alloc, 2, Type::U32)?;
+    let second = vector(alloc, 2, Type::U32)?;
+    Ok((first, second))
 }
 
 #[test]
@@ -139,7 +116,8 @@ fn two_converted_types_want_memory_or_are_equal(rt: HostRuntime) {
     let alloc = rt.alloc();
     let (any, typed) = answer_of!(&rt; vector_types(alloc));
     let wanted = answer_of!(&rt; typed_vector_types(alloc));
-    assert_two(&rt, alloc, &any, &typed, &wanted);
+    assert!(rt; is(answer_of!(&rt; convert(alloc, &any, &typed)), &wanted));
+    assert!(rt; is(answer_of!(&rt; convert_inner(alloc, &any, &typed)), &wanted));
     drop((any, typed, wanted));
 }
 
@@ -148,11 +126,22 @@ fn a_converted_list_of_types_wants_memory_or_is_whole(rt: HostRuntime) {
     let alloc = rt.alloc();
     let (any, typed) = answer_of!(&rt; vector_types(alloc));
     let (first, second) = answer_of!(&rt; typed_vector_types(alloc));
-    let ty = answer_of!(&rt; vector(alloc, 2, Type::U32));
     let types = [any, typed];
     let wanted = [first, second];
-    assert_all(&rt, alloc, &types, &ty, &wanted);
-    drop((types, wanted, ty));
+    assert!(rt; is_list(answer_of!(&rt; convert_all(alloc, &types)), &wanted));
+    assert!(rt;
+        is_list(
+            answer_of!(&rt; convert_all_to(alloc, &types, &wanted[1])),
+            &wanted
+        )
+    );
+    assert!(rt;
+        is_list(
+            answer_of!(&rt; convert_all_inner_to(alloc, &types, &Type::U32)),
+            &wanted
+        )
+    );
+    drop((types, wanted));
 }
 
 #[test]

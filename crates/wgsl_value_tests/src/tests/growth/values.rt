@@ -1,7 +1,6 @@
 //! Making, copies, types and texts of values.
 
 use crate::tests::asserts::{assert_is, assert_same};
-use crate::tests::growth::views::wants_memory;
 use crate::tests::samples::{
     array_of, atomic_from, mat2x3, mat3x2, one_of_each_kind, pair_value, storable, vector_of,
 };
@@ -134,9 +133,7 @@ fn the_text_of_a_value_wants_memory_or_is_whole(rt: HostRuntime) {
         "__deferred<u32>",
     ];
     for (value, text) in values.iter().zip(texts) {
-        let found = answer_of!(&rt; value.to_string(alloc));
-        assert_same(&rt, found.as_str(), text);
-        drop(found);
+        assert_eq!(rt; answer_of!(&rt; value.to_string(alloc)).as_str(), text);
     }
 }
 
@@ -169,14 +166,15 @@ fn a_refused_write_wants_memory_or_is_told_and_changes_nothing(rt: HostRuntime) 
     let mut value = storable(&rt, value);
     let first = storable(&rt, first);
     let second = storable(&rt, second);
-    let refusal = value.write(alloc, first).err();
-    let refusal = if wants_memory(&refusal) {
-        assert_same(&rt, &value, &copy);
-        drop(refusal);
-        value.write(alloc, second).err()
-    } else {
-        drop(second);
-        refusal
+    let refusal = match value.write(alloc, first).err() {
+        Some(Error::Memory) => {
+            assert_eq!(rt; value, copy);
+            value.write(alloc, second).err()
+        }
+        refusal => {
+            drop(second);
+            refusal
+        }
     };
     assert_same(&rt, refusal, Some(error));
     assert_same(&rt, value, copy);

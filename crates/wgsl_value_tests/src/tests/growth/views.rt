@@ -24,8 +24,8 @@ fn the_text_of_a_view_wants_memory_or_is_whole(rt: HostRuntime) {
     let alloc = rt.alloc();
     let view = answer_of!(&rt; to_member(alloc));
     let text = answer_of!(&rt; view.to_string(alloc));
-    assert_same(&rt, text.as_str(), ":pairs:0:b");
-    drop((view, text));
+    assert_eq!(rt; text.as_str(), ":pairs:0:b");
+    drop(view);
 }
 
 /// The views `:m:1`, twice, and `:m:1:2`.
@@ -42,7 +42,7 @@ fn an_index_that_wants_memory_is_not_put_on(rt: HostRuntime) {
     let alloc = rt.alloc();
     let (mut view, old, wanted) = answer_of!(&rt; index_views(alloc));
     if view.append_index(alloc, 2).is_err() {
-        assert_same(&rt, &view, &old);
+        assert_eq!(rt; view, old);
         view.append_index(alloc, 2).expect(&rt, "memory");
     }
     assert_same(&rt, view, wanted);
@@ -65,7 +65,7 @@ fn a_member_that_wants_memory_is_not_put_on(rt: HostRuntime) {
     let name = answer_of!(&rt; format!(in alloc; "b"));
     let again = answer_of!(&rt; name.clone());
     if view.append_member(alloc, name).is_err() {
-        assert_same(&rt, &view, &old);
+        assert_eq!(rt; view, old);
         view.append_member(alloc, again).expect(&rt, "memory");
     }
     assert_same(&rt, view, wanted);
@@ -95,11 +95,6 @@ fn a_view_with_a_last_member_wants_memory_or_is_made(rt: HostRuntime) {
     drop(wanted);
 }
 
-/// Whether the call was refused for want of memory.
-pub(super) fn wants_memory(refusal: &Option<Error>) -> bool {
-    matches!(refusal, Some(Error::Memory))
-}
-
 /// A matrix of two columns and three rows, a view into its third column, and the refusal.
 fn past_the_end(rt: &impl Abort, alloc: Global) -> (Instance, MemView, Error) {
     let matrix_of_two = answer_of!(rt; mat2x3(rt, alloc));
@@ -120,12 +115,9 @@ fn a_refused_view_wants_memory_or_is_told(rt: HostRuntime) {
     let alloc = rt.alloc();
     let (value, view, error) = past_the_end(&rt, alloc);
     let value = storable(&rt, value);
-    let refusal = value.view(alloc, &view).err();
-    let refusal = if wants_memory(&refusal) {
-        drop(refusal);
-        value.view(alloc, &view).err()
-    } else {
-        refusal
+    let refusal = match value.view(alloc, &view).err() {
+        Some(Error::Memory) => value.view(alloc, &view).err(),
+        refusal => refusal,
     };
     assert_same(&rt, refusal, Some(error));
     drop((value, view));
@@ -139,12 +131,9 @@ fn a_view_without_a_member_wants_memory_or_is_told(rt: HostRuntime) {
     let ty = answer_of!(&rt; matrix(alloc, Type::U32));
     let name = answer_of!(&rt; format!(in alloc; "m"));
     let value = storable(&rt, Instance::from(value));
-    let refusal = value.view(alloc, &view).err();
-    let refusal = if wants_memory(&refusal) {
-        drop(refusal);
-        value.view(alloc, &view).err()
-    } else {
-        refusal
+    let refusal = match value.view(alloc, &view).err() {
+        Some(Error::Memory) => value.view(alloc, &view).err(),
+        refusal => refusal,
     };
     assert_same(&rt, refusal, Some(Error::Component(ty, name)));
     drop((value, view));
@@ -157,13 +146,11 @@ fn a_view_to_write_that_is_refused_changes_nothing(rt: HostRuntime) {
     let copy = answer_of!(&rt; value.clone(alloc));
     let mut value = storable(&rt, value);
     let refusal = refusal_to_write(alloc, &mut value, &view);
-    assert_same(&rt, &value, &copy);
+    assert_eq!(rt; value, copy);
     let mut value = storable(&rt, value);
-    let refusal = if wants_memory(&refusal) {
-        drop(refusal);
-        refusal_to_write(alloc, &mut value, &view)
-    } else {
-        refusal
+    let refusal = match refusal {
+        Some(Error::Memory) => refusal_to_write(alloc, &mut value, &view),
+        refusal => refusal,
     };
     assert_same(&rt, refusal, Some(error));
     drop((value, copy, view));
