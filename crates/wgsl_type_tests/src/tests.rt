@@ -8,6 +8,7 @@ mod layouts;
 mod literals;
 mod operators;
 mod reach;
+mod reading;
 mod samples;
 mod shared;
 mod sizes;

@@ -1,6 +1,7 @@
 //! Assertions that take what they compare: a test that drops none of it has a short proof.
 
-use std::fmt::Debug;
+use std::alloc::Global;
+use std::fmt::{Debug, Display};
 use std::process::Abort;
 
 /// Asserts that the values are equal.
@@ -28,4 +29,26 @@ pub(super) fn assert_copied<T: PartialEq + Debug + Drop, E: Debug + Drop>(
     assert_eq!(rt; copy, value);
     assert_ne!(rt; copy, other);
     assert_ne!(rt; value, other);
+}
+
+/// Asserts that the answer of the row is the wanted one.
+pub(super) fn assert_row<T: PartialEq + Debug + Drop>(
+    rt: &impl Abort,
+    row: &str,
+    answer: T,
+    wanted: T,
+) {
+    assert_eq!(rt; answer, wanted, "{row}");
+}
+
+/// Asserts the text of the value.
+pub(super) fn assert_text<T: Display>(rt: &impl Abort, alloc: Global, value: &T, wanted: &str) {
+    let text = value.to_string(alloc).expect(rt, "memory");
+    assert_eq!(rt; text.as_str(), wanted);
+    drop(text);
+}
+
+/// Asserts that the value is the other one, which was made to compare them.
+pub(super) fn assert_is<T: PartialEq + Debug + Drop>(rt: &impl Abort, value: &T, made: T) {
+    assert_eq!(rt; value, &made);
 }

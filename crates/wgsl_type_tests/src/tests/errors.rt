@@ -1,6 +1,6 @@
 //! Errors: their numbers and their copies.
 
-use crate::tests::asserts::assert_gives;
+use crate::tests::asserts::{assert_gives, assert_same};
 use std::alloc::Global;
 use std::process::Abort;
 use wgsl_rules::{BinaryOperator, Type, UnaryOperator};
@@ -9,7 +9,7 @@ use wgsl_scalar::{BuiltinName, BuiltinReason, Error};
 
 /// Asserts the number of the error, and that its copy is equal.
 fn assert_numbered(rt: &impl Abort, alloc: Global, number: usize, error: Error) {
-    assert_eq!(rt; error.number() as usize, number);
+    assert_same(rt, error.number() as usize, number);
     assert_gives(rt, error.clone(alloc), error);
 }
 

@@ -1,6 +1,6 @@
 //! Literals: conversions and payloads.
 
-use crate::tests::asserts::assert_same;
+use crate::tests::asserts::{assert_is, assert_same};
 use std::alloc::Global;
 use std::process::Abort;
 use wgsl_rules::{Ty, Type};
@@ -11,35 +11,31 @@ use wgsl_scalar::LiteralInstance::{AbstractInt, I32, I64, U32, U64};
 fn assert_kind(
     rt: &impl Abort,
     literal: LiteralInstance,
-    ty: Type,
+    ty: &Type,
     wanted: Option<LiteralInstance>,
 ) {
-    assert_eq!(rt; literal.to_kind(&ty), wanted, "{ty}");
+    assert_same(rt, (ty, literal.to_kind(ty)), (ty, wanted));
 }
 
 #[test]
 fn conversions(rt: HostRuntime) {
-    assert_kind(
-        &rt,
-        AbstractInt(4294967295),
-        Type::U32,
-        Some(U32(4294967295)),
-    );
-    assert_kind(&rt, AbstractInt(4294967295), Type::I32, None);
-    assert_kind(&rt, AbstractInt(1), Type::I64, None);
-    assert_kind(&rt, I64(1), Type::I64, Some(I64(1)));
-    assert_kind(&rt, U32(1), Type::I32, None);
+    let large = AbstractInt(4294967295);
+    assert_kind(&rt, large, &Type::U32, Some(U32(4294967295)));
+    assert_kind(&rt, large, &Type::I32, None);
+    assert_kind(&rt, AbstractInt(1), &Type::I64, None);
+    assert_kind(&rt, I64(1), &Type::I64, Some(I64(1)));
+    assert_kind(&rt, U32(1), &Type::I32, None);
     assert_same(&rt, I64(7).literal_ty(), Type::I64);
 }
 
 #[test]
 fn payloads(rt: HostRuntime) {
     assert!(rt; LiteralInstance::from(true).unwrap_bool());
-    assert_eq!(rt; LiteralInstance::from(-4i64).unwrap_abstract_int(), -4);
-    assert_eq!(rt; LiteralInstance::from(-5i32).unwrap_i32(), -5);
-    assert_eq!(rt; LiteralInstance::from(6u32).unwrap_u32(), 6);
-    assert_eq!(rt; I64(-7).unwrap_i64(), -7);
-    assert_eq!(rt; U64(8).unwrap_u64(), 8);
+    assert_same(&rt, LiteralInstance::from(-4i64).unwrap_abstract_int(), -4);
+    assert_same(&rt, LiteralInstance::from(-5i32).unwrap_i32(), -5);
+    assert_same(&rt, LiteralInstance::from(6u32).unwrap_u32(), 6);
+    assert_same(&rt, I64(-7).unwrap_i64(), -7);
+    assert_same(&rt, U64(8).unwrap_u64(), 8);
     assert!(rt; I64(7).is_finite());
     assert!(rt; !I64(7).is_infinite());
 }
@@ -51,21 +47,21 @@ fn has_type(literal: LiteralInstance, ty: &Type) -> bool {
 }
 
 /// Asserts the type of the literal, each way to ask for it.
-fn assert_type(rt: &impl Abort, alloc: Global, literal: LiteralInstance, ty: Type) {
-    assert!(rt; has_type(literal, &ty), "{ty}");
-    assert!(rt; !has_type(literal, &Type::F32), "{ty}");
-    assert_eq!(rt; literal.literal_ty(), ty);
-    assert_eq!(rt; literal.ty(alloc).expect(rt, "memory"), ty);
-    assert_eq!(rt; literal.inner_ty(alloc).expect(rt, "memory"), ty);
+fn assert_type(rt: &impl Abort, alloc: Global, literal: LiteralInstance, ty: &Type) {
+    assert_same(rt, (ty, has_type(literal, ty)), (ty, true));
+    assert_same(rt, (ty, has_type(literal, &Type::F32)), (ty, false));
+    assert_is(rt, ty, literal.literal_ty());
+    assert_is(rt, ty, literal.ty(alloc).expect(rt, "memory"));
+    assert_is(rt, ty, literal.inner_ty(alloc).expect(rt, "memory"));
 }
 
 #[test]
 fn types_of_literals(rt: HostRuntime) {
     let alloc = rt.alloc();
-    assert_type(&rt, alloc, LiteralInstance::Bool(true), Type::Bool);
-    assert_type(&rt, alloc, AbstractInt(1), Type::AbstractInt);
-    assert_type(&rt, alloc, I32(1), Type::I32);
-    assert_type(&rt, alloc, U32(1), Type::U32);
-    assert_type(&rt, alloc, I64(1), Type::I64);
-    assert_type(&rt, alloc, U64(1), Type::U64);
+    assert_type(&rt, alloc, LiteralInstance::Bool(true), &Type::Bool);
+    assert_type(&rt, alloc, AbstractInt(1), &Type::AbstractInt);
+    assert_type(&rt, alloc, I32(1), &Type::I32);
+    assert_type(&rt, alloc, U32(1), &Type::U32);
+    assert_type(&rt, alloc, I64(1), &Type::I64);
+    assert_type(&rt, alloc, U64(1), &Type::U64);
 }

@@ -1,8 +1,8 @@
 //! Operators on literals and numeric builtins, by worked rows.
 
-use crate::tests::asserts::assert_same;
+use crate::tests::asserts::{assert_row, assert_same};
+use crate::tests::reading::{asked, is_true, number, parted, ty};
 use std::alloc::Global;
-use std::fmt::Debug;
 use std::process::Abort;
 use wgsl_rules::ShaderStage::{Const, Exec, Override};
 use wgsl_rules::{BinaryOperator, ShaderStage, Type, UnaryOperator, convert};
@@ -14,316 +14,200 @@ use wgsl_scalar::{
 
 const LEAST: i64 = -9223372036854775808;
 
-/// A call on two literals.
-#[derive(Clone, Copy, Debug, PartialEq, Eq)]
-enum Call {
-    Or,
-    And,
-    Add,
-    Sub,
-    Mul,
-    Div,
-    Rem,
-    BitOr,
-    BitAnd,
-    BitXor,
-    Shl,
-    Shr,
-    Min,
-    Max,
-}
-
-fn answer(
-    call: Call,
-    left: &LiteralInstance,
-    right: &LiteralInstance,
-    stage: ShaderStage,
-) -> Result<LiteralInstance, Error> {
-    match call {
-        Call::Or => left.op_or(right),
-        Call::And => left.op_and(right),
-        Call::Add => left.op_add(right, stage),
-        Call::Sub => left.op_sub(right, stage),
-        Call::Mul => left.op_mul(right, stage),
-        Call::Div => left.op_div(right, stage),
-        Call::Rem => left.op_rem(right, stage),
-        Call::BitOr => left.op_bitor(right),
-        Call::BitAnd => left.op_bitand(right),
-        Call::BitXor => left.op_bitxor(right),
-        Call::Shl => left.op_shl(right, stage),
-        Call::Shr => left.op_shr(right, stage),
-        Call::Min => left.min(right),
-        Call::Max => left.max(right),
+/// The literal of the text, as `-5i`, `7li` or `true`.
+fn literal(rt: &impl Abort, text: &str) -> LiteralInstance {
+    if let Some(digits) = text.strip_suffix("li") {
+        return I64(digits.parse::<i64>().expect(rt, "an i64"));
+    }
+    if let Some(digits) = text.strip_suffix("lu") {
+        return U64(digits.parse::<u64>().expect(rt, "an u64"));
+    }
+    if let Some(digits) = text.strip_suffix("i") {
+        return I32(digits.parse::<i32>().expect(rt, "an i32"));
+    }
+    if let Some(digits) = text.strip_suffix("u") {
+        return U32(digits.parse::<u32>().expect(rt, "an u32"));
+    }
+    match text {
+        "true" | "false" => Bool(is_true(rt, text)),
+        _ => AbstractInt(text.parse::<i64>().expect(rt, "a literal")),
     }
 }
 
-fn assert_number<E: PartialEq + Debug + Drop>(
-    rt: &impl Abort,
-    row: usize,
-    answer: Result<LiteralInstance, E>,
-    wanted: LiteralInstance,
-) {
-    assert_eq!(rt; answer, Ok(wanted), "row {row}");
+fn stage(rt: &impl Abort, name: &str) -> ShaderStage {
+    match name {
+        "Const" => Const,
+        "Override" => Override,
+        "Exec" => Exec,
+        _ => panic!(rt; "{name} is no stage"),
+    }
 }
 
-fn assert_refused(
-    rt: &impl Abort,
-    call: Call,
-    left: LiteralInstance,
-    right: LiteralInstance,
-    stage: ShaderStage,
-    wanted: Error,
-) {
-    let got = answer(call, &left, &right, stage);
-    assert_eq!(rt;
-        got.as_ref().err(),
-        Some(&wanted),
-        "{call:?} {left:?} {right:?}"
-    );
-    drop((got, wanted));
+/// Both literals of a text as `1, 2u`.
+fn two(rt: &impl Abort, text: &str) -> (LiteralInstance, LiteralInstance) {
+    let (left, right) = parted(rt, text, ", ");
+    (literal(rt, left), literal(rt, right))
 }
+
+/// What the call of a text as `div Const 7i, 2i` answers.
+fn answer_of(rt: &impl Abort, text: &str) -> Result<LiteralInstance, Error> {
+    let (call, others) = parted(rt, text, " ");
+    let (name, operands) = parted(rt, others, " ");
+    let (left, right) = two(rt, operands);
+    let stage = stage(rt, name);
+    match call {
+        "or" => left.op_or(&right),
+        "and" => left.op_and(&right),
+        "add" => left.op_add(&right, stage),
+        "sub" => left.op_sub(&right, stage),
+        "mul" => left.op_mul(&right, stage),
+        "div" => left.op_div(&right, stage),
+        "rem" => left.op_rem(&right, stage),
+        "bitor" => left.op_bitor(&right),
+        "bitand" => left.op_bitand(&right),
+        "bitxor" => left.op_bitxor(&right),
+        "shl" => left.op_shl(&right, stage),
+        "shr" => left.op_shr(&right, stage),
+        "min" => left.min(&right),
+        "max" => left.max(&right),
+        _ => panic!(rt; "{call} is no call"),
+    }
+}
+
+/// Calls on two numbers, and the numbers that they give. Quotients are cut toward zero, and have the common type; sums,
+/// differences and products wrap.
+const NUMBERS: &str = "\
+    two_numbers_give_a_number: div Const -7i, 2i = -3i
+    two_numbers_give_a_number: div Exec -2147483648i, -1i = -2147483648i
+    two_numbers_give_a_number: div Exec -9223372036854775808, -1 = -9223372036854775808
+    two_numbers_give_a_number: div Const -9223372036854775808li, -1li = -9223372036854775808li
+    two_numbers_give_a_number: div Exec 1li, 0li = 1li
+    two_numbers_give_a_number: div Exec 7, 0i = 7i
+    two_numbers_give_a_number: rem Exec -2147483648i, -1i = 0i
+    two_numbers_give_a_number: rem Override 7i, 0i = 0i
+    two_numbers_give_a_number: rem Const -7i, 2i = -1i
+    two_numbers_give_a_number: add Const 2147483647i, 1i = -2147483648i
+    two_numbers_give_a_number: sub Const 0u, 1u = 4294967295u
+    two_numbers_give_a_number: mul Const 18446744073709551615lu, 18446744073709551615lu = 1lu
+    two_numbers_give_a_number: shl Const 1, 64 = 0
+    two_numbers_give_a_number: shl Const 1i, 33u = 2i
+    two_numbers_give_a_number: shl Const 1li, 40u = 1099511627776li
+    two_numbers_give_a_number: shl Const -1, 63 = -9223372036854775808
+    two_numbers_give_a_number: shl Exec 3000000000u, 1u = 1705032704u
+    two_numbers_give_a_number: shl Const 1li, 64u = 1li
+    two_numbers_give_a_number: shr Const -1, 70u = -1
+    two_numbers_give_a_number: shr Exec 8u, 32u = 8u
+    two_numbers_give_a_number: shr Const -1i, 31u = -1i
+    two_numbers_give_a_number: bitor Const 12i, 10i = 14i
+    two_numbers_give_a_number: bitand Const 12i, 10 = 8i
+    two_numbers_give_a_number: bitxor Const 12i, 10i = 6i
+    two_numbers_give_a_number: bitor Const false, true = true
+    two_numbers_give_a_number: or Const false, true = true
+    two_numbers_give_a_number: and Const false, true = false
+    two_numbers_give_a_number: min Const 1i, 2 = 1i
+    two_numbers_give_a_number: max Const 1i, 2 = 2i";
 
 #[test]
 fn two_numbers_give_a_number(rt: HostRuntime) {
-    let rows = [
-        // quotients are cut toward zero, and have the common type
-        (Call::Div, I32(-7), I32(2), Const, I32(-3)),
-        (Call::Div, I32(-2147483648), I32(-1), Exec, I32(-2147483648)),
-        (
-            Call::Div,
-            AbstractInt(LEAST),
-            AbstractInt(-1),
-            Exec,
-            AbstractInt(LEAST),
-        ),
-        (Call::Div, I64(LEAST), I64(-1), Const, I64(LEAST)),
-        (Call::Div, I64(1), I64(0), Exec, I64(1)),
-        (Call::Div, AbstractInt(7), I32(0), Exec, I32(7)),
-        (Call::Rem, I32(-2147483648), I32(-1), Exec, I32(0)),
-        (Call::Rem, I32(7), I32(0), Override, I32(0)),
-        (Call::Rem, I32(-7), I32(2), Const, I32(-1)),
-        // sums, differences and products wrap
-        (Call::Add, I32(2147483647), I32(1), Const, I32(-2147483648)),
-        (Call::Sub, U32(0), U32(1), Const, U32(4294967295)),
-        (
-            Call::Mul,
-            U64(18446744073709551615),
-            U64(18446744073709551615),
-            Const,
-            U64(1),
-        ),
-        // shifts
-        (
-            Call::Shl,
-            AbstractInt(1),
-            AbstractInt(64),
-            Const,
-            AbstractInt(0),
-        ),
-        (Call::Shl, I32(1), U32(33), Const, I32(2)),
-        (Call::Shl, I64(1), U32(40), Const, I64(1099511627776)),
-        (
-            Call::Shl,
-            AbstractInt(-1),
-            AbstractInt(63),
-            Const,
-            AbstractInt(LEAST),
-        ),
-        (Call::Shl, U32(3000000000), U32(1), Exec, U32(1705032704)),
-        (Call::Shl, I64(1), U32(64), Const, I64(1)),
-        (Call::Shr, AbstractInt(-1), U32(70), Const, AbstractInt(-1)),
-        (Call::Shr, U32(8), U32(32), Exec, U32(8)),
-        (Call::Shr, I32(-1), U32(31), Const, I32(-1)),
-        // bits and logic
-        (Call::BitOr, I32(12), I32(10), Const, I32(14)),
-        (Call::BitAnd, I32(12), AbstractInt(10), Const, I32(8)),
-        (Call::BitXor, I32(12), I32(10), Const, I32(6)),
-        (Call::BitOr, Bool(false), Bool(true), Const, Bool(true)),
-        (Call::Or, Bool(false), Bool(true), Const, Bool(true)),
-        (Call::And, Bool(false), Bool(true), Const, Bool(false)),
-        // the lesser and the greater
-        (Call::Min, I32(1), AbstractInt(2), Const, I32(1)),
-        (Call::Max, I32(1), AbstractInt(2), Const, I32(2)),
-    ];
-    for (i, (call, left, right, stage, wanted)) in rows.iter().enumerate() {
-        assert_number(&rt, i, answer(*call, left, right, *stage), *wanted);
+    for row in NUMBERS.lines() {
+        let (question, wanted) = asked(&rt, row);
+        assert_row(&rt, row, answer_of(&rt, question), Ok(literal(&rt, wanted)));
     }
 }
 
-fn binary(operator: BinaryOperator, left: Type, right: Type) -> Error {
-    Error::Binary(operator, left, right)
+/// Calls on two literals that are refused, and how. A bool and a number have no common type, but two bools have one.
+const REFUSED: &str = "\
+    two_numbers_are_refused: div Const -2147483648i, -1i = DivByZero
+    two_numbers_are_refused: div Override -2147483648i, -1i = DivByZero
+    two_numbers_are_refused: div Const -9223372036854775808, -1 = DivByZero
+    two_numbers_are_refused: div Const 1li, 0li = DivByZero
+    two_numbers_are_refused: rem Const -2147483648i, -1i = RemZeroDiv
+    two_numbers_are_refused: rem Const 7i, 0i = RemZeroDiv
+    two_numbers_are_refused: add Exec 9223372036854775807, 1 = AddOverflow
+    two_numbers_are_refused: sub Const -9223372036854775808, 1 = SubOverflow
+    two_numbers_are_refused: mul Const -9223372036854775808, -1 = MulOverflow
+    two_numbers_are_refused: shl Const 1, 63 = ShlOverflow 63 of 1
+    two_numbers_are_refused: shl Const 3000000000u, 1u = ShlOverflow 1 of 3000000000u
+    two_numbers_are_refused: shr Const 8u, 32u = ShrOverflow 32 of 8u
+    two_numbers_are_refused: min Const 4294967295, 1i = Builtin NoCommonType
+    two_numbers_are_refused: max Const true, 1i = Builtin NoCommonType
+    two_numbers_are_refused: min Const true, false = Builtin NotNumber
+    two_numbers_are_refused: max Const true, true = Builtin NotNumber
+    operands_without_a_common_type_are_refused: add Exec 4294967295, 1i = Binary Addition of AbstractInt, i32
+    operands_without_a_common_type_are_refused: div Exec true, true = Binary Division of bool, bool
+    operands_without_a_common_type_are_refused: shl Exec 1u, 1i = Binary ShiftLeft of u32, i32
+    operands_without_a_common_type_are_refused: shl Exec true, 0u = Binary ShiftLeft of bool, u32
+    operands_without_a_common_type_are_refused: bitxor Exec false, true = Binary BitwiseXor of bool, bool
+    operands_without_a_common_type_are_refused: and Exec false, 1i = Binary ShortCircuitAnd of bool, i32";
+
+/// The case of a binary operator's refusal, as `Addition of i32, u32`.
+fn binary_of(rt: &impl Abort, alloc: Global, text: &str) -> Error {
+    let (name, types) = parted(rt, text, " of ");
+    let (left, right) = parted(rt, types, ", ");
+    let operator = match name {
+        "Addition" => BinaryOperator::Addition,
+        "Division" => BinaryOperator::Division,
+        "ShiftLeft" => BinaryOperator::ShiftLeft,
+        "BitwiseXor" => BinaryOperator::BitwiseXor,
+        "ShortCircuitAnd" => BinaryOperator::ShortCircuitAnd,
+        _ => panic!(rt; "{name} is no operator"),
+    };
+    Error::Binary(
+        operator,
+        ty(rt, alloc, &[], left),
+        ty(rt, alloc, &[], right),
+    )
+}
+
+/// The places and the number of a text as `63 of 1`.
+fn places_of(rt: &impl Abort, text: &str) -> (u32, LiteralInstance) {
+    let (places, shifted) = parted(rt, text, " of ");
+    (
+        number(rt, places).expect(rt, "places"),
+        literal(rt, shifted),
+    )
+}
+
+/// The error of the name, and of what stands behind it.
+fn error_of(rt: &impl Abort, alloc: Global, name: &str, parts: &str) -> Error {
+    match name {
+        "ShlOverflow" => {
+            let (places, shifted) = places_of(rt, parts);
+            Error::ShlOverflow(places, shifted)
+        }
+        "ShrOverflow" => {
+            let (places, shifted) = places_of(rt, parts);
+            Error::ShrOverflow(places, shifted)
+        }
+        "Binary" => binary_of(rt, alloc, parts),
+        _ => panic!(rt; "{name} of {parts} is no error"),
+    }
+}
+
+/// The error of a text as `DivByZero`, `ShlOverflow 63 of 1` or `Binary Addition of i32, u32`.
+fn error(rt: &impl Abort, alloc: Global, text: &str) -> Error {
+    match text {
+        "AddOverflow" => Error::AddOverflow,
+        "SubOverflow" => Error::SubOverflow,
+        "MulOverflow" => Error::MulOverflow,
+        "DivByZero" => Error::DivByZero,
+        "RemZeroDiv" => Error::RemZeroDiv,
+        "Builtin NoCommonType" => Error::Builtin(BuiltinReason::NoCommonType),
+        "Builtin NotNumber" => Error::Builtin(BuiltinReason::NotNumber),
+        _ => {
+            let (name, parts) = parted(rt, text, " ");
+            error_of(rt, alloc, name, parts)
+        }
+    }
 }
 
 #[test]
 fn two_numbers_are_refused(rt: HostRuntime) {
-    assert_refused(
-        &rt,
-        Call::Div,
-        I32(-2147483648),
-        I32(-1),
-        Const,
-        Error::DivByZero,
-    );
-    assert_refused(
-        &rt,
-        Call::Div,
-        I32(-2147483648),
-        I32(-1),
-        Override,
-        Error::DivByZero,
-    );
-    assert_refused(
-        &rt,
-        Call::Div,
-        AbstractInt(LEAST),
-        AbstractInt(-1),
-        Const,
-        Error::DivByZero,
-    );
-    assert_refused(&rt, Call::Div, I64(1), I64(0), Const, Error::DivByZero);
-    assert_refused(
-        &rt,
-        Call::Rem,
-        I32(-2147483648),
-        I32(-1),
-        Const,
-        Error::RemZeroDiv,
-    );
-    assert_refused(&rt, Call::Rem, I32(7), I32(0), Const, Error::RemZeroDiv);
-    assert_refused(
-        &rt,
-        Call::Add,
-        AbstractInt(9223372036854775807),
-        AbstractInt(1),
-        Exec,
-        Error::AddOverflow,
-    );
-    assert_refused(
-        &rt,
-        Call::Sub,
-        AbstractInt(LEAST),
-        AbstractInt(1),
-        Const,
-        Error::SubOverflow,
-    );
-    assert_refused(
-        &rt,
-        Call::Mul,
-        AbstractInt(LEAST),
-        AbstractInt(-1),
-        Const,
-        Error::MulOverflow,
-    );
-    assert_refused(
-        &rt,
-        Call::Shl,
-        AbstractInt(1),
-        AbstractInt(63),
-        Const,
-        Error::ShlOverflow(63, AbstractInt(1)),
-    );
-    assert_refused(
-        &rt,
-        Call::Shl,
-        U32(3000000000),
-        U32(1),
-        Const,
-        Error::ShlOverflow(1, U32(3000000000)),
-    );
-    assert_refused(
-        &rt,
-        Call::Shr,
-        U32(8),
-        U32(32),
-        Const,
-        Error::ShrOverflow(32, U32(8)),
-    );
-    assert_refused(
-        &rt,
-        Call::Min,
-        AbstractInt(4294967295),
-        I32(1),
-        Const,
-        Error::Builtin(BuiltinReason::NoCommonType),
-    );
-    // a bool and a number have no common type, but two bools have one
-    assert_refused(
-        &rt,
-        Call::Max,
-        Bool(true),
-        I32(1),
-        Const,
-        Error::Builtin(BuiltinReason::NoCommonType),
-    );
-    assert_refused(
-        &rt,
-        Call::Min,
-        Bool(true),
-        Bool(false),
-        Const,
-        Error::Builtin(BuiltinReason::NotNumber),
-    );
-    assert_refused(
-        &rt,
-        Call::Max,
-        Bool(true),
-        Bool(true),
-        Const,
-        Error::Builtin(BuiltinReason::NotNumber),
-    );
-}
-
-#[test]
-fn operands_without_a_common_type_are_refused(rt: HostRuntime) {
-    let number = AbstractInt(4294967295);
-    assert_refused(
-        &rt,
-        Call::Add,
-        number,
-        I32(1),
-        Exec,
-        binary(BinaryOperator::Addition, Type::AbstractInt, Type::I32),
-    );
-    assert_refused(
-        &rt,
-        Call::Div,
-        Bool(true),
-        Bool(true),
-        Exec,
-        binary(BinaryOperator::Division, Type::Bool, Type::Bool),
-    );
-    assert_refused(
-        &rt,
-        Call::Shl,
-        U32(1),
-        I32(1),
-        Exec,
-        binary(BinaryOperator::ShiftLeft, Type::U32, Type::I32),
-    );
-    assert_refused(
-        &rt,
-        Call::Shl,
-        Bool(true),
-        U32(0),
-        Exec,
-        binary(BinaryOperator::ShiftLeft, Type::Bool, Type::U32),
-    );
-    assert_refused(
-        &rt,
-        Call::BitXor,
-        Bool(false),
-        Bool(true),
-        Exec,
-        binary(BinaryOperator::BitwiseXor, Type::Bool, Type::Bool),
-    );
-    assert_refused(
-        &rt,
-        Call::And,
-        Bool(false),
-        I32(1),
-        Exec,
-        binary(BinaryOperator::ShortCircuitAnd, Type::Bool, Type::I32),
-    );
+    for row in REFUSED.lines() {
+        let (question, wanted) = asked(&rt, row);
+        let wanted = error(&rt, rt.alloc(), wanted);
+        assert_row(&rt, row, answer_of(&rt, question), Err(wanted));
+    }
 }
 
 // `literal_ty` ensures that the numbers are of their kinds, which `convert` asks for.
@@ -338,58 +222,30 @@ fn in_common(
     convert(alloc, &left, &right).expect(rt, "memory")
 }
 
-/// Asserts what two numbers are in their common type, and the difference that `op_sub` gives of these.
-fn assert_taken(
-    rt: &impl Abort,
-    alloc: Global,
-    row: usize,
-    operands: (LiteralInstance, LiteralInstance),
-    wanted: (LiteralInstance, LiteralInstance),
-    difference: LiteralInstance,
-) {
-    let (left, right) = operands;
-    assert_eq!(rt;
-        in_common(rt, alloc, left, right),
-        Some(wanted),
-        "row {row}"
-    );
-    assert_number(rt, row, left.op_sub(&right, Exec), difference);
-}
+/// Two numbers, what they are in their common type, and the difference that `op_sub` gives of these: of one kind, and
+/// an abstract integer on either side, to the ends of the other kind.
+const TAKEN: &str = "\
+    numbers_are_taken_to_their_common_kind: -7, 2 = -7, 2; -9
+    numbers_are_taken_to_their_common_kind: -7i, 2i = -7i, 2i; -9i
+    numbers_are_taken_to_their_common_kind: 9u, 2u = 9u, 2u; 7u
+    numbers_are_taken_to_their_common_kind: -7li, 2li = -7li, 2li; -9li
+    numbers_are_taken_to_their_common_kind: 9lu, 2lu = 9lu, 2lu; 7lu
+    numbers_are_taken_to_their_common_kind: -2147483648, -1i = -2147483648i, -1i; -2147483647i
+    numbers_are_taken_to_their_common_kind: -1i, 2147483647 = -1i, 2147483647i; -2147483648i
+    numbers_are_taken_to_their_common_kind: 4294967295, 5u = 4294967295u, 5u; 4294967290u
+    numbers_are_taken_to_their_common_kind: 7u, 0 = 7u, 0u; 7u";
 
 #[test]
 fn numbers_are_taken_to_their_common_kind(rt: HostRuntime) {
     operands_are_in_their_common_type();
-    let rows = [
-        // of one kind, as they are
-        (
-            (AbstractInt(-7), AbstractInt(2)),
-            (AbstractInt(-7), AbstractInt(2)),
-            AbstractInt(-9),
-        ),
-        ((I32(-7), I32(2)), (I32(-7), I32(2)), I32(-9)),
-        ((U32(9), U32(2)), (U32(9), U32(2)), U32(7)),
-        ((I64(-7), I64(2)), (I64(-7), I64(2)), I64(-9)),
-        ((U64(9), U64(2)), (U64(9), U64(2)), U64(7)),
-        // an abstract integer on either side, to the ends of the other kind
-        (
-            (AbstractInt(-2147483648), I32(-1)),
-            (I32(-2147483648), I32(-1)),
-            I32(-2147483647),
-        ),
-        (
-            (I32(-1), AbstractInt(2147483647)),
-            (I32(-1), I32(2147483647)),
-            I32(-2147483648),
-        ),
-        (
-            (AbstractInt(4294967295), U32(5)),
-            (U32(4294967295), U32(5)),
-            U32(4294967290),
-        ),
-        ((U32(7), AbstractInt(0)), (U32(7), U32(0)), U32(7)),
-    ];
-    for (i, (operands, wanted, difference)) in rows.iter().enumerate() {
-        assert_taken(&rt, rt.alloc(), i, *operands, *wanted, *difference);
+    for row in TAKEN.lines() {
+        let (question, wanted) = asked(&rt, row);
+        let (common, difference) = parted(&rt, wanted, "; ");
+        let (left, right) = two(&rt, question);
+        let found = in_common(&rt, rt.alloc(), left, right);
+        assert_row(&rt, row, found, Some(two(&rt, common)));
+        let difference = literal(&rt, difference);
+        assert_row(&rt, row, left.op_sub(&right, Exec), Ok(difference));
     }
 }
 
@@ -397,53 +253,47 @@ fn numbers_are_taken_to_their_common_kind(rt: HostRuntime) {
 fn bools_are_taken_as_they_are(rt: HostRuntime) {
     operands_are_in_their_common_type();
     let (yes, no) = (Bool(true), Bool(false));
-    assert_eq!(rt; in_common(&rt, rt.alloc(), yes, no), Some((yes, no)));
+    assert_same(&rt, in_common(&rt, rt.alloc(), yes, no), Some((yes, no)));
     assert_same(&rt, yes.op_gt(&no), Ok(true));
     assert_same(&rt, yes.op_lt(&no), Ok(false));
 }
 
 /// Asserts that the two have no common type, and that `op_sub` refuses them.
 fn assert_not_taken(rt: &impl Abort, alloc: Global, left: LiteralInstance, right: LiteralInstance) {
-    assert_eq!(rt;
-        in_common(rt, alloc, left, right),
-        None,
-        "{left:?} {right:?}"
-    );
-    let wanted = binary(
-        BinaryOperator::Subtraction,
-        left.literal_ty(),
-        right.literal_ty(),
-    );
-    assert_refused(rt, Call::Sub, left, right, Exec, wanted);
+    let row = (left, right);
+    assert_same(rt, (row, in_common(rt, alloc, left, right)), (row, None));
+    let (first, second) = (left.literal_ty(), right.literal_ty());
+    let wanted = Error::Binary(BinaryOperator::Subtraction, first, second);
+    assert_same(rt, (row, left.op_sub(&right, Exec)), (row, Err(wanted)));
 }
+
+/// Two literals out of the range of the other kind, or of kinds that do not convert to each other.
+const NOT_TAKEN: [(LiteralInstance, LiteralInstance); 17] = [
+    (AbstractInt(2147483648), I32(1)),
+    (AbstractInt(-2147483649), I32(1)),
+    (AbstractInt(4294967296), U32(1)),
+    (AbstractInt(-1), U32(1)),
+    (AbstractInt(1), I64(1)),
+    (AbstractInt(1), U64(1)),
+    (I32(1), U32(1)),
+    (I32(1), I64(1)),
+    (I32(1), U64(1)),
+    (U32(1), I64(1)),
+    (U32(1), U64(1)),
+    (I64(1), U64(1)),
+    (Bool(true), AbstractInt(1)),
+    (Bool(true), I32(1)),
+    (Bool(true), U32(1)),
+    (Bool(true), I64(1)),
+    (Bool(true), U64(1)),
+];
 
 #[test]
 fn operands_of_other_kinds_are_not_taken(rt: HostRuntime) {
     operands_are_in_their_common_type();
-    let rows = [
-        // out of the range of the other kind
-        (AbstractInt(2147483648), I32(1)),
-        (AbstractInt(-2147483649), I32(1)),
-        (AbstractInt(4294967296), U32(1)),
-        (AbstractInt(-1), U32(1)),
-        // kinds that do not convert to each other
-        (AbstractInt(1), I64(1)),
-        (AbstractInt(1), U64(1)),
-        (I32(1), U32(1)),
-        (I32(1), I64(1)),
-        (I32(1), U64(1)),
-        (U32(1), I64(1)),
-        (U32(1), U64(1)),
-        (I64(1), U64(1)),
-        (Bool(true), AbstractInt(1)),
-        (Bool(true), I32(1)),
-        (Bool(true), U32(1)),
-        (Bool(true), I64(1)),
-        (Bool(true), U64(1)),
-    ];
-    for (left, right) in rows.iter() {
-        assert_not_taken(&rt, rt.alloc(), *left, *right);
-        assert_not_taken(&rt, rt.alloc(), *right, *left);
+    for (left, right) in NOT_TAKEN {
+        assert_not_taken(&rt, rt.alloc(), left, right);
+        assert_not_taken(&rt, rt.alloc(), right, left);
     }
 }
 

@@ -1,67 +1,55 @@
 //! What declarations reach by those that they name.
 
+use crate::tests::asserts::{assert_row, assert_same};
+use crate::tests::reading::{asked, numbers, parted};
 use std::alloc::Global;
 use std::process::Abort;
 use wgsl_interface::reached;
 
-/// Asserts what is reached, of declarations that name these.
-fn assert_reached(
-    rt: &impl Abort,
-    alloc: Global,
-    uses: &[&[usize]],
-    from: usize,
-    wanted: &[usize],
-) {
+/// The lists of those that each declaration names, the declaration at which to begin, and what is reached.
+const REACHED: &str = "\
+    declarations_in_a_row: 1 | 2 | 3 | nothing from 0 = 0 1 2 3
+    declarations_in_a_row: 1 | 2 | 3 | nothing from 2 = 2 3
+    declarations_in_a_row: 1 | 2 | 3 | nothing from 3 = 3
+    declarations_in_a_row: nothing | 0 | 1 | 2 from 3 = 0 1 2 3
+    declarations_in_a_row: nothing | 0 | 1 | 2 from 1 = 0 1
+    declarations_that_two_name: 3 2 3 | 0 4 | 5 5 | 5 | nothing | nothing from 0 = 0 2 3 5
+    declarations_that_two_name: 3 2 3 | 0 4 | 5 5 | 5 | nothing | nothing from 1 = 0 1 2 3 4 5
+    declarations_that_two_name: 3 2 3 | 0 4 | 5 5 | 5 | nothing | nothing from 4 = 4
+    declarations_in_cycles: 0 | 0 from 0 = 0
+    declarations_in_cycles: 0 | 0 from 1 = 0 1
+    declarations_in_cycles: 1 | 2 | 0 4 | 1 | 4 2 from 1 = 0 1 2 4
+    declarations_in_cycles: 1 | 2 | 0 4 | 1 | 4 2 from 4 = 0 1 2 4
+    declarations_in_cycles: 1 | 2 | 0 4 | 1 | 4 2 from 3 = 0 1 2 3 4
+    numbers_of_no_declaration: 2 1 18446744073709551615 | 3 1 from 0 = 0 1
+    numbers_of_no_declaration: 2 1 18446744073709551615 | 3 1 from 2 = nothing
+    numbers_of_no_declaration: 2 1 18446744073709551615 | 3 1 from 18446744073709551615 = nothing
+    numbers_of_no_declaration: none from 0 = nothing";
+
+/// The lists of a text as `1 | 2 3 | nothing`; `none` has none.
+fn lists(rt: &impl Abort, alloc: Global, text: &str) -> Vec<Vec<usize>> {
     let mut lists = Vec::new(alloc);
-    for named in uses {
-        let named = Vec::from_slice(alloc, named).expect(rt, "memory");
-        lists.push(named).expect(rt, "memory");
+    if text == "none" {
+        return lists;
     }
-    let found = reached(alloc, lists.as_slice(), from).expect(rt, "memory");
-    assert_eq!(rt; found.as_slice(), wanted, "from {from}");
+    for list in text.split(" | ") {
+        lists.push(numbers(rt, alloc, list)).expect(rt, "memory");
+    }
+    lists
 }
 
 #[test]
-fn declarations_in_a_row(rt: HostRuntime) {
+fn declarations_that_are_reached(rt: HostRuntime) {
     let alloc = rt.alloc();
-    let row = [&[1usize][..], &[2], &[3], &[]];
-    assert_reached(&rt, alloc, &row, 0, &[0, 1, 2, 3]);
-    assert_reached(&rt, alloc, &row, 2, &[2, 3]);
-    assert_reached(&rt, alloc, &row, 3, &[3]);
-    let back = [&[][..], &[0usize], &[1], &[2]];
-    assert_reached(&rt, alloc, &back, 3, &[0, 1, 2, 3]);
-    assert_reached(&rt, alloc, &back, 1, &[0, 1]);
-}
-
-#[test]
-fn declarations_that_two_name(rt: HostRuntime) {
-    let alloc = rt.alloc();
-    let uses = [&[3usize, 2, 3][..], &[0, 4], &[5, 5], &[5], &[], &[]];
-    assert_reached(&rt, alloc, &uses, 0, &[0, 2, 3, 5]);
-    assert_reached(&rt, alloc, &uses, 1, &[0, 1, 2, 3, 4, 5]);
-    assert_reached(&rt, alloc, &uses, 4, &[4]);
-}
-
-#[test]
-fn declarations_in_cycles(rt: HostRuntime) {
-    let alloc = rt.alloc();
-    let itself = [&[0usize][..], &[0]];
-    assert_reached(&rt, alloc, &itself, 0, &[0]);
-    assert_reached(&rt, alloc, &itself, 1, &[0, 1]);
-    let cycle = [&[1usize][..], &[2], &[0, 4], &[1], &[4, 2]];
-    assert_reached(&rt, alloc, &cycle, 1, &[0, 1, 2, 4]);
-    assert_reached(&rt, alloc, &cycle, 4, &[0, 1, 2, 4]);
-    assert_reached(&rt, alloc, &cycle, 3, &[0, 1, 2, 3, 4]);
-}
-
-#[test]
-fn numbers_of_no_declaration(rt: HostRuntime) {
-    let alloc = rt.alloc();
-    let uses = [&[2usize, 1, usize::MAX][..], &[3, 1]];
-    assert_reached(&rt, alloc, &uses, 0, &[0, 1]);
-    assert_reached(&rt, alloc, &uses, 2, &[]);
-    assert_reached(&rt, alloc, &uses, usize::MAX, &[]);
-    assert_reached(&rt, alloc, &[], 0, &[]);
+    for row in REACHED.lines() {
+        let (question, wanted) = asked(&rt, row);
+        let (uses, from) = parted(&rt, question, " from ");
+        let uses = lists(&rt, alloc, uses);
+        let from = from.parse::<usize>().expect(&rt, "a number");
+        let found = reached(alloc, uses.as_slice(), from).expect(&rt, "memory");
+        assert_row(&rt, row, found, numbers(&rt, alloc, wanted));
+        drop(uses);
+    }
 }
 
 /// So many declarations, each of which names the next, and the last one the first.
@@ -80,8 +68,9 @@ fn a_cycle_of_ten_thousand(rt: HostRuntime) {
     let alloc = rt.alloc();
     let uses = cycle_of(&rt, alloc, 10_000);
     let found = reached(alloc, uses.as_slice(), 5_000).expect(&rt, "memory");
-    assert_eq!(&rt; found.len(), 10_000);
+    assert_same(&rt, found.len(), 10_000);
     for (i, number) in found.iter().enumerate() {
-        assert_eq!(&rt; *number, i);
+        assert_same(&rt, *number, i);
     }
+    drop((uses, found));
 }

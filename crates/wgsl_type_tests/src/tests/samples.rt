@@ -31,15 +31,6 @@ pub(super) fn member(
     types::member(alloc, "a", ty, size).expect(rt, "memory")
 }
 
-pub(super) fn empty(rt: &impl Abort, alloc: Global, name: &str) -> Type {
-    types::structure(alloc, name, Vec::new(alloc)).expect(rt, "memory")
-}
-
-pub(super) fn of_one(rt: &impl Abort, alloc: Global, member: StructMemberType) -> Type {
-    let members = vec![in alloc; member].expect(rt, "memory");
-    types::structure(alloc, "S", members).expect(rt, "memory")
-}
-
 pub(super) fn pair_type(rt: &impl Abort, alloc: Global) -> StructType {
     types::pair_type(alloc).expect(rt, "memory")
 }

@@ -1,9 +1,8 @@
 //! Types: what modes allow, sizes, copies, the types inside, ranks of conversions and common types.
 
-use crate::tests::asserts::{assert_copied, assert_gives};
-use crate::tests::samples::{
-    array, empty, matrix, member, nested, of_one, pair, pair_type, reference, vector,
-};
+use crate::tests::asserts::{assert_copied, assert_gives, assert_row, assert_same};
+use crate::tests::reading::{asked, declared, number, parted, ty};
+use crate::tests::samples::{array, matrix, member, nested, pair, pair_type, reference, vector};
 use std::process::Abort;
 use wgsl_rules::laws::{a_put_is_held, fits_tests_the_place, views_lead_along_their_paths};
 use wgsl_rules::{
@@ -11,36 +10,47 @@ use wgsl_rules::{
     convert_all_ty, convert_ty,
 };
 
+const STRUCTURES: &str = "\
+    Pair { a: u32; b: vec3<u32> }
+    Empty {}
+    Sized { @size(8) a: u32 }
+    __frexp_result_abstract {}
+    __frexp_result_f16 {}";
+
 #[test]
 fn modes_allow_reads_and_writes(rt: HostRuntime) {
-    for (mode, reads, writes) in [
-        (AccessMode::Read, true, false),
-        (AccessMode::Write, false, true),
-        (AccessMode::ReadWrite, true, true),
-    ] {
-        assert_eq!(rt; mode.is_read(), reads);
-        assert_eq!(rt; mode.is_write(), writes);
-    }
+    let (read, write) = (AccessMode::Read, AccessMode::Write);
+    assert_same(&rt, (read.is_read(), read.is_write()), (true, false));
+    assert_same(&rt, (write.is_read(), write.is_write()), (false, true));
+    let both = AccessMode::ReadWrite;
+    assert_same(&rt, (both.is_read(), both.is_write()), (true, true));
 }
 
-fn assert_size(rt: &impl Abort, ty: Type, size: Option<u32>, align: Option<u32>) {
-    assert_eq!(rt; ty.size_of(), size, "{ty}");
-    assert_eq!(rt; ty.align_of(), align, "{ty}");
-}
+/// Types, their sizes and alignments.
+const SIZES: &str = "\
+    sizes_and_alignments: i32 = 4 4
+    sizes_and_alignments: AbstractInt = - -
+    sizes_and_alignments: u32 = 4 4
+    sizes_and_alignments: vec2<u32> = 8 8
+    sizes_and_alignments: vec3<u32> = 12 16
+    sizes_and_alignments: vec4<u32> = 16 16
+    sizes_and_alignments: Pair = 32 16
+    sizes_and_alignments: Empty = - 0
+    sizes_and_alignments: Sized = 8 4";
 
 #[test]
 fn sizes_and_alignments(rt: HostRuntime) {
     let alloc = rt.alloc();
-    assert_size(&rt, Type::I32, Some(4), Some(4));
-    assert_size(&rt, Type::AbstractInt, None, None);
-    assert_size(&rt, Type::U32, Some(4), Some(4));
-    assert_size(&rt, vector(&rt, alloc, 2, Type::U32), Some(8), Some(8));
-    assert_size(&rt, vector(&rt, alloc, 3, Type::U32), Some(12), Some(16));
-    assert_size(&rt, vector(&rt, alloc, 4, Type::U32), Some(16), Some(16));
-    assert_size(&rt, pair(&rt, alloc), Some(32), Some(16));
-    assert_size(&rt, empty(&rt, alloc, "S"), None, Some(0));
-    let attribute = member(&rt, alloc, Type::U32, Some(8));
-    assert_size(&rt, of_one(&rt, alloc, attribute), Some(8), Some(4));
+    let known = declared(&rt, alloc, STRUCTURES);
+    for row in SIZES.lines() {
+        let (question, wanted) = asked(&rt, row);
+        let (size, align) = parted(&rt, wanted, " ");
+        let ty = ty(&rt, alloc, &known, question);
+        assert_row(&rt, row, ty.size_of(), number(&rt, size));
+        assert_row(&rt, row, ty.align_of(), number(&rt, align));
+        drop(ty);
+    }
+    drop(known);
 }
 
 #[test]
@@ -63,29 +73,33 @@ fn copies_of_structures_and_members_are_equal(rt: HostRuntime) {
 #[test]
 fn sizes_of_structures(rt: HostRuntime) {
     let pair = pair_type(&rt, rt.alloc());
-    assert_eq!(rt; pair.size_of(), Some(32));
-    assert_eq!(rt; pair.align_of(), Some(16));
+    assert_same(&rt, (pair.size_of(), pair.align_of()), (Some(32), Some(16)));
     drop(pair);
 }
 
 fn assert_inner(rt: &impl Abort, ty: &Type, inner: Type) {
-    assert_eq!(rt; ty.inner(), &inner);
+    assert_same(rt, ty.inner(), &inner);
+    drop(inner);
 }
 
 fn assert_struct(rt: &impl Abort, ty: &Type, inner: StructType) {
-    assert_eq!(rt; ty.as_struct(), Some(&inner));
+    assert_same(rt, ty.as_struct(), Some(&inner));
+    drop(inner);
 }
 
 fn assert_array(rt: &impl Abort, ty: &Type, inner: Type, count: Option<usize>) {
-    assert_eq!(rt; ty.as_array(), Some((&inner, count)));
+    assert_same(rt, ty.as_array(), Some((&inner, count)));
+    drop(inner);
 }
 
 fn assert_vector(rt: &impl Abort, ty: &Type, n: u8, inner: Type) {
-    assert_eq!(rt; ty.as_vec(), Some((n, &inner)));
+    assert_same(rt, ty.as_vec(), Some((n, &inner)));
+    drop(inner);
 }
 
 fn assert_matrix(rt: &impl Abort, ty: &Type, columns: u8, rows: u8, inner: Type) {
-    assert_eq!(rt; ty.as_mat(), Some((columns, rows, &inner)));
+    assert_same(rt, ty.as_mat(), Some((columns, rows, &inner)));
+    drop(inner);
 }
 
 #[test]
@@ -113,11 +127,13 @@ fn types_inside_composites(rt: HostRuntime) {
 }
 
 fn assert_atomic(rt: &impl Abort, ty: &Type, inner: Type) {
-    assert_eq!(rt; ty.as_atomic(), Some(&inner));
+    assert_same(rt, ty.as_atomic(), Some(&inner));
+    drop(inner);
 }
 
 fn assert_pointer(rt: &impl Abort, ty: &Type, space: AddressSpace, target: Type, mode: AccessMode) {
-    assert_eq!(rt; ty.as_ptr(), Some((space, &target, mode)));
+    assert_same(rt, ty.as_ptr(), Some((space, &target, mode)));
+    drop(target);
 }
 
 fn assert_reference(
@@ -127,7 +143,8 @@ fn assert_reference(
     target: Type,
     mode: AccessMode,
 ) {
-    assert_eq!(rt; ty.as_reference(), Some((space, &target, mode)));
+    assert_same(rt, ty.as_reference(), Some((space, &target, mode)));
+    drop(target);
 }
 
 #[test]
@@ -162,8 +179,9 @@ fn types_inside_atomics_pointers_and_references(rt: HostRuntime) {
 }
 
 fn assert_has_type(rt: &impl Abort, ty: &Type, own: Type, other: Type) {
-    assert!(rt; ty.has_ty(&own));
-    assert!(rt; !ty.has_ty(&other));
+    assert_same(rt, ty.has_ty(&own), true);
+    assert_same(rt, ty.has_ty(&other), false);
+    drop((own, other));
 }
 
 #[test]
@@ -175,90 +193,62 @@ fn a_type_has_itself_as_its_type(rt: HostRuntime) {
     assert_gives(&rt, three.ty(alloc), three);
 }
 
-fn assert_rank(rt: &impl Abort, from: Type, to: Type, rank: Option<u32>) {
-    assert_eq!(rt; conversion_rank(&from, &to), rank, "{from} to {to}");
-    assert_eq!(rt;
-        from.is_convertible_to(&to),
-        rank.is_some(),
-        "{from} to {to}"
-    );
-}
+/// Types, those that they are to be, and the ranks of these conversions.
+const RANKS: &str = "\
+    ranks_of_conversions: bool to bool = 0
+    ranks_of_conversions: AbstractInt to i32 = 3
+    ranks_of_conversions: AbstractInt to u32 = 4
+    ranks_of_conversions: AbstractInt to AbstractFloat = 5
+    ranks_of_conversions: AbstractInt to f32 = 6
+    ranks_of_conversions: AbstractInt to f16 = 7
+    ranks_of_conversions: AbstractInt to i64 = -
+    ranks_of_conversions: AbstractInt to u64 = -
+    ranks_of_conversions: AbstractFloat to f32 = 1
+    ranks_of_conversions: AbstractFloat to f16 = 2
+    ranks_of_conversions: AbstractFloat to AbstractInt = -
+    ranks_of_conversions: ref<u32, storage read> to u32 = 0
+    ranks_of_conversions: ref<u32, storage write> to u32 = -
+    ranks_of_conversions: __frexp_result_abstract to __frexp_result_f16 = 2
+    ranks_of_parts: vec2<AbstractInt> to vec2<u32> = 4
+    ranks_of_parts: vec2<AbstractInt> to vec3<u32> = -
+    ranks_of_parts: mat2x3<AbstractFloat> to mat2x3<f16> = 2
+    ranks_of_parts: array<AbstractInt> to array<i32> = 3
+    ranks_of_parts: array<AbstractInt> to array<i32, 3> = -
+    ranks_of_parts: array<i32, 2> to array<i32, 3> = -";
 
 #[test]
 fn ranks_of_conversions(rt: HostRuntime) {
     let alloc = rt.alloc();
-    assert_rank(&rt, Type::Bool, Type::Bool, Some(0));
-    assert_rank(&rt, Type::AbstractInt, Type::I32, Some(3));
-    assert_rank(&rt, Type::AbstractInt, Type::U32, Some(4));
-    assert_rank(&rt, Type::AbstractInt, Type::AbstractFloat, Some(5));
-    assert_rank(&rt, Type::AbstractInt, Type::F32, Some(6));
-    assert_rank(&rt, Type::AbstractInt, Type::F16, Some(7));
-    assert_rank(&rt, Type::AbstractInt, Type::I64, None);
-    assert_rank(&rt, Type::AbstractInt, Type::U64, None);
-    assert_rank(&rt, Type::AbstractFloat, Type::F32, Some(1));
-    assert_rank(&rt, Type::AbstractFloat, Type::F16, Some(2));
-    assert_rank(&rt, Type::AbstractFloat, Type::AbstractInt, None);
-    assert_rank(
-        &rt,
-        reference(&rt, alloc, Type::U32, AccessMode::Read),
-        Type::U32,
-        Some(0),
-    );
-    assert_rank(
-        &rt,
-        reference(&rt, alloc, Type::U32, AccessMode::Write),
-        Type::U32,
-        None,
-    );
-    let result = empty(&rt, alloc, "__frexp_result_abstract");
-    let half = empty(&rt, alloc, "__frexp_result_f16");
-    assert_rank(&rt, result, half, Some(2));
-}
-
-#[test]
-fn ranks_of_parts(rt: HostRuntime) {
-    let alloc = rt.alloc();
-    let pair_of_ints = vector(&rt, alloc, 2, Type::AbstractInt);
-    assert_rank(&rt, pair_of_ints, vector(&rt, alloc, 2, Type::U32), Some(4));
-    let pair_of_ints = vector(&rt, alloc, 2, Type::AbstractInt);
-    assert_rank(&rt, pair_of_ints, vector(&rt, alloc, 3, Type::U32), None);
-    let floats = matrix(&rt, alloc, Type::AbstractFloat);
-    assert_rank(&rt, floats, matrix(&rt, alloc, Type::F16), Some(2));
-    let ints = array(&rt, alloc, Type::AbstractInt, None);
-    assert_rank(&rt, ints, array(&rt, alloc, Type::I32, None), Some(3));
-    let ints = array(&rt, alloc, Type::AbstractInt, None);
-    assert_rank(&rt, ints, array(&rt, alloc, Type::I32, Some(3)), None);
-    let two = array(&rt, alloc, Type::I32, Some(2));
-    assert_rank(&rt, two, array(&rt, alloc, Type::I32, Some(3)), None);
+    let known = declared(&rt, alloc, STRUCTURES);
+    for row in RANKS.lines() {
+        let (question, wanted) = asked(&rt, row);
+        let (from, to) = parted(&rt, question, " to ");
+        let from = ty(&rt, alloc, &known, from);
+        let to = ty(&rt, alloc, &known, to);
+        let rank = number(&rt, wanted);
+        assert_row(&rt, row, conversion_rank(&from, &to), rank);
+        assert_row(&rt, row, from.is_convertible_to(&to), rank.is_some());
+        drop((from, to));
+    }
+    drop(known);
 }
 
 fn assert_common(rt: &impl Abort, first: &Type, second: &Type, common: Option<&Type>) {
-    assert_eq!(rt; convert_ty(first, second), common);
-}
-
-fn assert_common_with_its_target(rt: &impl Abort, reference: Type, target: Type) {
-    assert_common(rt, &reference, &target, Some(&target));
-    assert_common(rt, &target, &reference, Some(&target));
-}
-
-fn assert_none_common(rt: &impl Abort, first: Type, second: Type) {
-    assert_common(rt, &first, &second, None);
-}
-
-fn assert_common_to_all(rt: &impl Abort, types: &[Type], common: Type) {
-    assert_eq!(rt; convert_all_ty(types), Some(&common));
+    assert_same(rt, convert_ty(first, second), common);
 }
 
 #[test]
 fn common_types(rt: HostRuntime) {
     let alloc = rt.alloc();
     let readable = reference(&rt, alloc, Type::U32, AccessMode::Read);
-    assert_common_with_its_target(&rt, readable, Type::U32);
-    assert_none_common(&rt, Type::I32, Type::U32);
+    assert_common(&rt, &readable, &Type::U32, Some(&Type::U32));
+    assert_common(&rt, &Type::U32, &readable, Some(&Type::U32));
+    assert_common(&rt, &Type::I32, &Type::U32, None);
     let types = vec![in alloc; Type::AbstractInt, Type::F32, Type::AbstractFloat];
     let types = types.expect(&rt, "memory");
-    assert_common_to_all(&rt, &types, Type::F32);
+    assert_same(&rt, convert_all_ty(&types), Some(&Type::F32));
     assert!(rt; convert_all_ty(&[]).is_none());
+    drop((readable, types));
 }
 
 #[test]

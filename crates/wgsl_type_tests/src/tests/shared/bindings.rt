@@ -1,5 +1,7 @@
 //! The resources that are at one group and binding: the first of them, and the pairs that one entry point uses.
 
+use crate::tests::asserts::{assert_row, assert_same};
+use crate::tests::reading::{asked, numbers, parted};
 use std::alloc::Global;
 use std::process::Abort;
 use wgsl_interface::{Binding, BindingPair, first_at_binding, pairs_at_binding};
@@ -8,35 +10,57 @@ fn at(group: u32, binding: u32) -> Binding {
     Binding { group, binding }
 }
 
-fn assert_firsts(rt: &impl Abort, alloc: Global, bindings: &[Binding], wanted: &[Option<usize>]) {
-    let firsts = first_at_binding(alloc, bindings).expect(rt, "memory");
-    assert_eq!(rt; firsts.as_slice(), wanted);
+/// Groups and bindings, and for each the position of the first that is the same; `-` where that is none.
+const FIRSTS: &str = "\
+    firsts_of_few: nothing = nothing
+    firsts_of_few: 0 0 = -
+    firsts_of_few: 0 0, 0 0 = -, 0
+    firsts_of_few: 0 1, 1 0 = -, -
+    firsts_of_few: 0 1, 0 2, 1 1 = -, -, -
+    firsts_of_few: 4294967295 4294967295, 4294967295 0, 0 4294967295, 4294967295 4294967295 = -, -, -, 0
+    firsts_and_not_those_just_in_front: 0 1, 1 0, 0 1, 0 1, 1 0, 2 2 = -, -, 0, 0, 1, -";
+
+/// The bindings of a text as `0 1, 1 0`.
+fn bindings(rt: &impl Abort, alloc: Global, text: &str) -> Vec<Binding> {
+    let mut bindings = Vec::new(alloc);
+    if text == "nothing" {
+        return bindings;
+    }
+    for part in text.split(", ") {
+        let (group, binding) = parted(rt, part, " ");
+        let group = group.parse::<u32>().expect(rt, "a group");
+        let binding = binding.parse::<u32>().expect(rt, "a binding");
+        bindings.push(at(group, binding)).expect(rt, "memory");
+    }
+    bindings
+}
+
+/// The positions of a text as `-, 0`.
+fn positions(rt: &impl Abort, alloc: Global, text: &str) -> Vec<Option<usize>> {
+    let mut positions = Vec::new(alloc);
+    if text == "nothing" {
+        return positions;
+    }
+    for part in text.split(", ") {
+        let position = match part {
+            "-" => None,
+            _ => Some(part.parse::<usize>().expect(rt, "a position")),
+        };
+        positions.push(position).expect(rt, "memory");
+    }
+    positions
 }
 
 #[test]
 fn firsts_of_few(rt: HostRuntime) {
     let alloc = rt.alloc();
-    assert_firsts(&rt, alloc, &[], &[]);
-    assert_firsts(&rt, alloc, &[at(0, 0)], &[None]);
-    assert_firsts(&rt, alloc, &[at(0, 0), at(0, 0)], &[None, Some(0)]);
-    assert_firsts(&rt, alloc, &[at(0, 1), at(1, 0)], &[None, None]);
-    assert_firsts(
-        &rt,
-        alloc,
-        &[at(0, 1), at(0, 2), at(1, 1)],
-        &[None, None, None],
-    );
-    let last = u32::MAX;
-    let ends = [at(last, last), at(last, 0), at(0, last), at(last, last)];
-    assert_firsts(&rt, alloc, &ends, &[None, None, None, Some(0)]);
-}
-
-#[test]
-fn firsts_and_not_those_just_in_front(rt: HostRuntime) {
-    let alloc = rt.alloc();
-    let bindings = [at(0, 1), at(1, 0), at(0, 1), at(0, 1), at(1, 0), at(2, 2)];
-    let wanted = [None, None, Some(0), Some(0), Some(1), None];
-    assert_firsts(&rt, alloc, &bindings, &wanted);
+    for row in FIRSTS.lines() {
+        let (question, wanted) = asked(&rt, row);
+        let bindings = bindings(&rt, alloc, question);
+        let firsts = first_at_binding(alloc, &bindings).expect(&rt, "memory");
+        assert_row(&rt, row, firsts, positions(&rt, alloc, wanted));
+        drop(bindings);
+    }
 }
 
 // Of seven groups and eleven bindings, in turn.
@@ -48,56 +72,84 @@ fn firsts_of_many(rt: HostRuntime) {
         bindings.push(at(6 - i % 7, i % 11)).expect(&rt, "memory");
     }
     let firsts = first_at_binding(alloc, bindings.as_slice()).expect(&rt, "memory");
-    assert_eq!(&rt; firsts.len(), 1000);
+    assert_same(&rt, firsts.len(), 1000);
     for (i, first) in firsts.iter().enumerate() {
         let wanted = (i >= 77).then_some(i % 77);
-        assert_eq!(&rt; *first, wanted, "{i}");
+        assert_same(&rt, (i, *first), (i, wanted));
     }
+    drop((bindings, firsts));
 }
 
-fn pair(first: usize, later: usize) -> BindingPair {
-    BindingPair { first, later }
-}
+/// The seven declarations of which entry points use some; two have no binding.
+const DECLARED: [Option<Binding>; 7] = [
+    Some(Binding {
+        group: 0,
+        binding: 1,
+    }),
+    Some(Binding {
+        group: 1,
+        binding: 0,
+    }),
+    None,
+    Some(Binding {
+        group: 0,
+        binding: 1,
+    }),
+    None,
+    Some(Binding {
+        group: 0,
+        binding: 1,
+    }),
+    Some(Binding {
+        group: 1,
+        binding: 0,
+    }),
+];
 
-/// Asserts the pairs among seven declarations, of which two have no binding.
-fn assert_pairs(rt: &impl Abort, alloc: Global, used: &[usize], wanted: &[BindingPair]) {
-    let bindings = [
-        Some(at(0, 1)),
-        Some(at(1, 0)),
-        None,
-        Some(at(0, 1)),
-        None,
-        Some(at(0, 1)),
-        Some(at(1, 0)),
-    ];
-    let pairs = pairs_at_binding(alloc, &bindings, used).expect(rt, "memory");
-    assert_eq!(rt; pairs.as_slice(), wanted);
+/// Declarations that are used, and the pairs at one binding among them.
+const PAIRS: &str = "\
+    pairs_of_what_is_used: nothing = nothing
+    pairs_of_what_is_used: 0 1 2 = nothing
+    pairs_of_what_is_used: 2 4 = nothing
+    pairs_of_what_is_used: 0 3 = 0 3
+    pairs_of_what_is_used: 1 2 3 4 5 = 3 5
+    pairs_of_what_is_used: 3 0 = 3 0
+    pairs_with_the_first_of_many: 0 1 2 3 4 5 6 = 0 3, 0 5, 1 6
+    pairs_with_the_first_of_many: 0 1 5 6 3 = 0 5, 1 6, 0 3
+    pairs_of_no_declarations: 7 0 18446744073709551615 3 8 = 0 3";
+
+/// The pairs of a text as `0 3, 0 5`.
+fn pairs(rt: &impl Abort, alloc: Global, text: &str) -> Vec<BindingPair> {
+    let mut pairs = Vec::new(alloc);
+    if text == "nothing" {
+        return pairs;
+    }
+    for part in text.split(", ") {
+        let (first, later) = parted(rt, part, " ");
+        let first = first.parse::<usize>().expect(rt, "a position");
+        let later = later.parse::<usize>().expect(rt, "a position");
+        pairs
+            .push(BindingPair { first, later })
+            .expect(rt, "memory");
+    }
+    pairs
 }
 
 #[test]
 fn pairs_of_what_is_used(rt: HostRuntime) {
     let alloc = rt.alloc();
-    assert_pairs(&rt, alloc, &[], &[]);
-    assert_pairs(&rt, alloc, &[0, 1, 2], &[]);
-    assert_pairs(&rt, alloc, &[2, 4], &[]);
-    assert_pairs(&rt, alloc, &[0, 3], &[pair(0, 3)]);
-    assert_pairs(&rt, alloc, &[1, 2, 3, 4, 5], &[pair(3, 5)]);
-    assert_pairs(&rt, alloc, &[3, 0], &[pair(3, 0)]);
-}
-
-#[test]
-fn pairs_with_the_first_of_many(rt: HostRuntime) {
-    let alloc = rt.alloc();
-    let all = [pair(0, 3), pair(0, 5), pair(1, 6)];
-    assert_pairs(&rt, alloc, &[0, 1, 2, 3, 4, 5, 6], &all);
-    let all = [pair(0, 5), pair(1, 6), pair(0, 3)];
-    assert_pairs(&rt, alloc, &[0, 1, 5, 6, 3], &all);
+    for row in PAIRS.lines() {
+        let (question, wanted) = asked(&rt, row);
+        let used = numbers(&rt, alloc, question);
+        let found = pairs_at_binding(alloc, &DECLARED, &used).expect(&rt, "memory");
+        assert_row(&rt, row, found, pairs(&rt, alloc, wanted));
+        drop(used);
+    }
 }
 
 #[test]
 fn pairs_of_no_declarations(rt: HostRuntime) {
-    let alloc = rt.alloc();
-    assert_pairs(&rt, alloc, &[7, 0, usize::MAX, 3, 8], &[pair(0, 3)]);
-    let pairs = pairs_at_binding(alloc, &[], &[0, 1]).expect(&rt, "memory");
+    let pairs = pairs_at_binding(rt.alloc(), &[], &[0, 1]).expect(&rt, "memory");
     assert!(&rt; pairs.is_empty());
+    drop(pairs);
 }

@@ -1,77 +1,69 @@
 //! What structures break where they are declared.
 
-use crate::tests::samples::{array, vector};
-use crate::tests::shared::{atomic, boxed, named, one_member, open, text_of, two_members};
-use std::alloc::Global;
-use std::process::Abort;
+use crate::tests::asserts::{assert_row, assert_same};
+use crate::tests::reading::{asked, declared, structure};
+use crate::tests::shared::{named, text_of};
 use wgsl_interface::struct_faults;
-use wgsl_rules::{AccessMode, AddressSpace, SamplerType, StructType, Type};
+use wgsl_rules::Type;
 use wgsl_samples::types::struct_type;
 
-fn assert_declared(rt: &impl Abort, alloc: Global, ty: StructType, wanted: &str) {
-    let faults = struct_faults(alloc, &ty).expect(rt, "memory");
-    let text = text_of(rt, alloc, faults);
-    assert_eq!(rt; text.as_str(), wanted);
-}
+const STRUCTURES: &str = "\
+    Number { a: u32 }
+    Truth { a: bool }
+    Counter { a: atomic<u32> }
+    FloatCounter { a: atomic<f32> }
+    Abstract { a: AbstractFloat }
+    LongVector { a: vec5<f32> }
+    EmptyArray { a: array<f32, 0> }
+    Floats { a: array<f32> }
+    Sampling { a: sampler }
+    Pointer { a: ptr<u32, function read_write> }
+    Empty {}
+    Open { n: u32; r: array<f32> }
+    OpenFirst { r: array<f32>; n: u32 }
+    OpenInside { a: Open }
+    Rows { a: array<array<f32>, 2> }
+    Opens { a: array<Open, 2> }
+    AbstractNumber { b: AbstractInt }
+    AbstractInside { a: AbstractNumber }
+    OpenFirstInside { a: OpenFirst }
+    Empties { a: array<Empty, 3> }";
 
-/// Asserts what a structure of one member of the type breaks.
-fn assert_member(rt: &impl Abort, alloc: Global, ty: Type, wanted: &str) {
-    assert_declared(rt, alloc, one_member(rt, alloc, "a", ty), wanted);
-}
-
-#[test]
-fn members_of_each_sort(rt: HostRuntime) {
-    let alloc = rt.alloc();
-    assert_member(&rt, alloc, Type::U32, "");
-    assert_member(&rt, alloc, Type::Bool, "");
-    assert_member(&rt, alloc, atomic(&rt, alloc, Type::U32), "");
-    assert_member(
-        &rt,
-        alloc,
-        atomic(&rt, alloc, Type::F32),
-        "a atomic-content",
-    );
-    assert_member(&rt, alloc, Type::AbstractFloat, "a abstract-type");
-    assert_member(&rt, alloc, vector(&rt, alloc, 5, Type::F32), "a shape");
-    assert_member(&rt, alloc, array(&rt, alloc, Type::F32, Some(0)), "a shape");
-    assert_member(&rt, alloc, array(&rt, alloc, Type::F32, None), "");
-    assert_member(
-        &rt,
-        alloc,
-        Type::Sampler(SamplerType::Sampler),
-        "a not-plain",
-    );
-    let content = Box::new(alloc, Type::U32).expect(&rt, "memory");
-    let pointer = Type::Ptr(AddressSpace::Function, content, AccessMode::ReadWrite);
-    assert_member(&rt, alloc, pointer, "a not-plain");
-    let none = struct_type(alloc, "S", Vec::new(alloc)).expect(&rt, "memory");
-    assert_declared(&rt, alloc, none, "shape");
-}
-
-#[test]
-fn runtime_sized_members(rt: HostRuntime) {
-    let alloc = rt.alloc();
-    let floats = array(&rt, alloc, Type::F32, None);
-    let ty = two_members(&rt, alloc, "r", floats, "n", Type::U32);
-    assert_declared(&rt, alloc, ty, "r runtime-not-last");
-    assert_member(&rt, alloc, open(&rt, alloc), "a runtime-in-struct");
-    let rows = array(&rt, alloc, array(&rt, alloc, Type::F32, None), Some(2));
-    assert_member(&rt, alloc, rows, "a[] runtime-in-array");
-    let two = array(&rt, alloc, open(&rt, alloc), Some(2));
-    assert_member(&rt, alloc, two, "a[] runtime-in-array");
-}
+/// Structures and what they break.
+const FAULTS: &str = "\
+    members_of_each_sort: Number = nothing
+    members_of_each_sort: Truth = nothing
+    members_of_each_sort: Counter = nothing
+    members_of_each_sort: FloatCounter = a atomic-content
+    members_of_each_sort: Abstract = a abstract-type
+    members_of_each_sort: LongVector = a shape
+    members_of_each_sort: EmptyArray = a shape
+    members_of_each_sort: Floats = nothing
+    members_of_each_sort: Sampling = a not-plain
+    members_of_each_sort: Pointer = a not-plain
+    members_of_each_sort: Empty = shape
+    runtime_sized_members: OpenFirst = r runtime-not-last
+    runtime_sized_members: OpenInside = a runtime-in-struct
+    runtime_sized_members: Rows = a[] runtime-in-array
+    runtime_sized_members: Opens = a[] runtime-in-array
+    what_is_inside_other_structures_is_told_of_these: AbstractInside = nothing
+    what_is_inside_other_structures_is_told_of_these: OpenFirstInside = nothing
+    what_is_inside_other_structures_is_told_of_these: Empties = nothing";
 
 #[test]
-fn what_is_inside_other_structures_is_told_of_these(rt: HostRuntime) {
+fn what_structures_break(rt: HostRuntime) {
     let alloc = rt.alloc();
-    let abstract_inside = one_member(&rt, alloc, "b", Type::AbstractInt);
-    assert_member(&rt, alloc, boxed(&rt, alloc, abstract_inside), "");
-    let floats = array(&rt, alloc, Type::F32, None);
-    let not_last = two_members(&rt, alloc, "r", floats, "n", Type::U32);
-    assert_member(&rt, alloc, boxed(&rt, alloc, not_last), "");
-    let none = struct_type(alloc, "T", Vec::new(alloc)).expect(&rt, "memory");
-    let nones = array(&rt, alloc, boxed(&rt, alloc, none), Some(3));
-    assert_member(&rt, alloc, nones, "");
+    let known = declared(&rt, alloc, STRUCTURES);
+    for row in FAULTS.lines() {
+        let (question, wanted) = asked(&rt, row);
+        let ty = structure(&rt, alloc, &known, question);
+        let faults = struct_faults(alloc, &ty).expect(&rt, "memory");
+        let text = text_of(&rt, alloc, faults);
+        let wanted = if wanted == "nothing" { "" } else { wanted };
+        assert_row(&rt, row, text.as_str(), wanted);
+        drop((ty, text));
+    }
+    drop(known);
 }
 
 #[test]
@@ -84,6 +76,6 @@ fn a_hundred_faults_of_members_are_told(rt: HostRuntime) {
     }
     let ty = struct_type(alloc, "S", members).expect(&rt, "memory");
     let faults = struct_faults(alloc, &ty).expect(&rt, "memory");
-    assert_eq!(&rt; faults.len(), 100);
+    assert_same(&rt, faults.len(), 100);
     drop((ty, faults));
 }
