@@ -3,6 +3,7 @@ pub mod Atomics
 pub mod Buffers
 pub mod Components
 pub mod Copies
+pub mod Exchanges
 pub mod Fitting
 pub mod FlatCells
 pub mod LaidOut

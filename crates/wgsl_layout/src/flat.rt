@@ -3,9 +3,7 @@
 ghost use Rattle.std.specs.Prelude.{◌≡◌, IfSome, IsSome, Some};
 ghost use Rattle.wgsl_rules.specs.Access.{can_write};
 ghost use Rattle.wgsl_rules.specs.Layout.{layout};
-ghost use Rattle.wgsl_rules.specs.Values.{IsStorable};
 ghost use Rattle.wgsl_rules.specs.View.{type_view};
-ghost use Rattle.wgsl_scalar.specs.Literals.{literal_of};
 ghost use Rattle.wgsl_layout.specs.FlatCells.{owned_type};
 ghost use Rattle.wgsl_layout.specs.Layouts.{HasRoom};
 ghost use Rattle.wgsl_layout.specs.Located.{IsLocated, part_range};
@@ -13,6 +11,7 @@ ghost use Rattle.wgsl_layout.specs.Ranges.{view_range};
 ghost use Rattle.wgsl_values.specs.View.{reference_of, steps_of};
 
 use crate::in_place::{BytesWrite, InPlace};
+use crate::laws::a_literal_may_be_stored;
 use crate::layout::Layout;
 use crate::located::Located;
 use crate::make::TypePlan;
@@ -97,6 +96,8 @@ impl FlatCell {
       IsOkAnd,
       IsTrue,
       MatchOption,
+      OnErr,
+      option_map,
     };
     ghost use Rattle.std.specs.Bool.{OnFalse, OnTrue};
     ghost use Rattle.wgsl_rules.specs.Access.{can_write};
@@ -109,6 +110,7 @@ impl FlatCell {
     ghost use Rattle.wgsl_layout.specs.Buffers.{buffer, decode};
     ghost use Rattle.wgsl_layout.specs.Fitting.{LeadsIn};
     ghost use Rattle.wgsl_layout.specs.Copies.{IsCopied};
+    ghost use Rattle.wgsl_layout.specs.Exchanges.{IsExchanged};
     ghost use Rattle.wgsl_layout.specs.Fitting.{FitsAt};
     ghost use Rattle.wgsl_layout.specs.FlatCells.{IsFlatPart, IsPartAt, owned_type, part_value};
     ghost use Rattle.wgsl_layout.specs.LaidOut.{CameTo};
@@ -258,6 +260,32 @@ impl FlatCell {
         true
     }
 
+    /// Puts the value in the place of the part that the view leads to, where it fits there, as [`FlatCell::put`] does, and
+    /// answers the value that stood there: a copy in memory of its own, made before anything is written. `None` where the
+    /// value does not fit. After that, and after want of memory, nothing is changed; every byte outside the part stays in
+    /// any case. The conditions: the value may be stored, as `is_storable` tests, and the view leads to a part.
+    /// It calls itself for each level of the type: keep to 4,095 within a stack of 8 MiB.
+    pub fn replace(
+        &mut self,
+        alloc: Global,
+        view: &MemView,
+        value: &Instance,
+    ) -> Result<Option<Instance>, AllocError>
+        requires storable { IsStorable (value_of value.now) }
+        requires there { IsOk (viewed (steps_of view.now) self.old) }
+        ensures exchanged { IfOk result (λ o. IsExchanged (option_map value_of o) self.old self.new (steps_of view.now) (value_of value.now)) }
+        ensures err { OnErr result (self.new ≡ self.old) }
+    {
+        let part = part_of(&self.owner, self.count, self.bytes.len(), view);
+        if !part.fits(value) {
+            return Ok(None);
+        }
+        let old = part.read(alloc, self.bytes.as_slice())?;
+        let bytes = self.bytes.as_mut_slice();
+        part.write(bytes, value);
+        Ok(Some(old))
+    }
+
     /// Copies the numbers of the value that the bytes lay out, from the first byte on, to the place that the view of
     /// the reference leads to; which cell it names is not looked at. The value is of the type of the reference, and a
     /// runtime-sized array has as many elements as find room in the bytes; their padding is not looked at, and bytes
@@ -351,7 +379,7 @@ impl FlatCell {
         ensures put { (path : List ℕ) → IsOkAnd (viewed (steps_of view.now) self.old) (λ x. IsNumberAt x path at (literal_of number) → self.new ≡ put_viewed (steps_of view.now) (number_put path (literal_of number) x) self.old) }
         ensures laid { has_layout (type_of self.old) ≡ true }
     {
-        attest(number);
+        a_literal_may_be_stored(number);
         let start = self.part_at(view).start;
         write_literal(self.bytes.as_mut_slice(), start + at, number);
     }
@@ -395,17 +423,14 @@ fn part_of<'a>(owner: &'a Owner, count: usize, len: usize, view: &MemView) -> Lo
     ensures found { view_range (steps_of view.now) (layout count (owned_type owner.now)) ≡ Some (part_range result) }
     ensures whole { result.len ≡ len }
 {
-    match owner.layout().viewed(count, len, view) {
+    let layout = owner.layout();
+    if let MemView::Whole = view {
+        return layout.whole(count, len);
+    }
+    match layout.viewed(count, len, view) {
         Some(part) => part,
         None => unreachable!(),
     }
-}
-
-// Does nothing: its contract says what holds of every literal.
-fn attest(number: LiteralInstance)
-    ensures { IsStorable (literal_of number) }
-{
-    let _ = number.literal_ty();
 }
 
 // Whether the reference may write.

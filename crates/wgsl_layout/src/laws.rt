@@ -12,6 +12,17 @@ ghost use Rattle.wgsl_layout.specs.Laws.{
   BuffersTellValuesApart,
   APutOverwritesItsRange,
 };
+ghost use Rattle.wgsl_rules.specs.Values.{IsStorable};
+ghost use Rattle.wgsl_scalar.specs.Literals.{literal_of};
+
+use wgsl_scalar::LiteralInstance;
+
+/// A law: each literal may be stored, as `is_storable` tests.
+pub fn a_literal_may_be_stored(number: LiteralInstance)
+    ensures { IsStorable (literal_of number) }
+{
+    let _ = number.literal_ty();
+}
 
 /// A law: the scalars of a layout do not overlap, and lie inside its length.
 pub fn leaves_are_in_order()

@@ -20,6 +20,7 @@ macro_rules! answer_of {
 
 mod asserts;
 mod growth;
+mod held;
 mod rows;
 mod samples;
 mod without_memory;

@@ -48,6 +48,7 @@ use crate::numbers::{width_of, width_with};
 use crate::place::Place;
 use crate::places::Places;
 use crate::rows::are_of_kind;
+use wgsl_layout::laws::a_literal_may_be_stored;
 use wgsl_scalar::LiteralInstance;
 use wgsl_store::Store;
 use wgsl_values::{MemView, RefInstance};
@@ -223,17 +224,10 @@ fn put_row(
 {
     let _ = store.len();
     for (i, number) in numbers.iter().enumerate() {
-        attest(*number);
+        a_literal_may_be_stored(*number);
         if !store.put_number(reference, at + i * width, *number) {
             return false;
         }
     }
     true
-}
-
-// Does nothing: its contract says what holds of every literal.
-fn attest(number: LiteralInstance)
-    ensures { IsStorable (literal_of number) }
-{
-    let _ = number.literal_ty();
 }

@@ -1,15 +1,18 @@
 -- The cells of a store and their values, after a new cell or a put; and the parts that references name.
-use Rattle.std.proofs.Common.{◌≡◌, ℕ, zero, suc, List, [], ◌∷◌, ◌++◌, map, get_or, set, slice_get, Option, Some, None, Result, Ok, Err, option_map, false, refl, sym, ap, ◌∙◌, subst, arith}
+use Rattle.std.proofs.Common.{◌≡◌, ℕ, zero, suc, List, [], ◌∷◌, ◌++◌, map, get_or, set, slice_get, Option, Some, None, Result, Ok, Err, option_map, Bool, true, false, refl, sym, ap, ◌∙◌, subst, arith}
 use Rattle.std.proofs.lemmas.List.{map-append}
 use Rattle.std.specs.List.{All}
-use Rattle.std.specs.Prelude.{IsOk, IsOkAnd, IfOk, IfSome, IsTrue, OnOk, OnErr}
+use Rattle.std.specs.Bool.{OnFalse, OnTrue}
+use Rattle.std.specs.Prelude.{IsOkAnd, IfOk, IfSome, IsTrue, OnErr}
 use Rattle.std.specs.Result.{result_ok}
 use Rattle.wgsl_rules.specs.Layout.{has_layout}
 use Rattle.wgsl_rules.specs.Values.{Step, Reference, Val, type_of}
 use Rattle.wgsl_rules.specs.Refusals.{not_read, Outcome, and_then}
 use Rattle.wgsl_rules.specs.Paths.{or_refused, viewed, put_tree, put_viewed, fits}
 use Rattle.wgsl_rules.proofs.lemmas.Paths.{fits-Decides}
+use Rattle.wgsl_layout.specs.Exchanges.{IsExchanged}
 use Rattle.wgsl_layout.specs.Fitting.{FitsAt}
+use Rattle.wgsl_store.specs.Exchanges.{AreExchanged}
 use Rattle.wgsl_layout.proofs.Outcomes.{answered}
 use Rattle.wgsl_store.specs.Memory.{held, references, IsContent, IsSound, at_position, put_cells}
 use Rattle.wgsl_layout.proofs.lemmas.ViewedPaths.{has-path}
@@ -30,11 +33,10 @@ put-typed steps w v h =
 pub replaced-form : (steps : List Step) (w v new : Val) → has_layout (type_of v) ≡ false → FitsAt w (viewed steps v) → new ≡ put_viewed steps w v → has_layout (type_of new) ≡ false
 replaced-form steps w v new h fit put = ap (λ (x : Val). has_layout (type_of x)) put ∙ ap has_layout (put-typed steps w v fit) ∙ h
 
--- whether the put was accepted or not
-pub put-form : {X : Type 0} (steps : List Step) (w v new : Val) (o : Result Unit X) → has_layout (type_of v) ≡ false → (IsOk o → FitsAt w (viewed steps v))
-    → OnOk o (new ≡ put_viewed steps w v) → OnErr o (new ≡ v) → has_layout (type_of new) ≡ false
-put-form steps w v new (Ok u) h fit put same = replaced-form steps w v new h (fit refl) put
-put-form steps w v new (Err x) h fit put same = ap (λ (y : Val). has_layout (type_of y)) same ∙ h
+-- whether the value was exchanged or not
+pub exchanged-form : (steps : List Step) (w v new : Val) (o : Option Val) → has_layout (type_of v) ≡ false → IsExchanged o v new steps w → has_layout (type_of new) ≡ false
+exchanged-form steps w v new (Some old) h (fit, was, put) = replaced-form steps w v new h fit put
+exchanged-form steps w v new None h (differ, same) = ap (λ (y : Val). has_layout (type_of y)) same ∙ h
 
 -- ---- parts that are found
 
@@ -108,28 +110,49 @@ same-cells view cs cells i new cell are was same = same-set view cs i new cell (
 
 -- ---- what a call on a cell changes in the store
 
--- the cells after a call that puts a value where it is accepted, and else changes nothing
-pub record IsPutOr {E A : Type 0} (o : Result A E) (cells after : List Val) (r : Reference) (w : Val) : Type 0 where
-  pub put : OnOk o (after ≡ put_cells cells r w)
-  pub same : OnErr o (after ≡ cells)
-
-pub put-or : {X E A : Type 0} (view : X → Val) (o : Result A E) (cs : List X) (cells : List Val) (r : Reference) (i : ℕ) (new cell : X) (w : Val) → map view cs ≡ cells → i ≡ r.cell → cell ≡ get_or cs i cell
-    → OnOk o (view new ≡ put_viewed r.view w (view cell)) → OnErr o (view new ≡ view cell) → IsPutOr o cells (map view (set cs i new)) r w
-put-or view (Ok x) cs cells r i new cell w are at was put same = record { put = replaced-cells view cs cells r i new cell w are at was put; same = tt }
-put-or view (Err e) cs cells r i new cell w are at was put same = record { put = tt; same = same-cells view cs cells i new cell are was same }
-
 -- after a put of what fits the cells are sound, and each reference stays kept
 pub replaced-good : (cells after : List Val) (r : Reference) (w : Val) → IsSound cells → IsContent cells w → FitsAt w (held cells r) → after ≡ put_cells cells r w → StaysKept cells after
 replaced-good cells after r w s h fit e =
     let a = answered (held cells r) (λ v. IsTrue (fits w v)) fit in
     subst (λ (vs : List Val). StaysKept cells vs) (sym e) (put-good cells r w a.answer s h a.is a.fact)
 
-pub put-or-good : {E A : Type 0} (o : Result A E) (cells after : List Val) (r : Reference) (w : Val) → IsSound cells → IsContent cells w → (IsOk o → FitsAt w (held cells r))
-    → IsPutOr o cells after r w → StaysKept cells after
-put-or-good (Ok x) cells after r w s h fit p = replaced-good cells after r w s h (fit refl) p.put
-put-or-good (Err e) cells after r w s h fit p = subst (λ (vs : List Val). StaysKept cells vs) (sym p.same) (record { sound = s; keeps = λ q k. k })
+-- where nothing was changed they are as they were
+pub same-good : (cells after : List Val) → IsSound cells → after ≡ cells → StaysKept cells after
+same-good cells after s e = subst (λ (vs : List Val). StaysKept cells vs) (sym e) (record { sound = s; keeps = λ q k. k })
 
--- what was taken out may be put into a cell of the store as it then is
-pub taken-content : {E X : Type 0} (view : X → Val) (o : Result X E) (cells after : List Val) (r : Reference) → IsSound cells → StaysKept cells after → IfOk o (λ x. held cells r ≡ Ok (view x)) → IfOk o (λ x. IsContent after (view x))
-taken-content view (Ok x) cells after r s good e = let h = held-value cells r (view x) s e in (h.0, all-keep cells after (references (view x)) good.keeps h.1)
-taken-content view (Err e) cells after r s good h = tt
+-- the cells after a call that says whether it put a value
+pub record IsPutIf (b : Bool) (cells after : List Val) (r : Reference) (w : Val) : Type 0 where
+  pub put : OnTrue b (after ≡ put_cells cells r w)
+  pub same : OnFalse b (after ≡ cells)
+
+pub put-if : {X : Type 0} (view : X → Val) (b : Bool) (cs : List X) (cells : List Val) (r : Reference) (i : ℕ) (new cell : X) (w : Val) → map view cs ≡ cells → i ≡ r.cell → cell ≡ get_or cs i cell
+    → OnTrue b (view new ≡ put_viewed r.view w (view cell)) → OnFalse b (view new ≡ view cell) → IsPutIf b cells (map view (set cs i new)) r w
+put-if view true cs cells r i new cell w are at was put same = record { put = replaced-cells view cs cells r i new cell w are at was put; same = tt }
+put-if view false cs cells r i new cell w are at was put same = record { put = tt; same = same-cells view cs cells i new cell are was same }
+
+pub put-if-good : (b : Bool) (cells after : List Val) (r : Reference) (w : Val) → IsSound cells → IsContent cells w → (IsTrue b → FitsAt w (held cells r)) → IsPutIf b cells after r w → StaysKept cells after
+put-if-good true cells after r w s h fit p = replaced-good cells after r w s h (fit refl) p.put
+put-if-good false cells after r w s h fit p = same-good cells after s p.same
+
+-- the cells after a call that exchanges a value for what stood in a place, and answers that
+pub record IsReplaced {Y E : Type 0} (value : Y → Val) (o : Result (Option Y) E) (cells after : List Val) (r : Reference) (w : Val) : Type 0 where
+  pub exchanged : IfOk o (λ p. AreExchanged (option_map value p) cells after r w)
+  pub same : OnErr o (after ≡ cells)
+  pub good : StaysKept cells after
+  pub content : IfOk o (λ p. IfSome p (λ y. IsContent after (value y)))
+
+pub replaced-among : {X Y E : Type 0} (view : X → Val) (value : Y → Val) (o : Result (Option Y) E) (cs : List X) (cells : List Val) (r : Reference) (i : ℕ) (new cell : X) (w : Val) → map view cs ≡ cells → IsSound cells → IsContent cells w
+    → held cells r ≡ viewed r.view (view cell) → i ≡ r.cell → cell ≡ get_or cs i cell → IfOk o (λ p. IsExchanged (option_map value p) (view cell) (view new) r.view w) → OnErr o (view new ≡ view cell)
+    → IsReplaced value o cells (map view (set cs i new)) r w
+replaced-among view value (Ok (Some y)) cs cells r i new cell w are s h led at was (fit, stood, put) same =
+    let fits_there : FitsAt w (held cells r) = subst (FitsAt w) (sym led) fit in
+    let after = replaced-cells view cs cells r i new cell w are at was put in
+    let good = replaced-good cells (map view (set cs i new)) r w s h fits_there after in
+    let old = held-value cells r (value y) s (led ∙ stood) in
+    record { exchanged = (fits_there, led ∙ stood, after); same = tt; good = good; content = (old.0, all-keep cells (map view (set cs i new)) (references (value y)) good.keeps old.1) }
+replaced-among view value (Ok None) cs cells r i new cell w are s h led at was (differ, same) err =
+    let after = same-cells view cs cells i new cell are was same in
+    record { exchanged = ((λ f. differ (subst (FitsAt w) led f)), after); same = tt; good = same-good cells (map view (set cs i new)) s after; content = tt }
+replaced-among view value (Err e) cs cells r i new cell w are s h led at was put same =
+    let after = same-cells view cs cells i new cell are was same in
+    record { exchanged = tt; same = after; good = same-good cells (map view (set cs i new)) s after; content = tt }

@@ -3,6 +3,7 @@ pub mod Atomics
 pub mod Cells
 pub mod Components
 pub mod Copies
+pub mod Exchanges
 pub mod HeldBytes
 pub mod LaidOut
 pub mod Loaded

@@ -8,7 +8,7 @@ ghost use Rattle.std.specs.Prelude.{
   ℕ,
   List,
   Err,
-  IfErr,
+  IfNone,
   IfOk,
   IfSome,
   IsOk,
@@ -38,6 +38,7 @@ ghost use Rattle.wgsl_store.specs.Cells.{IsCell, IsPart, cell_value, part_value}
 ghost use Rattle.wgsl_layout.specs.Components.{is_vector};
 ghost use Rattle.wgsl_store.specs.Components.{has_steps, leads_to_component};
 ghost use Rattle.wgsl_layout.specs.Copies.{IsCopied};
+ghost use Rattle.wgsl_layout.specs.Exchanges.{IsExchanged};
 ghost use Rattle.wgsl_store.specs.Copies.{is_bytes};
 ghost use Rattle.wgsl_layout.specs.Fitting.{FitsAt};
 ghost use Rattle.wgsl_store.specs.HeldBytes.{bytes_at};
@@ -49,6 +50,7 @@ use crate::parts::{
     atomic_number, element_count, fits_place, indexed, member, no_part, part_viewed, with_number,
 };
 use std::alloc::{AllocError, Global};
+use std::mem;
 use std::sync::Arc;
 use wgsl_layout::{BytesWrite, FlatCell, FlatPart, InPlace, Layout};
 use wgsl_rules::{Convert, Ty, Type};
@@ -145,45 +147,52 @@ impl Cell {
         }
     }
 
-    /// Puts the value in the place of the part that the reference leads to in the cell, where it fits
-    /// there; else gives the value back, and nothing is changed. It takes no memory. The conditions:
-    /// the reference leads to a value of its type, and the value may be stored.
-    pub(crate) fn put(&mut self, reference: &RefInstance, value: Instance) -> Result<(), Instance>
+    /// Puts the value in the place of the part that the reference leads to in the cell, where it fits there, and says
+    /// whether it did; a tree takes the value itself, and leaves another one for it. Else nothing is changed. It takes no
+    /// memory. The conditions: the reference leads to a value of its type, and the value may be stored.
+    pub(crate) fn put(&mut self, reference: &RefInstance, value: &mut Instance) -> bool
         requires cell { IsCell self.old }
         requires leads { LeadsIn (cell_value self.old) (reference_of reference.now) }
-        requires storable { IsStorable (value_of value) }
-        ensures fit { IsOk result ↔ FitsAt (value_of value) (viewed (reference_of reference.now).view (cell_value self.old)) }
-        ensures ok { OnOk result (cell_value self.new ≡ put_viewed (reference_of reference.now).view (value_of value) (cell_value self.old)) }
-        ensures err { OnErr result (cell_value self.new ≡ cell_value self.old) }
-        ensures back { IfErr result (λ v. value_of v ≡ value_of value) }
+        requires storable { IsStorable (value_of value.old) }
+        ensures fit { IsTrue result ↔ FitsAt (value_of value.old) (viewed (reference_of reference.now).view (cell_value self.old)) }
+        ensures put { OnTrue result (cell_value self.new ≡ put_viewed (reference_of reference.now).view (value_of value.old) (cell_value self.old)) }
+        ensures same { OnFalse result (cell_value self.new ≡ cell_value self.old) }
+        ensures back { OnFalse result (value_of value.new ≡ value_of value.old) }
         ensures cell { IsCell self.new }
     {
         match self {
-            Cell::Flat(bytes) => put_bytes(bytes, reference.view(), value),
-            Cell::Tree(whole) => put_tree(whole, reference, value),
+            Cell::Flat(bytes) => bytes.put(reference.view(), value),
+            Cell::Tree(whole) => match replace_tree(whole, reference, value) {
+                Some(old) => {
+                    drop(old);
+                    true
+                }
+                None => false,
+            },
         }
     }
 
-    /// Puts the value in the place of the part that the reference leads to in the cell, and gives the
-    /// old part back. After want of memory nothing is changed; a tree takes none. The conditions: the
-    /// value fits there, and may be stored.
+    /// Puts the value in the place of the part that the reference leads to in the cell, where it fits there, and answers
+    /// the value that stood there; a tree takes the value itself, and leaves another one for it. `None` where it does not
+    /// fit. After that, and after want of memory, nothing is changed; a tree takes none. The conditions: the reference
+    /// leads to a value of its type, and the value may be stored.
     pub(crate) fn replace(
         &mut self,
         alloc: Global,
         reference: &RefInstance,
-        value: Instance,
-    ) -> Result<Instance, AllocError>
+        value: &mut Instance,
+    ) -> Result<Option<Instance>, AllocError>
         requires cell { IsCell self.old }
-        requires fit { FitsAt (value_of value) (viewed (reference_of reference.now).view (cell_value self.old)) }
-        requires storable { IsStorable (value_of value) }
-        ensures put { OnOk result (cell_value self.new ≡ put_viewed (reference_of reference.now).view (value_of value) (cell_value self.old)) }
-        ensures old { IfOk result (λ v. viewed (reference_of reference.now).view (cell_value self.old) ≡ Ok (value_of v)) }
+        requires leads { LeadsIn (cell_value self.old) (reference_of reference.now) }
+        requires storable { IsStorable (value_of value.old) }
+        ensures exchanged { IfOk result (λ o. IsExchanged (option_map value_of o) (cell_value self.old) (cell_value self.new) (reference_of reference.now).view (value_of value.old)) }
+        ensures back { IfOk result (λ o. IfNone o (value_of value.new ≡ value_of value.old)) }
         ensures err { OnErr result (cell_value self.new ≡ cell_value self.old) }
         ensures cell { IsCell self.new }
     {
         match self {
-            Cell::Flat(bytes) => replace_bytes(alloc, bytes, reference.view(), &value),
-            Cell::Tree(whole) => Ok(replace_tree(whole, reference.view(), value)),
+            Cell::Flat(bytes) => bytes.replace(alloc, reference.view(), value),
+            Cell::Tree(whole) => Ok(replace_tree(whole, reference, value)),
         }
     }
 
@@ -280,75 +289,25 @@ impl Cell {
     }
 }
 
-// `Cell::put` in a cell of bytes.
-fn put_bytes(bytes: &mut FlatCell, view: &MemView, value: Instance) -> Result<(), Instance>
-    requires leads { IsOk (viewed (steps_of view.now) bytes.old) }
-    requires storable { IsStorable (value_of value) }
-    ensures fit { IsOk result ↔ FitsAt (value_of value) (viewed (steps_of view.now) bytes.old) }
-    ensures ok { OnOk result (bytes.new ≡ put_viewed (steps_of view.now) (value_of value) bytes.old) }
-    ensures err { OnErr result (bytes.new ≡ bytes.old) }
-    ensures back { IfErr result (λ v. value_of v ≡ value_of value) }
-{
-    if bytes.put(view, &value) {
-        drop(value);
-        Ok(())
-    } else {
-        Err(value)
-    }
-}
-
-// `Cell::put` in a cell that is a tree.
-fn put_tree(whole: &mut Instance, reference: &RefInstance, value: Instance) -> Result<(), Instance>
+// `Cell::replace` in a cell that is a tree.
+fn replace_tree(
+    whole: &mut Instance,
+    reference: &RefInstance,
+    value: &mut Instance,
+) -> Option<Instance>
     requires leads { LeadsIn (value_of whole.old) (reference_of reference.now) }
-    requires storable { IsStorable (value_of value) }
-    ensures fit { IsOk result ↔ FitsAt (value_of value) (viewed (reference_of reference.now).view (value_of whole.old)) }
-    ensures ok { OnOk result (value_of whole.new ≡ put_viewed (reference_of reference.now).view (value_of value) (value_of whole.old)) }
-    ensures err { OnErr result (value_of whole.new ≡ value_of whole.old) }
-    ensures back { IfErr result (λ v. value_of v ≡ value_of value) }
+    requires storable { IsStorable (value_of value.old) }
+    ensures exchanged { IsExchanged (option_map value_of result) (value_of whole.old) (value_of whole.new) (reference_of reference.now).view (value_of value.old) }
+    ensures back { IfNone result (value_of value.new ≡ value_of value.old) }
 {
     let Some(part) = part_viewed(whole, reference.view()) else {
         unreachable!()
     };
-    if !fits_place(&value, reference.target_ty(), part) {
-        return Err(value);
+    if !fits_place(value, reference.target_ty(), part) {
+        return None;
     }
-    let _ = whole.put(reference.view(), value);
-    Ok(())
-}
-
-// `Cell::replace` in a cell of bytes: the old part is read before the new one is written.
-fn replace_bytes(
-    alloc: Global,
-    bytes: &mut FlatCell,
-    view: &MemView,
-    value: &Instance,
-) -> Result<Instance, AllocError>
-    requires fit { FitsAt (value_of value.now) (viewed (steps_of view.now) bytes.old) }
-    requires storable { IsStorable (value_of value.now) }
-    ensures put { OnOk result (bytes.new ≡ put_viewed (steps_of view.now) (value_of value.now) bytes.old) }
-    ensures old { IfOk result (λ v. viewed (steps_of view.now) bytes.old ≡ Ok (value_of v)) }
-    ensures err { OnErr result (bytes.new ≡ bytes.old) }
-{
-    let Some(part) = bytes.whole().viewed(view) else {
-        unreachable!()
-    };
-    let old = part.value(alloc)?;
-    if !bytes.put(view, value) {
-        unreachable!();
-    }
-    Ok(old)
-}
-
-// `Cell::replace` in a cell that is a tree.
-fn replace_tree(whole: &mut Instance, view: &MemView, value: Instance) -> Instance
-    requires { IsOk (viewed (steps_of view.now) (value_of whole.old)) }
-    ensures put { value_of whole.new ≡ put_viewed (steps_of view.now) (value_of value) (value_of whole.old) }
-    ensures old { viewed (steps_of view.now) (value_of whole.old) ≡ Ok (value_of result) }
-{
-    match whole.put(view, value) {
-        Some(old) => old,
-        None => unreachable!(),
-    }
+    let new = mem::replace(value, Instance::from(LiteralInstance::Bool(false)));
+    whole.put(reference.view(), new)
 }
 
 // `Cell::put_atomic_number` in a cell that is a tree: the number stands in the place of the atomic while that
@@ -493,20 +452,6 @@ impl<'a> Part<'a> {
         match self {
             Part::Flat(part) => part.element_count(),
             Part::Tree(value) => element_count(value),
-        }
-    }
-
-    /// Whether the value fits the place of the part, which is of the type. The condition: the value may
-    /// be stored.
-    pub(crate) fn fits(self, ty: &Type, value: &Instance) -> bool
-        requires part { IsPart self }
-        requires typed { type_of (part_value self) ≡ type_view ty.now }
-        requires storable { IsStorable (value_of value.now) }
-        ensures { result ≡ fits (value_of value.now) (part_value self.entry) }
-    {
-        match self {
-            Part::Flat(part) => part.fits(value),
-            Part::Tree(part) => fits_place(value, ty, part),
         }
     }
 

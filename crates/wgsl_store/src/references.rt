@@ -7,8 +7,11 @@ ghost use Rattle.std.specs.Prelude.{
   [],
   IfOk,
   IfErr,
+  IfNone,
   IfSome,
+  IsErrAnd,
   IsOk,
+  IsOkAnd,
   IsTrue,
   OnOk,
   OnErr,
@@ -35,7 +38,6 @@ ghost use Rattle.wgsl_scalar.specs.Literals.{literal_of};
 ghost use Rattle.wgsl_store.specs.Atomics.{atomic_number};
 ghost use Rattle.wgsl_store.specs.Components.{names_component};
 ghost use Rattle.wgsl_store.specs.Copies.{are_in_bytes, copied};
-ghost use Rattle.wgsl_layout.specs.Fitting.{FitsAt};
 ghost use Rattle.wgsl_store.specs.Memory.{HoldsValue, IsContent, IsKept, IsSound, held, put_cells};
 ghost use Rattle.wgsl_store.specs.ReferenceCalls.{
   deeper,
@@ -200,27 +202,23 @@ fn misfit(alloc: Global, reference: &RefInstance, value: &Instance) -> Result<Er
     Ok(Error::WriteRefType(value.ty(alloc)?, reference.target_ty().clone(alloc)?))
 }
 
-// Whether the value may be exchanged for that of the part; else why not, as `References::read_write`
-// says.
-fn check_exchange(
+// What `References::read_write` answers, where the reference may write: the value that stood there, or why the other was
+// not put in its place. The condition: that may be stored.
+fn exchanged(
     alloc: Global,
     reference: &RefInstance,
-    store: &Store,
     value: &Instance,
-) -> Result<(), Error>
-    requires kept { IsKept store.now (reference_of reference.now) }
-    requires storable { IsStorable (value_of value.now) }
-    ensures may_write { OnOk result (can_write (reference_of reference.now).access ≡ true) }
-    ensures fit { OnOk result (FitsAt (value_of value.now) (held store.now (reference_of reference.now))) }
-    ensures err { IfErr result (λ e. IfSome (refusal_of e) (λ f. read_written store.now (reference_of reference.now) (value_of value.now) ≡ Err f)) }
+    replaced: Result<Option<Instance>, AllocError>,
+) -> Result<Instance, Error>
+    requires { IsStorable (value_of value.now) }
+    ensures old { IfOk replaced (λ o. IfSome o (λ v. IsOkAnd result (λ w. value_of w ≡ value_of v))) }
+    ensures misfit { IfOk replaced (λ o. IfNone o (IsErrAnd result (λ e. IfSome (refusal_of e) (λ f. f ≡ write_ref_type (type_of (value_of value.now)) (reference_of reference.now).ty)))) }
+    ensures memory { OnErr replaced (IsErrAnd result (λ e. refusal_of e ≡ None)) }
 {
-    if !reference.access().is_write() {
-        return Err(Error::NotReadWrite);
+    match replaced? {
+        Some(old) => Ok(old),
+        None => Err(misfit(alloc, reference, value)?),
     }
-    if !store.fits(reference, value) {
-        return Err(misfit(alloc, reference, value)?);
-    }
-    Ok(())
 }
 
 /// Why what the first reference names does not fit the place that the second names: `WriteRefType`, the type of the
@@ -327,18 +325,17 @@ impl References for RefInstance {
         Ok(store.readable(self)?.value(alloc)?)
     }
 
-    fn write(&self, alloc: Global, store: &mut Store, value: Instance) -> Result<(), Error> {
+    fn write(&self, alloc: Global, store: &mut Store, mut value: Instance) -> Result<(), Error> {
         if !self.access().is_write() {
             return Err(Error::NotWrite);
         }
-        match store.put(self, value) {
-            Ok(()) => Ok(()),
-            Err(value) => {
-                let error = misfit(alloc, self, &value).unwrap_or(Error::Memory);
-                drop(value);
-                Err(error)
-            }
-        }
+        let answer = if store.put(self, &mut value) {
+            Ok(())
+        } else {
+            Err(misfit(alloc, self, &value).unwrap_or(Error::Memory))
+        };
+        drop(value);
+        answer
     }
 
     fn copy_to(&self, alloc: Global, store: &mut Store, target: &RefInstance) -> Result<(), Error> {
@@ -356,10 +353,15 @@ impl References for RefInstance {
         &self,
         alloc: Global,
         store: &mut Store,
-        value: Instance,
+        mut value: Instance,
     ) -> Result<Instance, Error> {
-        check_exchange(alloc, self, store, &value)?;
-        Ok(store.replace(alloc, self, value)?)
+        if !self.access().is_write() {
+            return Err(Error::NotReadWrite);
+        }
+        let replaced = store.replace(alloc, self, &mut value);
+        let answer = exchanged(alloc, self, &value, replaced);
+        drop(value);
+        answer
     }
 
     fn atomic_number(&self, store: &Store) -> Option<LiteralInstance> {

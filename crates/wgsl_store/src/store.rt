@@ -1,13 +1,11 @@
 //! The cells that references name (WGSL: memory locations).
 
-ghost use Rattle.wgsl_rules.specs.Values.{IsStorable};
-ghost use Rattle.wgsl_scalar.specs.Literals.{literal_of};
-
 use crate::cell::{Cell, Part};
 use crate::parts::{part, part_count};
 use std::alloc::{AllocError, Global};
 use std::marker::Model;
 use std::sync::Arc;
+use wgsl_layout::laws::a_literal_may_be_stored;
 use wgsl_layout::{BytesWrite, InPlace, Layout};
 use wgsl_rules::Type;
 use wgsl_scalar::{Error, LiteralInstance};
@@ -51,10 +49,9 @@ impl Store {
       true,
       ℕ,
       List,
-      IfErr,
+      IfNone,
       IfOk,
       IfSome,
-      IsOk,
       IsOkAnd,
       IsTrue,
       OnOk,
@@ -76,6 +73,7 @@ impl Store {
     ghost use Rattle.wgsl_store.specs.Cells.{IsPart, part_value};
     ghost use Rattle.wgsl_store.specs.Components.{names_component};
     ghost use Rattle.wgsl_store.specs.Copies.{AreCopied, are_in_bytes, in_bytes};
+    ghost use Rattle.wgsl_store.specs.Exchanges.{AreExchanged};
     ghost use Rattle.wgsl_layout.specs.Fitting.{FitsAt};
     ghost use Rattle.wgsl_store.specs.HeldBytes.{held_bytes, read_bytes};
     ghost use Rattle.wgsl_layout.specs.LaidOut.{CameTo};
@@ -266,7 +264,7 @@ impl Store {
         // Where the parts stand of what any other reference names stays as it was.
         ensures layouts { KeepsLayouts self.old self.new }
     {
-        attest(number);
+        a_literal_may_be_stored(number);
         let cell = &mut self.cells[reference.cell()];
         cell.put_number(reference, at, number)
     }
@@ -300,16 +298,6 @@ impl Store {
         ensures { result ≡ element_count self.now (reference_of reference.now) }
     {
         self.part(reference).element_count()
-    }
-
-    /// Whether the value fits the place of the part that the reference names. It takes no memory. The
-    /// conditions: the reference is kept, and the value may be stored.
-    pub(crate) fn fits(&self, reference: &RefInstance, value: &Instance) -> bool
-        requires kept { IsKept self.now (reference_of reference.now) }
-        requires storable { IsStorable (value_of value.now) }
-        ensures { IsTrue result ↔ FitsAt (value_of value.now) (held self.now (reference_of reference.now)) }
-    {
-        self.part(reference).fits(reference.target_ty(), value)
     }
 
     /// Makes a last cell that holds the value, and answers its number.
@@ -350,16 +338,16 @@ impl Store {
         Ok(true)
     }
 
-    /// Puts the value in the place of the part that the reference names, where it fits there; else
-    /// gives the value back, and nothing is changed. It takes no memory. The condition: the reference
-    /// is kept.
-    pub(crate) fn put(&mut self, reference: &RefInstance, value: Instance) -> Result<(), Instance>
+    /// Puts the value in the place of the part that the reference names, where it fits there, and says whether it did;
+    /// another value may be left for it then. Else nothing is changed. It takes no memory. The condition: the reference is
+    /// kept.
+    pub(crate) fn put(&mut self, reference: &RefInstance, value: &mut Instance) -> bool
         requires kept { IsKept self.old (reference_of reference.now) }
-        requires content { IsContent self.old (value_of value) }
-        ensures fit { IsOk result ↔ FitsAt (value_of value) (held self.old (reference_of reference.now)) }
-        ensures ok { OnOk result (self.new ≡ put_cells self.old (reference_of reference.now) (value_of value)) }
-        ensures err { OnErr result (self.new ≡ self.old) }
-        ensures back { IfErr result (λ v. value_of v ≡ value_of value) }
+        requires content { IsContent self.old (value_of value.old) }
+        ensures fit { IsTrue result ↔ FitsAt (value_of value.old) (held self.old (reference_of reference.now)) }
+        ensures put { OnTrue result (self.new ≡ put_cells self.old (reference_of reference.now) (value_of value.old)) }
+        ensures same { OnFalse result (self.new ≡ self.old) }
+        ensures back { OnFalse result (value_of value.new ≡ value_of value.old) }
         ensures sound { IsSound self.new }
         ensures kept { (r : Reference) → IsKept self.old r → IsKept self.new r }
     {
@@ -367,20 +355,21 @@ impl Store {
         cell.put(reference, value)
     }
 
-    /// Puts the value in the place of the part that the reference names, and gives the old part back.
-    /// The condition: the value fits there.
+    /// Puts the value in the place of the part that the reference names, where it fits there, and answers the value that
+    /// stood there; another value may be left for it then. `None` where it does not fit. After that, and after want of
+    /// memory, nothing is changed. The condition: the reference is kept.
     pub(crate) fn replace(
         &mut self,
         alloc: Global,
         reference: &RefInstance,
-        value: Instance,
-    ) -> Result<Instance, AllocError>
-        requires content { IsContent self.old (value_of value) }
-        requires fit { FitsAt (value_of value) (held self.old (reference_of reference.now)) }
-        ensures put { OnOk result (self.new ≡ put_cells self.old (reference_of reference.now) (value_of value)) }
-        ensures old { IfOk result (λ v. held self.old (reference_of reference.now) ≡ Ok (value_of v)) }
+        value: &mut Instance,
+    ) -> Result<Option<Instance>, AllocError>
+        requires kept { IsKept self.old (reference_of reference.now) }
+        requires content { IsContent self.old (value_of value.old) }
+        ensures exchanged { IfOk result (λ o. AreExchanged (option_map value_of o) self.old self.new (reference_of reference.now) (value_of value.old)) }
+        ensures back { IfOk result (λ o. IfNone o (value_of value.new ≡ value_of value.old)) }
         ensures err { OnErr result (self.new ≡ self.old) }
-        ensures content { IfOk result (λ v. IsContent self.new (value_of v)) }
+        ensures content { IfOk result (λ o. IfSome o (λ v. IsContent self.new (value_of v))) }
         ensures sound { IsSound self.new }
         ensures kept { (r : Reference) → IsKept self.old r → IsKept self.new r }
     {
@@ -486,11 +475,4 @@ fn copy_back(cells: &mut [Cell], from: &RefInstance, to: &RefInstance) -> InPlac
     let source = &back[0];
     let target = &mut front[to.cell()];
     target.copy_from(source, from.view(), to.view())
-}
-
-// Does nothing: its contract says what holds of every literal.
-fn attest(number: LiteralInstance)
-    ensures { IsStorable (literal_of number) }
-{
-    let _ = number.literal_ty();
 }

@@ -3,8 +3,11 @@
 
 ghost use Rattle.std.specs.Prelude.{IfSome};
 ghost use Rattle.wgsl_layout.specs.FlatCells.{IsFlatPart};
+ghost use Rattle.wgsl_rules.specs.Values.{IsStorable};
+ghost use Rattle.wgsl_values.specs.View.{value_of};
 
 use crate::tests::asserts::{assert_same, assert_text};
+use crate::tests::held::{Held, PUTS, part_at, value_in};
 use crate::tests::rows::{bytes_of, columns, number, slice_at, type_of, view_of};
 use crate::tests::samples::{SCENE, scene_cell};
 use std::alloc::Global;
@@ -14,7 +17,7 @@ use wgsl_layout::{FlatCell, FlatPart, Layout, read_buffer};
 use wgsl_rules::Type;
 use wgsl_samples::atomics::flagged;
 use wgsl_scalar::Error;
-use wgsl_values::MemView;
+use wgsl_values::{Instance, MemView};
 
 /// Words of a type, the text of the value, `none` where there is none, the bytes that lay it out, and more bytes behind
 /// them.
@@ -262,4 +265,57 @@ fn why_there_is_no_part(rt: HostRuntime) {
         assert_no_part(&rt, alloc, &cell, line);
     }
     drop(cell);
+}
+
+/// What stood in the place that the value took, or nothing where it does not fit. Where memory is wanting nothing is
+/// changed, and it is asked again.
+fn replaced(
+    rt: &impl Abort,
+    alloc: Global,
+    held: &mut Held,
+    view: &MemView,
+    value: &Instance,
+    line: &str,
+) -> Option<Instance>
+    requires { IsStorable (value_of value.now) }
+{
+    part_at(rt, &held.cell, view);
+    match held.cell.replace(alloc, view, value) {
+        Ok(stood) => stood,
+        Err(std::alloc::AllocError) => {
+            held.assert_has(rt, 0, &[], line);
+            part_at(rt, &held.cell, view);
+            held.cell.replace(alloc, view, value).expect(rt, "memory")
+        }
+    }
+}
+
+/// Asserts that the value of the row takes the place of the one that stood there, which is answered, or that nothing is
+/// changed where it does not fit.
+fn assert_replaces(rt: &impl Abort, alloc: Global, held: &mut Held, line: &str) {
+    let [steps, words, laid, start, _] = columns(line);
+    let view = view_of(rt, alloc, steps);
+    let value = value_in(rt, alloc, words, laid);
+    let own = bytes_of(rt, alloc, laid, 0);
+    let there = made!(rt; part_at(rt, &held.cell, &view).value(alloc));
+    assert!(rt; value.is_storable());
+    let stood = replaced(rt, alloc, held, &view, &value, line);
+    if start == "misfit" {
+        assert_same(rt, stood.as_ref(), None);
+        held.assert_has(rt, 0, &[], line);
+    } else {
+        assert_same(rt, stood.as_ref(), Some(&there));
+        held.assert_has(rt, number(rt, start), &own, line);
+    }
+    drop((view, value, own, there, stood));
+}
+
+#[test]
+fn values_that_take_the_place_of_others(rt: HostRuntime) {
+    let alloc = rt.alloc();
+    let mut held = Held::new(&rt, alloc, SCENE);
+    for line in PUTS.lines() {
+        assert_replaces(&rt, alloc, &mut held, line);
+    }
+    drop(held);
 }

@@ -26,7 +26,7 @@ pub loop-i-preserved : goal.loop-i-preserved
 loop-i-preserved c =
     rw add-one
     (partly-next c.args.store.now c.loop-i.store c.put_number.new.self (reference_of c.args.reference.now) c.args.at c.args.width c.args.numbers.now c.loop-i.i c.len.ensures.sound c.requires.kept c.requires.there c.loop-i.invariant c.loop-i-test.true
-    c.attest.ensures (sym c.put_number.ensures.bytes ∙ c.if-not-put_number.false) (record { sound = c.put_number.ensures.sound; keeps = c.put_number.ensures.kept }) c.put_number.ensures.layouts c.if-not-put_number.ensures.put)
+    c.a_literal_may_be_stored.ensures (sym c.put_number.ensures.bytes ∙ c.if-not-put_number.false) (record { sound = c.put_number.ensures.sound; keeps = c.put_number.ensures.kept }) c.put_number.ensures.layouts c.if-not-put_number.ensures.put)
 
 pub returns-clause-bytes : goal.returns-clause-bytes
 returns-clause-bytes c =

@@ -22,14 +22,14 @@ standing : (c : goal.After-self-1) → Stands (literal_of c.args.number) scalar 
 standing c =
     let own = c.self.inside in
     let h = c.self.invariant in
-    number-stands-in (flat_value own) (literal_of c.args.number) (steps_of c.args.view.now) c.part_at-start.result c.args.at h.storable (ap has_layout h.typed ∙ h.laid) (is-literal c.args.number) c.attest.ensures
+    number-stands-in (flat_value own) (literal_of c.args.number) (steps_of c.args.view.now) c.part_at-start.result c.args.at h.storable (ap has_layout h.typed ∙ h.laid) (is-literal c.args.number) c.a_literal_may_be_stored.ensures
     (rw (← c.self.view_is) at c.part_at-start.ensures.part) (rw (← c.self.view_is) at c.requires)
 
 pub overflow_add-start : goal.overflow_add-start
 overflow_add-start c =
     let own = c.self.inside in
     let h = c.self.invariant in
-    let stands = number-stands-in (flat_value own) (literal_of c.args.number) (steps_of c.args.view.now) c.part_at-start.result c.args.at h.storable (ap has_layout h.typed ∙ h.laid) (is-literal c.args.number) c.attest.ensures
+    let stands = number-stands-in (flat_value own) (literal_of c.args.number) (steps_of c.args.view.now) c.part_at-start.result c.args.at h.storable (ap has_layout h.typed ∙ h.laid) (is-literal c.args.number) c.a_literal_may_be_stored.ensures
     (rw (← c.self.view_is) at c.part_at-start.ensures.part) (rw (← c.self.view_is) at c.requires) in
     let below = stands-below (literal_of c.args.number) (c.part_at-start.result.start + c.args.at) (length (buffer (flat_value own))) (is-literal c.args.number) stands in
     let same = ap length h.bytes in
@@ -40,7 +40,7 @@ write_literal-requires c =
     let own = c.self.inside in
     let h = c.self.invariant in
     subst (λ (n : ℕ). Stands (literal_of c.args.number) scalar (c.part_at-start.result.start + c.args.at) n) (ap length (sym h.bytes) ∙ ap length (sym c.as_mut_slice.ensures.value))
-    (number-stands-in (flat_value own) (literal_of c.args.number) (steps_of c.args.view.now) c.part_at-start.result c.args.at h.storable (ap has_layout h.typed ∙ h.laid) (is-literal c.args.number) c.attest.ensures
+    (number-stands-in (flat_value own) (literal_of c.args.number) (steps_of c.args.view.now) c.part_at-start.result c.args.at h.storable (ap has_layout h.typed ∙ h.laid) (is-literal c.args.number) c.a_literal_may_be_stored.ensures
     (rw (← c.self.view_is) at c.part_at-start.ensures.part) (rw (← c.self.view_is) at c.requires))
 
 -- what the cell holds after the write, by the path of the number
@@ -58,7 +58,7 @@ after-holds c x path e n =
     let kept : (with_items own.bytes new).items ≡ new = rw long (take-append_seam new _) in
     let written : new ≡ put w scalar at (buffer v) = c.write_literal.ensures ∙ ap (put w scalar at) (c.as_mut_slice.ensures.value ∙ h.bytes) in
     let part : IsPartAt v (steps_of c.args.view.now) c.part_at-start.result = rw (← c.self.view_is) at c.part_at-start.ensures.part in
-    number-holds own (with_items own.bytes new) v w x (steps_of c.args.view.now) path c.part_at-start.result c.args.at h (is-literal c.args.number) c.attest.ensures part e n (kept ∙ written)
+    number-holds own (with_items own.bytes new) v w x (steps_of c.args.view.now) path c.part_at-start.result c.args.at h (is-literal c.args.number) c.a_literal_may_be_stored.ensures part e n (kept ∙ written)
 
 pub invariant_of-self : goal.invariant_of-self
 invariant_of-self c =

@@ -11,7 +11,7 @@ use Rattle.wgsl_store.proofs.store.Store.put_number.Goals as goal
 after : (c : goal.After-self-1) → AreNumberCells c.put_number.result c.args.self.now (map cell_value (slice_set c.self.inside.cells.items c.cell.result c.put_number.new.self)) (reference_of c.args.reference.now) c.args.at (literal_of c.args.number)
 after c =
     number-among cell_value c.put_number.result c.self.inside.cells.items c.args.self.now (reference_of c.args.reference.now) c.cell.result c.put_number.new.self c.index_mut-cell.result.now c.args.at (literal_of c.args.number)
-    c.self.view_is (rw c.self.view_is at c.self.invariant.sound) (is-literal c.args.number) c.attest.ensures c.requires.there c.cell.ensures c.index_mut-cell.ensures.value c.put_number.ensures.bytes c.put_number.ensures.put c.put_number.ensures.same
+    c.self.view_is (rw c.self.view_is at c.self.invariant.sound) (is-literal c.args.number) c.a_literal_may_be_stored.ensures c.requires.there c.cell.ensures c.index_mut-cell.ensures.value c.put_number.ensures.bytes c.put_number.ensures.put c.put_number.ensures.same
 
 pub invariant_of-self : goal.invariant_of-self
 invariant_of-self c = record {
