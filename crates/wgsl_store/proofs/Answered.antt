@@ -1,6 +1,5 @@
 -- What the calls on a reference answer, from what the calls that they make answered.
 use Rattle.std.proofs.Common.{◌≡◌, ℕ, List, [], ◌∷◌, ◌++◌, length, Option, Some, None, Ok, Err, option_map, Bool, true, false, ◌&&◌, if◌then◌else◌, refl, sym, ap, ◌∙◌, subst}
-use Rattle.std.specs.Prelude.{IfNone, IfOk, IfSome, IsErrAnd, IsOkAnd, MatchOption, OnErr, Result}
 use Rattle.std.specs.Result.{result_ok}
 use Rattle.wgsl_rules.proofs.lemmas.Paths.{member_named-item, stepped-item}
 use Rattle.wgsl_rules.specs.Access.{can_write}
@@ -8,13 +7,10 @@ use Rattle.wgsl_rules.specs.Equal.{same_is}
 use Rattle.wgsl_rules.specs.Same.{same}
 use Rattle.wgsl_rules.specs.Types.{Ty}
 use Rattle.wgsl_rules.specs.Values.{Step, index, Reference, Val, type_of, IsStorable}
-use Rattle.wgsl_rules.specs.Refusals.{Refusal, not_read_write, write_ref_type, Outcome, and_then}
+use Rattle.wgsl_rules.specs.Refusals.{not_read_write, write_ref_type, Outcome, and_then}
 use Rattle.wgsl_rules.specs.Paths.{parts, viewed, member_named, part_at, same_paths, fits}
 use Rattle.wgsl_layout.specs.Fitting.{FitsAt}
-use Rattle.wgsl_scalar.specs.Answers.{Gives, refusal_of}
-use Rattle.wgsl_scalar.specs.declared.error.Error.{Error}
-use Rattle.wgsl_store.specs.Exchanges.{AreExchanged}
-use Rattle.wgsl_store.specs.Memory.{held, IsContent, IsKept, put_cells}
+use Rattle.wgsl_store.specs.Memory.{held, IsKept, put_cells}
 use Rattle.wgsl_store.specs.ReferenceCalls.{going_on, read, deeper, old_value, read_written}
 use Rattle.wgsl_store.proofs.lemmas.Sound.{deeper-kept, whole-kept-new}
 use Rattle.wgsl_values.proofs.lemmas.Steps.{item-storable, parts-storable}
@@ -69,10 +65,9 @@ fits-other w v t b e n f = by (same (type_of w) (type_of v)) refl
     by true is = absurd (n ((same_is (type_of w) (type_of v)).0 is ∙ f))
     by false is = e ∙ ap (λ (c : Bool). c && same_paths w v) (sym is)
 
--- ---- a write that answers the old value
+-- ---- an accepted write that answers the old value
 
--- where it is accepted
-read_written-is : (cells new : List Val) (r : Reference) (w old : Val) → can_write r.access ≡ true → FitsAt w (held cells r) → held cells r ≡ Ok old → new ≡ put_cells cells r w
+pub read_written-is : (cells new : List Val) (r : Reference) (w old : Val) → can_write r.access ≡ true → FitsAt w (held cells r) → held cells r ≡ Ok old → new ≡ put_cells cells r w
     → read_written cells r w ≡ Ok (record { old = old; cells = new })
 read_written-is cells new r w old can fit is put =
     let fitted : fits w old ≡ true = subst (FitsAt w) is fit in
@@ -81,48 +76,3 @@ read_written-is cells new r w old can fit is put =
     ∙ ap (λ (o : Outcome Val). and_then o (λ v. if fits w v then Ok v else Err (write_ref_type (type_of w) r.ty))) is
     ∙ ap (λ (b : Bool). if b then Ok old else Err (write_ref_type (type_of w) r.ty)) fitted in
     ap (λ (o : Outcome Val). and_then o (λ x. Ok (record { old = x; cells = put_cells cells r w }))) accepted ∙ rw put refl
-
--- and where the value does not fit
-read_written-misfit : (cells : List Val) (r : Reference) (w : Val) → can_write r.access ≡ true → IsKept cells r → (¬ FitsAt w (held cells r)) → read_written cells r w ≡ Err (write_ref_type (type_of w) r.ty)
-read_written-misfit cells r w can kept differ = by (held cells r) refl kept
-  where
-    turned : (o : Outcome Val) → held cells r ≡ o → old_value not_read_write (held cells) r w ≡ and_then o (λ v. if fits w v then Ok v else Err (write_ref_type (type_of w) r.ty))
-    turned o is =
-        ap (λ (b : Bool). if b then and_then (held cells r) (λ v. if fits w v then Ok v else Err (write_ref_type (type_of w) r.ty)) else Err not_read_write) can
-        ∙ ap (λ (o : Outcome Val). and_then o (λ v. if fits w v then Ok v else Err (write_ref_type (type_of w) r.ty))) is
-
-    at : (v : Val) (b : Bool) → held cells r ≡ Ok v → fits w v ≡ b → read_written cells r w ≡ Err (write_ref_type (type_of w) r.ty)
-    at v true is f = absurd (differ (subst (FitsAt w) (sym is) f))
-    at v false is f =
-        ap (λ (o : Outcome Val). and_then o (λ x. Ok (record { old = x; cells = put_cells cells r w }))) (turned (Ok v) is ∙ ap (λ (b : Bool). if b then Ok v else Err (write_ref_type (type_of w) r.ty)) f)
-
-    by : (o : Outcome Val) → held cells r ≡ o → IsOkAnd o (λ v. type_of v ≡ r.ty) → read_written cells r w ≡ Err (write_ref_type (type_of w) r.ty)
-    by (Ok v) is k = at v (fits w v) is refl
-    by (Err e) is k = absurd k
-
--- what it answers, by what the exchange of the value came to
-pub record IsReadWritten {Y : Type 0} (value : Y → Val) (answer : Result Y Error) (cells after : List Val) (r : Reference) (w : Val) : Type 0 where
-  pub outcome : Gives (λ y. record { old = value y; cells = after }) answer (read_written cells r w)
-  pub same : OnErr answer (after ≡ cells)
-  pub content : IfOk answer (λ y. IsContent after (value y))
-
-pub read_written-told : {Y E : Type 0} (value : Y → Val) (answer : Result Y Error) (replaced : Result (Option Y) E) (cells after : List Val) (r : Reference) (w : Val) → can_write r.access ≡ true → IsKept cells r
-    → IfOk replaced (λ p. AreExchanged (option_map value p) cells after r w) → OnErr replaced (after ≡ cells) → IfOk replaced (λ p. IfSome p (λ y. IsContent after (value y)))
-    → IfOk replaced (λ p. IfSome p (λ y. IsOkAnd answer (λ z. value z ≡ value y))) → IfOk replaced (λ p. IfNone p (IsErrAnd answer (λ e. IfSome (refusal_of e) (λ f. f ≡ write_ref_type (type_of w) r.ty))))
-    → OnErr replaced (IsErrAnd answer (λ e. refusal_of e ≡ None)) → IsReadWritten value answer cells after r w
-read_written-told value (Ok z) (Ok (Some y)) cells after r w can kept (fit, stood, put) same content old misfit memory = record {
-  outcome = read_written-is cells after r w (value z) can fit (stood ∙ ap Ok (sym old)) put;
-  same = tt;
-  content = subst (IsContent after) (sym old) content;
-}
-read_written-told value (Err e) (Ok (Some y)) cells after r w can kept put same content old misfit memory = absurd old
-read_written-told value (Ok z) (Ok None) cells after r w can kept put same content old misfit memory = absurd misfit
-read_written-told value (Err e) (Ok None) cells after r w can kept (differ, is) same content old misfit memory =
-    record { outcome = refused (refusal_of e) misfit; same = is; content = tt }
-  where
-    refused : (o : Option Refusal) → IfSome o (λ f. f ≡ write_ref_type (type_of w) r.ty) → MatchOption o (Unit {0}) (λ f. read_written cells r w ≡ Err f)
-    refused None h = tt
-    refused (Some f) h = read_written-misfit cells r w can kept differ ∙ ap Err (sym h)
-read_written-told value (Ok z) (Err x) cells after r w can kept put same content old misfit memory = absurd memory
-read_written-told value (Err e) (Err x) cells after r w can kept put same content old misfit memory =
-    record { outcome = subst (λ (o : Option Refusal). MatchOption o (Unit {0}) (λ f. read_written cells r w ≡ Err f)) (sym memory) tt; same = same; content = tt }

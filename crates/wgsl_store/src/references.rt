@@ -7,11 +7,7 @@ ghost use Rattle.std.specs.Prelude.{
   [],
   IfOk,
   IfErr,
-  IfNone,
-  IfSome,
-  IsErrAnd,
   IsOk,
-  IsOkAnd,
   IsTrue,
   OnOk,
   OnErr,
@@ -202,20 +198,25 @@ fn misfit(alloc: Global, reference: &RefInstance, value: &Instance) -> Result<Er
     Ok(Error::WriteRefType(value.ty(alloc)?, reference.target_ty().clone(alloc)?))
 }
 
-// What `References::read_write` answers, where the reference may write: the value that stood there, or why the other was
-// not put in its place. The condition: that may be stored.
-fn exchanged(
+// `References::read_write`; another value may be left for the one that is put.
+fn exchange(
     alloc: Global,
     reference: &RefInstance,
-    value: &Instance,
-    replaced: Result<Option<Instance>, AllocError>,
+    store: &mut Store,
+    value: &mut Instance,
 ) -> Result<Instance, Error>
-    requires { IsStorable (value_of value.now) }
-    ensures old { IfOk replaced (λ o. IfSome o (λ v. IsOkAnd result (λ w. value_of w ≡ value_of v))) }
-    ensures misfit { IfOk replaced (λ o. IfNone o (IsErrAnd result (λ e. IfSome (refusal_of e) (λ f. f ≡ write_ref_type (type_of (value_of value.now)) (reference_of reference.now).ty)))) }
-    ensures memory { OnErr replaced (IsErrAnd result (λ e. refusal_of e ≡ None)) }
+    requires kept { IsKept store.old (reference_of reference.now) }
+    requires content { IsContent store.old (value_of value.old) }
+    ensures outcome { Gives (λ v. record { old = value_of v; cells = store.new }) result (read_written store.old (reference_of reference.now) (value_of value.old)) }
+    ensures err { OnErr result (store.new ≡ store.old) }
+    ensures sound { OnOk result (IsSound store.new) }
+    ensures content { IfOk result (λ v. IsContent store.new (value_of v)) }
+    ensures kept { (r : Reference) → IsKept store.old r → IsKept store.new r }
 {
-    match replaced? {
+    if !reference.access().is_write() {
+        return Err(Error::NotReadWrite);
+    }
+    match store.replace(alloc, reference, value)? {
         Some(old) => Ok(old),
         None => Err(misfit(alloc, reference, value)?),
     }
@@ -326,10 +327,9 @@ impl References for RefInstance {
     }
 
     fn write(&self, alloc: Global, store: &mut Store, mut value: Instance) -> Result<(), Error> {
-        if !self.access().is_write() {
-            return Err(Error::NotWrite);
-        }
-        let answer = if store.put(self, &mut value) {
+        let answer = if !self.access().is_write() {
+            Err(Error::NotWrite)
+        } else if store.put(self, &mut value) {
             Ok(())
         } else {
             Err(misfit(alloc, self, &value).unwrap_or(Error::Memory))
@@ -355,11 +355,7 @@ impl References for RefInstance {
         store: &mut Store,
         mut value: Instance,
     ) -> Result<Instance, Error> {
-        if !self.access().is_write() {
-            return Err(Error::NotReadWrite);
-        }
-        let replaced = store.replace(alloc, self, &mut value);
-        let answer = exchanged(alloc, self, &value, replaced);
+        let answer = exchange(alloc, self, store, &mut value);
         drop(value);
         answer
     }
