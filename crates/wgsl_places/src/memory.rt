@@ -35,7 +35,7 @@ ghost use Rattle.wgsl_places.specs.Rows.{HasRow, IsRow};
 ghost use Rattle.wgsl_rules.specs.Access.{can_read, can_write};
 ghost use Rattle.wgsl_rules.specs.Paths.{put_tree};
 ghost use Rattle.wgsl_rules.specs.Types.{Ty};
-ghost use Rattle.wgsl_rules.specs.Values.{IsStorable, Reference, vector};
+ghost use Rattle.wgsl_rules.specs.Values.{Reference, vector};
 ghost use Rattle.wgsl_scalar.specs.Literals.{literal_of};
 ghost use Rattle.wgsl_store.specs.Copies.{in_bytes};
 ghost use Rattle.wgsl_store.specs.Memory.{IsKept, IsSound, held, put_cells};

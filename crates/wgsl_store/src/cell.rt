@@ -18,7 +18,6 @@ ghost use Rattle.std.specs.Prelude.{
   None,
   Ok,
   OnErr,
-  OnOk,
   option_map,
 };
 ghost use Rattle.std.specs.Bool.{OnFalse, OnTrue};

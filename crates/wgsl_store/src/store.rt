@@ -420,7 +420,7 @@ impl Store {
     }
 }
 
-ghost use Rattle.std.specs.Prelude.{◌≡◌, ◌<◌, ◌&&◌, IsOk, IsOkAnd, Some, map, slice_get};
+ghost use Rattle.std.specs.Prelude.{◌≡◌, ◌<◌, IsOk, IsOkAnd, Some, map, slice_get};
 ghost use Rattle.std.specs.List.{All};
 ghost use Rattle.wgsl_store.specs.Cells.{IsCell, cell_value};
 ghost use Rattle.wgsl_store.specs.Copies.{AreCopied, are_in_bytes};
