@@ -4,7 +4,7 @@
 set -euo pipefail
 . "$(dirname "$0")/calls.sh"
 
-start wgsl_rules wgsl_scalar wgsl_values wgsl_store
+start wgsl_rules wgsl_scalar wgsl_values wgsl_layout wgsl_store
 add_types
 cat > "$crate/src/main.rt" <<'RUST'
 //! Takes values to bytes and back again and again: the type, the way and how often are the arguments.

@@ -5,7 +5,7 @@
 set -euo pipefail
 . "$(dirname "$0")/calls.sh"
 
-start wgsl_rules wgsl_scalar wgsl_values wgsl_store wgsl_session wgsl_ops wgsl_types
+start wgsl_rules wgsl_scalar wgsl_values wgsl_layout wgsl_store wgsl_session wgsl_ops wgsl_types
 cat > "$crate/src/main.rt" <<'RUST'
 //! Makes one call of a builtin function again and again: its name and how often are the arguments.
 #![tactic(auto)]

@@ -5,7 +5,7 @@
 set -euo pipefail
 . "$(dirname "$0")/calls.sh"
 
-start wgsl_rules wgsl_scalar wgsl_values wgsl_store wgsl_ops
+start wgsl_rules wgsl_scalar wgsl_values wgsl_layout wgsl_store wgsl_ops
 cat > "$crate/src/main.rt" <<'RUST'
 //! Makes one call on operators again and again: its name and how often are the arguments.
 #![tactic(auto)]

@@ -5,7 +5,7 @@
 set -euo pipefail
 . "$(dirname "$0")/calls.sh"
 
-start wgsl_rules wgsl_scalar wgsl_values wgsl_store wgsl_nodes wgsl_places
+start wgsl_rules wgsl_scalar wgsl_values wgsl_layout wgsl_store wgsl_nodes wgsl_places
 cat > "$crate/src/main.rt" <<'RUST'
 //! Reads and puts the numbers of an array of structures again and again: the way and how often are the arguments.
 #![tactic(auto)]
