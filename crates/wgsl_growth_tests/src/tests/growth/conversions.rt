@@ -31,8 +31,10 @@ fn assert_converts<T: Convert + PartialEq + Debug + Drop>(
     assert_answer(rt, answer, Some(wanted));
     let answer = answer_of!(rt; value.convert_inner_to(alloc, inner));
     assert_answer(rt, answer, Some(wanted));
-    let answer = answer_of!(rt; value.convert_inner_to(alloc, &Type::F64));
+    let float = Type::F64;
+    let answer = answer_of!(rt; value.convert_inner_to(alloc, &float));
     assert_answer(rt, answer, None);
+    drop(float);
 }
 
 /// Asserts what the value is in its concrete type.
@@ -50,12 +52,12 @@ fn assert_concrete<T: Convert + PartialEq + Debug + Drop>(
 
 #[test]
 fn literals(rt: HostRuntime) {
-    let alloc = rt.alloc();
+    let (alloc, word) = (rt.alloc(), Type::U32);
     let one = LiteralInstance::AbstractInt(1);
     let wanted = LiteralInstance::U32(1);
-    assert_converts(&rt, alloc, &one, &Type::U32, &Type::U32, &wanted);
+    assert_converts(&rt, alloc, &one, &word, &word, &wanted);
     assert_concrete(&rt, alloc, &one, Some(&LiteralInstance::I32(1)));
-    drop(pair(&rt, alloc));
+    drop((pair(&rt, alloc), word));
 }
 
 /// The array of 1 and 2, each an AbstractInt.
@@ -67,39 +69,39 @@ fn abstract_array(rt: &impl Abort, alloc: Global) -> ArrayInstance
 
 #[test]
 fn arrays(rt: HostRuntime) {
-    let alloc = rt.alloc();
+    let (alloc, word) = (rt.alloc(), Type::U32);
     let value = abstract_array(&rt, alloc);
     let ty = array(&rt, alloc, Type::U32, Some(2));
     let wanted = array_of(&rt, alloc, &[1, 2], false);
-    assert_converts(&rt, alloc, &value, &ty, &Type::U32, &wanted);
+    assert_converts(&rt, alloc, &value, &ty, &word, &wanted);
     let concrete = array_from(&rt, made!(&rt; integers(alloc, &[1, 2])), false);
     assert_concrete(&rt, alloc, &value, Some(&concrete));
-    drop((value, ty, wanted, concrete));
+    drop((value, ty, wanted, concrete, word));
 }
 
 #[test]
 fn vectors(rt: HostRuntime) {
-    let alloc = rt.alloc();
+    let (alloc, word) = (rt.alloc(), Type::U32);
     let value = abstract_vector(&rt, alloc, &[1, 2, 3]);
     let ty = vector(&rt, alloc, 3, Type::U32);
     let wanted = vector_of(&rt, alloc, &[1, 2, 3]);
-    assert_converts(&rt, alloc, &value, &ty, &Type::U32, &wanted);
+    assert_converts(&rt, alloc, &value, &ty, &word, &wanted);
     let concrete = integer_vector(&rt, alloc, &[1, 2, 3]);
     assert_concrete(&rt, alloc, &value, Some(&concrete));
-    drop((value, ty, wanted, concrete));
+    drop((value, ty, wanted, concrete, word));
 }
 
 #[test]
 fn matrices(rt: HostRuntime) {
-    let alloc = rt.alloc();
+    let (alloc, word) = (rt.alloc(), Type::U32);
     let value = abstract_mat2x3(&rt, alloc);
     let ty = matrix(&rt, alloc, Type::U32);
     let wanted = mat2x3(&rt, alloc);
-    assert_converts(&rt, alloc, &value, &ty, &Type::U32, &wanted);
+    assert_converts(&rt, alloc, &value, &ty, &word, &wanted);
     // its concrete type is one of f32, of which there are no values
     assert_concrete(&rt, alloc, &value, None);
     assert_concrete(&rt, alloc, &wanted, Some(&wanted));
-    drop((value, ty, wanted));
+    drop((value, ty, wanted, word));
 }
 
 #[test]
@@ -114,13 +116,13 @@ fn structures(rt: HostRuntime) {
 
 #[test]
 fn values_of_every_kind(rt: HostRuntime) {
-    let alloc = rt.alloc();
+    let (alloc, word) = (rt.alloc(), Type::U32);
     let value = storable(&rt, Instance::from(abstract_mat2x3(&rt, alloc)));
     let ty = matrix(&rt, alloc, Type::U32);
     let wanted = Instance::from(mat2x3(&rt, alloc));
-    assert_converts(&rt, alloc, &value, &ty, &Type::U32, &wanted);
+    assert_converts(&rt, alloc, &value, &ty, &word, &wanted);
     assert_concrete(&rt, alloc, &value, None);
-    drop((value, ty, wanted));
+    drop((value, ty, wanted, word));
     let value = storable(&rt, Instance::from(abstract_array(&rt, alloc)));
     let concrete = array_from(&rt, made!(&rt; integers(alloc, &[1, 2])), false);
     let concrete = Instance::from(concrete);

@@ -1,6 +1,6 @@
 //! Cells and writes of the values that bytes lay out: where memory is wanting nothing has changed.
 
-use crate::tests::asserts::{assert_memory, assert_same};
+use crate::tests::asserts::{assert_memory, assert_same, assert_told, is_memory, wants_memory};
 use crate::tests::growth::sessions::held;
 use crate::tests::samples::{array, array_of, pair, pair_with, text};
 use std::alloc::Global;
@@ -34,7 +34,7 @@ fn pair_in(rt: &impl Abort, alloc: Global, store: &mut Store) -> RefInstance {
         }
         Err(error) => {
             assert_memory(rt, error);
-            assert_eq!(rt; store.len(), 0);
+            assert_same(rt, store.len(), 0);
             let made = store.new_from_bytes(alloc, again, &PAIR, Storage, ReadWrite);
             made.expect(rt, "memory")
         }
@@ -54,7 +54,7 @@ fn a_cell_of_bytes_wants_memory_or_is_made(rt: HostRuntime) {
     let whole = pair_in(&rt, alloc, &mut store);
     let wanted = Instance::from(pair_with(&rt, alloc, 1));
     assert_same(&rt, read(&rt, alloc, &store, &whole), wanted);
-    assert_eq!(rt; store.len(), 1);
+    assert_same(&rt, store.len(), 1);
     drop((store, whole));
 }
 
@@ -79,7 +79,7 @@ fn a_cell_that_shares_its_layout_wants_memory_or_is_made(rt: HostRuntime) {
         }
         Err(error) => {
             assert_memory(&rt, error);
-            assert_eq!(rt; store.len(), 0);
+            assert_same(&rt, store.len(), 0);
             let made = store.new_sharing(alloc, again, Some(&layout), &PAIR, Storage, ReadWrite);
             made.expect(&rt, "memory")
         }
@@ -97,16 +97,15 @@ fn a_session_wants_memory_or_shares_a_layout(rt: HostRuntime) {
     let layout = shared(&rt, alloc);
     let (ty, again) = (pair(&rt, alloc), pair(&rt, alloc));
     let before = held(&rt, alloc, &session);
-    match session.new_sharing(ty, Some(&layout), &PAIR, Storage, ReadWrite) {
-        Err(Fault::Of(Error::Memory)) => {
-            assert_same(&rt, held(&rt, alloc, &session), before);
-            let made = session.new_sharing(again, Some(&layout), &PAIR, Storage, ReadWrite);
-            assert_same(&rt, made, Ok(Some(Reply::Handle(0))));
-        }
-        made => {
-            assert_same(&rt, made, Ok(Some(Reply::Handle(0))));
-            drop((before, again));
-        }
+    let made = session.new_sharing(ty, Some(&layout), &PAIR, Storage, ReadWrite);
+    if is_memory(&made) {
+        assert_same(&rt, held(&rt, alloc, &session), before);
+        drop(made);
+        let made = session.new_sharing(again, Some(&layout), &PAIR, Storage, ReadWrite);
+        assert_same(&rt, made, Ok(Some(Reply::Handle(0))));
+    } else {
+        assert_same(&rt, made, Ok(Some(Reply::Handle(0))));
+        drop((before, again));
     }
     drop((session, layout));
 }
@@ -121,13 +120,13 @@ fn assert_writes(
     wanted: Result<bool, Error>,
 ) {
     assert!(rt; store.holds(reference));
-    match store.write_bytes(alloc, reference, bytes) {
-        Err(Error::Memory) => {
-            let again = store.write_bytes(alloc, reference, bytes);
-            assert_same(rt, again, wanted);
-        }
-        answer => assert_same(rt, answer, wanted),
-    }
+    let first = store.write_bytes(alloc, reference, bytes);
+    let again = if wants_memory(&first) {
+        Some(store.write_bytes(alloc, reference, bytes))
+    } else {
+        None
+    };
+    assert_told(rt, first, again, wanted);
 }
 
 /// The reference to a new cell with the value, where memory is not refused.
@@ -163,7 +162,7 @@ fn a_write_of_bytes_to_a_cell_that_is_none_wants_memory_or_is_made(rt: HostRunti
     let count = made!(&rt; whole.view_member(alloc, &store, name));
     assert_writes(&rt, alloc, &mut store, &count, &[5, 0, 0, 0], Ok(true));
     assert!(rt; store.holds(&count));
-    assert_eq!(rt; count.atomic_number(&store), Some(U32(5)));
+    assert_same(&rt, count.atomic_number(&store), Some(U32(5)));
     drop((store, whole, count));
 }
 
@@ -177,17 +176,35 @@ fn assert_makes(
     bytes: &[u8],
 ) {
     let before = held(rt, alloc, session);
-    match session.new_from_bytes(ty, bytes, Storage, ReadWrite) {
-        Err(Fault::Of(Error::Memory)) => {
-            assert_same(rt, held(rt, alloc, session), before);
-            let made = session.new_from_bytes(again, bytes, Storage, ReadWrite);
-            assert_same(rt, made, Ok(Some(Reply::Handle(0))));
-        }
-        made => {
-            assert_same(rt, made, Ok(Some(Reply::Handle(0))));
-            drop((before, again));
-        }
+    let made = session.new_from_bytes(ty, bytes, Storage, ReadWrite);
+    if is_memory(&made) {
+        assert_same(rt, held(rt, alloc, session), before);
+        drop(made);
+        let made = session.new_from_bytes(again, bytes, Storage, ReadWrite);
+        assert_same(rt, made, Ok(Some(Reply::Handle(0))));
+    } else {
+        assert_same(rt, made, Ok(Some(Reply::Handle(0))));
+        drop((before, again));
     }
+}
+
+/// Asserts that the bytes are no value of cell 0, which is not written.
+fn assert_not_written(
+    rt: &impl Abort,
+    alloc: Global,
+    session: &mut Session,
+    bytes: &[u8],
+    refusal: Fault,
+) {
+    let before = held(rt, alloc, session);
+    let first = session.write_bytes(0, bytes);
+    let again = if is_memory(&first) {
+        Some(session.write_bytes(0, bytes))
+    } else {
+        None
+    };
+    assert_told(rt, first, again, Err(refusal));
+    assert_same(rt, held(rt, alloc, session), before);
 }
 
 #[test]
@@ -197,16 +214,11 @@ fn a_session_wants_memory_or_takes_the_bytes_of_values(rt: HostRuntime) {
     let own = array(&rt, alloc, Type::U32, None);
     let again = array(&rt, alloc, Type::U32, None);
     assert_makes(&rt, alloc, &mut session, own, again, &WORDS);
-    let before = held(&rt, alloc, &session);
     let own = array(&rt, alloc, Type::U32, None);
     let again = array(&rt, alloc, Type::U32, None);
     let refusal = Fault::Of(Error::WriteRefType(own, again));
     // two words in the place of three
-    let answer = match session.write_bytes(0, &[1, 0, 0, 0, 2, 0, 0, 0]) {
-        Err(Fault::Of(Error::Memory)) => session.write_bytes(0, &[1, 0, 0, 0, 2, 0, 0, 0]),
-        answer => answer,
-    };
-    assert_same(&rt, answer, Err(refusal));
-    assert_same(&rt, held(&rt, alloc, &session), before);
+    let two = [1, 0, 0, 0, 2, 0, 0, 0];
+    assert_not_written(&rt, alloc, &mut session, &two, refusal);
     drop(session);
 }

@@ -5,8 +5,8 @@ ghost use Rattle.std.specs.Prelude.{map};
 ghost use Rattle.wgsl_session.specs.Calls.{AreSoundCalls};
 ghost use Rattle.wgsl_session.specs.View.{call_of};
 
-use crate::tests::asserts::assert_same;
-use crate::tests::growth::sessions::{held, is_memory, new, sound, value};
+use crate::tests::asserts::{assert_is, assert_same, assert_that, is_memory};
+use crate::tests::growth::sessions::{held, new, sound, value};
 use crate::tests::samples::{array_of, pair_with, text, vector_of};
 use std::alloc::Global;
 use std::process::Abort;
@@ -90,10 +90,14 @@ fn wanted(
 fn assert_held(rt: &impl Abort, session: &mut Session, refused: Option<usize>) {
     let is_cell_refused = refused.is_some_and(|refused| refused < 2);
     let is_handle_refused = refused.is_some_and(|refused| refused < 4);
-    assert_eq!(rt; session.store().len(), if is_cell_refused { 4 } else { 5 });
-    assert!(rt; session.reference(8).is_some());
-    assert_eq!(rt; session.reference(9).is_some(), !is_handle_refused);
-    assert!(rt; session.reference(10).is_none());
+    assert_same(
+        rt,
+        session.store().len(),
+        if is_cell_refused { 4 } else { 5 },
+    );
+    assert_that(rt, session.reference(8).is_some());
+    assert_same(rt, session.reference(9).is_some(), !is_handle_refused);
+    assert_that(rt, session.reference(10).is_none());
     let last = if refused == Some(7) { 9u32 } else { 11u32 };
     let read = session.call(sound(rt, Call::Read(3)));
     assert_same(rt, read, value(Instance::from(last)));
@@ -109,12 +113,13 @@ fn assert_replies(
     replies: Vec<Result<Reply, Fault>>,
 ) {
     let refused = replies.iter().position(is_memory);
-    assert_eq!(rt; replies.len(), 9);
-    assert!(rt; refused != Some(8));
-    for (number, reply) in replies.into_iter().enumerate() {
-        assert_same(rt, reply, wanted(rt, alloc, number, refused));
+    assert_same(rt, replies.len(), 9);
+    assert_that(rt, refused != Some(8));
+    for (number, reply) in replies.iter().enumerate() {
+        assert_is(rt, wanted(rt, alloc, number, refused), reply);
     }
     assert_held(rt, session, refused);
+    drop(replies);
 }
 
 /// Runs the calls, which want no memory, in a session that is as it was filled, and asserts the replies.
@@ -123,7 +128,7 @@ fn assert_run(rt: &impl Abort, alloc: Global, session: Session, calls: Vec<Call>
 {
     let mut session = session;
     let replies = session.run(calls).expect(rt, "memory");
-    assert!(rt; !replies.iter().any(is_memory));
+    assert_that(rt, !replies.iter().any(is_memory));
     assert_replies(rt, alloc, &mut session, replies);
     drop(session);
 }

@@ -1,6 +1,8 @@
 //! Calls on references: where memory is wanting the store is as before.
 
-use crate::tests::asserts::{assert_memory, assert_same};
+use crate::tests::asserts::{
+    assert_made_or_memory, assert_memory, assert_refusal, assert_same, is_of_memory,
+};
 use crate::tests::samples::{pair, pair_with, text, vector, vector_of};
 use std::alloc::Global;
 use std::process::Abort;
@@ -49,23 +51,24 @@ fn assert_exchanged(
     alloc: Global,
     store: &mut Store,
     reference: &RefInstance,
-    values: (Instance, Instance),
+    next: Instance,
+    again: Instance,
     old: Instance,
 ) {
     let cells = store.len();
-    match read_write(rt, alloc, store, reference, values.0) {
+    match read_write(rt, alloc, store, reference, next) {
         Ok(answer) => {
             assert_same(rt, answer, old);
-            drop(values.1);
+            drop(again);
         }
         Err(error) => {
             assert_memory(rt, error);
             assert_same(rt, read(rt, alloc, store, reference), old);
-            let answer = read_write(rt, alloc, store, reference, values.1);
+            let answer = read_write(rt, alloc, store, reference, again);
             drop(answer.expect(rt, "memory"));
         }
     }
-    assert_eq!(rt; store.len(), cells);
+    assert_same(rt, store.len(), cells);
 }
 
 #[test]
@@ -76,7 +79,7 @@ fn an_accepted_exchange_wants_memory_or_answers_the_old_value(rt: HostRuntime) {
     let next = Instance::from(pair_with(&rt, alloc, 9));
     let again = Instance::from(pair_with(&rt, alloc, 9));
     let old = Instance::from(pair_with(&rt, alloc, 1));
-    assert_exchanged(&rt, alloc, &mut store, &whole, (next, again), old);
+    assert_exchanged(&rt, alloc, &mut store, &whole, next, again, old);
     let wanted = Instance::from(pair_with(&rt, alloc, 9));
     assert_same(&rt, read(&rt, alloc, &store, &whole), wanted);
     drop((store, whole));
@@ -92,7 +95,7 @@ fn an_accepted_exchange_of_what_has_no_bytes(rt: HostRuntime) {
     let next = Instance::from(made!(&rt; inner.clone(alloc)));
     let again = Instance::from(made!(&rt; inner.clone(alloc)));
     let old = Instance::from(inner);
-    assert_exchanged(&rt, alloc, &mut store, &outer, (next, again), old);
+    assert_exchanged(&rt, alloc, &mut store, &outer, next, again, old);
     drop((store, outer));
 }
 
@@ -119,13 +122,14 @@ fn a_copy_of_what_has_no_bytes_wants_memory_or_is_made(rt: HostRuntime) {
     let old = Instance::from(made!(&rt; other.clone(alloc)));
     let held = Instance::from(made!(&rt; other.clone(alloc)));
     let to = cell_with(&rt, alloc, &mut store, held);
-    if let Err(error) = copy(&rt, alloc, &mut store, &from, &to) {
-        assert_memory(&rt, error);
+    let first = copy(&rt, alloc, &mut store, &from, &to);
+    if first.is_err() {
         assert_same(&rt, read(&rt, alloc, &store, &to), old);
         assert_same(&rt, copy(&rt, alloc, &mut store, &from, &to), Ok(()));
     } else {
         drop(old);
     }
+    assert_made_or_memory(&rt, first);
     assert_same(&rt, read(&rt, alloc, &store, &to), Instance::from(pair));
     drop((store, from, to));
     drop(other);
@@ -138,16 +142,17 @@ fn a_copy_that_is_refused_wants_memory_or_is_told_with_its_types(rt: HostRuntime
     let whole = pair_in(&rt, alloc, &mut store);
     let word = cell_with(&rt, alloc, &mut store, Instance::from(9u32));
     let refusal = Error::WriteRefType(pair(&rt, alloc), Type::U32);
-    match copy(&rt, alloc, &mut store, &whole, &word) {
-        Err(Error::Memory) => {
-            let again = copy(&rt, alloc, &mut store, &whole, &word);
-            assert_same(&rt, again, Err(refusal));
-        }
-        answer => assert_same(&rt, answer, Err(refusal)),
-    }
+    let first = copy(&rt, alloc, &mut store, &whole, &word).err();
+    let again = if is_of_memory(&first) {
+        copy(&rt, alloc, &mut store, &whole, &word).err()
+    } else {
+        None
+    };
+    assert_refusal(&rt, first, again, &refusal);
     let value = read(&rt, alloc, &store, &word);
     assert_same(&rt, value, Instance::from(9u32));
     drop((store, whole, word));
+    drop(refusal);
 }
 
 #[test]
@@ -159,7 +164,7 @@ fn the_text_of_a_pointer_wants_memory_or_is_whole(rt: HostRuntime) {
     assert!(rt; store.holds(pointer.ptr()));
     let text = answer_of!(&rt; pointer.show(alloc, &store));
     let wanted = "ptr<storage, Pair, read_write>(Pair(1u, vec3(2u, 3u, 4u)))";
-    assert_eq!(rt; text.as_str(), wanted);
+    assert_same(&rt, text.as_str(), wanted);
     drop((store, pointer));
 }
 
@@ -194,11 +199,34 @@ fn assert_no_part(
     i: usize,
     error: Error,
 ) {
-    let refusal = match view_index(rt, alloc, store, reference, i).err() {
-        Some(Error::Memory) => view_index(rt, alloc, store, reference, i).err(),
-        refusal => refusal,
+    let first = view_index(rt, alloc, store, reference, i).err();
+    let again = if is_of_memory(&first) {
+        view_index(rt, alloc, store, reference, i).err()
+    } else {
+        None
     };
-    assert_same(rt, refusal, Some(error));
+    assert_refusal(rt, first, again, &error);
+    drop(error);
+}
+
+/// Asserts that there is no member c. The name is given twice: a call that wants memory takes it.
+fn assert_no_member(
+    rt: &impl Abort,
+    alloc: Global,
+    store: &Store,
+    reference: &RefInstance,
+    error: Error,
+) {
+    let (name, other) = (text(rt, alloc, "c"), text(rt, alloc, "c"));
+    let first = view_member(rt, alloc, store, reference, name).err();
+    let again = if is_of_memory(&first) {
+        view_member(rt, alloc, store, reference, other).err()
+    } else {
+        drop(other);
+        None
+    };
+    assert_refusal(rt, first, again, &error);
+    drop(error);
 }
 
 #[test]
@@ -206,16 +234,8 @@ fn a_step_that_leads_nowhere_wants_memory_or_is_told_with_its_type(rt: HostRunti
     let alloc = rt.alloc();
     let mut store = Store::new(alloc);
     let whole = pair_in(&rt, alloc, &mut store);
-    let (name, again) = (text(&rt, alloc, "c"), text(&rt, alloc, "c"));
     let component = Error::Component(pair(&rt, alloc), text(&rt, alloc, "c"));
-    let refusal = match view_member(&rt, alloc, &store, &whole, name).err() {
-        Some(Error::Memory) => view_member(&rt, alloc, &store, &whole, again).err(),
-        refusal => {
-            drop(again);
-            refusal
-        }
-    };
-    assert_same(&rt, refusal, Some(component));
+    assert_no_member(&rt, alloc, &store, &whole, component);
     let error = Error::NotIndexable(pair(&rt, alloc));
     assert_no_part(&rt, alloc, &store, &whole, 0, error);
     drop((store, whole));

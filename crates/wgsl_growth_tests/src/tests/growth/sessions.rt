@@ -3,9 +3,9 @@
 ghost use Rattle.wgsl_session.specs.Calls.{IsSoundCall};
 ghost use Rattle.wgsl_session.specs.View.{call_of};
 
-use crate::tests::asserts::assert_same;
+use crate::tests::asserts::{assert_same, is_memory};
 use crate::tests::samples::{array_of, pair, pair_with, text, vector, vector_of};
-use std::alloc::{AllocError, Global};
+use std::alloc::Global;
 use std::process::Abort;
 use wgsl_rules::AccessMode::ReadWrite;
 use wgsl_rules::AddressSpace::{Function, Storage};
@@ -23,35 +23,36 @@ pub(super) struct Content {
     values: Vec<Instance>,
 }
 
-fn references(alloc: Global, session: &Session) -> Result<Vec<RefInstance>, AllocError> {
-    let mut references = Vec::new(alloc);
+/// The reference of each handle. There is room for them all before the first is copied.
+fn references(rt: &impl Abort, alloc: Global, session: &Session) -> Vec<RefInstance> {
+    let mut references = answer_of!(rt; Vec::with_capacity(alloc, 32));
     for handle in 0..32 {
         if let Some(reference) = session.reference(handle) {
-            references.push(reference.clone(alloc)?)?;
+            let copy = answer_of!(rt; reference.clone(alloc));
+            references.push(copy).expect(rt, "room for it");
         }
     }
-    Ok(references)
+    references
 }
 
-fn values(alloc: Global, session: &Session) -> Result<Vec<Instance>, Error> {
-    let mut values = Vec::new(alloc);
+/// What each handle is read as. There is room for them all before the first is read.
+fn values(rt: &impl Abort, alloc: Global, session: &Session) -> Vec<Instance> {
+    let mut values = answer_of!(rt; Vec::with_capacity(alloc, 32));
     for handle in 0..32 {
         if let Some(reference) = session.reference(handle) {
-            let value = reference.read(alloc, session.store())?;
-            values.push(value).map_err(AllocError::from)?;
+            let value = answer_of!(rt; reference.read(alloc, session.store()));
+            values.push(value).expect(rt, "room for it");
         }
     }
-    Ok(values)
+    values
 }
 
 /// What the session holds. Its handles are fewer than 32, and can all be read.
 pub(super) fn held(rt: &impl Abort, alloc: Global, session: &Session) -> Content {
-    let handles = answer_of!(rt; references(alloc, session));
-    let values = answer_of!(rt; values(alloc, session));
     Content {
         cells: session.store().len(),
-        handles,
-        values,
+        handles: references(rt, alloc, session),
+        values: values(rt, alloc, session),
     }
 }
 
@@ -61,10 +62,6 @@ pub(super) fn sound(rt: &impl Abort, call: Call) -> Call
 {
     assert!(rt; call.is_sound());
     call
-}
-
-pub(super) fn is_memory(answer: &Result<Reply, Fault>) -> bool {
-    matches!(answer, Err(Fault::Of(Error::Memory)))
 }
 
 /// Makes the call, which is given twice: one that wants memory takes it, and changes nothing.
@@ -96,46 +93,59 @@ pub(super) fn value(value: Instance) -> Result<Reply, Fault> {
     Ok(Reply::Value(value))
 }
 
+/// The call that makes a cell of an array of 10u, 11u and 12u.
+fn new_array(rt: &impl Abort, alloc: Global) -> Call {
+    let elements = Instance::from(array_of(rt, alloc, &[10, 11, 12], true));
+    Call::New(elements, Storage, ReadWrite)
+}
+
 /// vec3(2u, 3u, last)
 fn three(rt: &impl Abort, alloc: Global, last: u32) -> Instance {
     Instance::from(vector_of(rt, alloc, &[2, 3, last]))
 }
 
-/// Calls that are accepted, and what each is answered.
-fn accepted(rt: &impl Abort, alloc: Global) -> [(Call, Result<Reply, Fault>); 12] {
-    let elements = Instance::from(array_of(rt, alloc, &[10, 11, 12], true));
-    [
-        (new(rt, alloc, 1), Ok(Reply::Handle(0))),
-        (Call::NewOf(0, Function, ReadWrite), Ok(Reply::Handle(1))),
-        (Call::Member(0, text(rt, alloc, "b")), Ok(Reply::Handle(2))),
-        (Call::Index(2, 2), Ok(Reply::Handle(3))),
-        (
-            Call::Replace(3, Instance::from(9u32)),
-            value(Instance::from(4u32)),
-        ),
-        (Call::Read(2), value(three(rt, alloc, 9))),
-        (Call::Write(2, three(rt, alloc, 4)), Ok(Reply::Done)),
-        (
-            Call::Load(1),
-            value(Instance::from(pair_with(rt, alloc, 1))),
-        ),
-        (
-            Call::New(elements, Storage, ReadWrite),
-            Ok(Reply::Handle(4)),
-        ),
-        (Call::Index(4, 1), Ok(Reply::Handle(5))),
-        (Call::Copy(5, 3), Ok(Reply::Done)),
-        (Call::Load(2), value(three(rt, alloc, 11))),
-    ]
+/// The accepted call of this number.
+fn accepted(rt: &impl Abort, alloc: Global, number: usize) -> Call {
+    match number {
+        0 => new(rt, alloc, 1),
+        1 => Call::NewOf(0, Function, ReadWrite),
+        2 => Call::Member(0, text(rt, alloc, "b")),
+        3 => Call::Index(2, 2),
+        4 => Call::Replace(3, Instance::from(9u32)),
+        5 => Call::Read(2),
+        6 => Call::Write(2, three(rt, alloc, 4)),
+        7 => Call::Load(1),
+        8 => new_array(rt, alloc),
+        9 => Call::Index(4, 1),
+        10 => Call::Copy(5, 3),
+        _ => Call::Load(2),
+    }
+}
+
+/// What the accepted call of this number is answered.
+fn answer(rt: &impl Abort, alloc: Global, number: usize) -> Result<Reply, Fault> {
+    match number {
+        0 => Ok(Reply::Handle(0)),
+        1 => Ok(Reply::Handle(1)),
+        2 => Ok(Reply::Handle(2)),
+        3 => Ok(Reply::Handle(3)),
+        4 => value(Instance::from(4u32)),
+        5 => value(three(rt, alloc, 9)),
+        7 => value(Instance::from(pair_with(rt, alloc, 1))),
+        8 => Ok(Reply::Handle(4)),
+        9 => Ok(Reply::Handle(5)),
+        6 | 10 => Ok(Reply::Done),
+        _ => value(three(rt, alloc, 11)),
+    }
 }
 
 #[test]
 fn an_accepted_call_wants_memory_or_is_made(rt: HostRuntime) {
     let alloc = rt.alloc();
     let mut session = Session::new(alloc);
-    let again = accepted(&rt, alloc);
-    for ((call, wanted), (again, other)) in accepted(&rt, alloc).into_iter().zip(again) {
-        drop(other);
+    for number in 0..12 {
+        let (call, again) = (accepted(&rt, alloc, number), accepted(&rt, alloc, number));
+        let wanted = answer(&rt, alloc, number);
         assert_call(&rt, alloc, &mut session, call, again, wanted);
     }
     drop(session);
@@ -172,30 +182,31 @@ fn an_accepted_copy_of_a_reference_wants_memory_or_is_made(rt: HostRuntime) {
     drop(session);
 }
 
-fn refusal(error: Error) -> Result<Reply, Fault> {
-    Err(Fault::Of(error))
+/// The refused call of this number, where handle 0 names Pair(1u, vec3(2u, 3u, 4u)) and handle 1 its vector.
+fn refused(rt: &impl Abort, alloc: Global, number: usize) -> Call {
+    match number {
+        0 => Call::Write(0, Instance::from(1u32)),
+        1 => Call::Replace(0, Instance::from(1u32)),
+        2 => Call::Copy(1, 0),
+        3 => Call::Member(0, text(rt, alloc, "c")),
+        4 => Call::Index(0, 0),
+        5 => Call::Index(1, 3),
+        6 => Call::Load(2),
+        _ => Call::NewOf(2, Function, ReadWrite),
+    }
 }
 
-/// Calls that are refused where handle 0 names Pair(1u, vec3(2u, 3u, 4u)) and handle 1 its vector, and why each is.
-fn refused(rt: &impl Abort, alloc: Global) -> [(Call, Result<Reply, Fault>); 8] {
-    let write = Error::WriteRefType(Type::U32, pair(rt, alloc));
-    let replace = Error::WriteRefType(Type::U32, pair(rt, alloc));
-    let copy = Error::WriteRefType(vector(rt, alloc, 3, Type::U32), pair(rt, alloc));
-    let member = Error::Component(pair(rt, alloc), text(rt, alloc, "c"));
-    let past = Error::OutOfBounds(3, vector(rt, alloc, 3, Type::U32), 3);
-    [
-        (Call::Write(0, Instance::from(1u32)), refusal(write)),
-        (Call::Replace(0, Instance::from(1u32)), refusal(replace)),
-        (Call::Copy(1, 0), refusal(copy)),
-        (Call::Member(0, text(rt, alloc, "c")), refusal(member)),
-        (
-            Call::Index(0, 0),
-            refusal(Error::NotIndexable(pair(rt, alloc))),
-        ),
-        (Call::Index(1, 3), refusal(past)),
-        (Call::Load(2), Err(Fault::NoHandle)),
-        (Call::NewOf(2, Function, ReadWrite), Err(Fault::NoHandle)),
-    ]
+/// Why the call of this number is refused.
+fn refusal(rt: &impl Abort, alloc: Global, number: usize) -> Fault {
+    let error = match number {
+        0 | 1 => Error::WriteRefType(Type::U32, pair(rt, alloc)),
+        2 => Error::WriteRefType(vector(rt, alloc, 3, Type::U32), pair(rt, alloc)),
+        3 => Error::Component(pair(rt, alloc), text(rt, alloc, "c")),
+        4 => Error::NotIndexable(pair(rt, alloc)),
+        5 => Error::OutOfBounds(3, vector(rt, alloc, 3, Type::U32), 3),
+        _ => return Fault::NoHandle,
+    };
+    Fault::Of(error)
 }
 
 /// A session whose handle 0 names Pair(1u, vec3(2u, 3u, 4u)), and handle 1 its vector.
@@ -212,9 +223,9 @@ fn a_refused_call_wants_memory_or_is_told_with_its_types(rt: HostRuntime) {
     let alloc = rt.alloc();
     let mut session = with_pair(&rt, alloc);
     let before = held(&rt, alloc, &session);
-    let again = refused(&rt, alloc);
-    for ((call, wanted), (again, other)) in refused(&rt, alloc).into_iter().zip(again) {
-        drop(other);
+    for number in 0..8 {
+        let (call, again) = (refused(&rt, alloc, number), refused(&rt, alloc, number));
+        let wanted = Err(refusal(&rt, alloc, number));
         assert_call(&rt, alloc, &mut session, call, again, wanted);
     }
     assert_same(&rt, held(&rt, alloc, &session), before);

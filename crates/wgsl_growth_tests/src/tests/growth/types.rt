@@ -73,50 +73,51 @@ fn types_of_types(rt: HostRuntime) {
     let pair = pair(&rt, alloc);
     assert_types(&rt, alloc, &pairs, &pairs, &pair);
     assert_types(&rt, alloc, &pair, &pair, &pair);
-    let matrix = matrix(&rt, alloc, Type::U32);
-    assert_types(&rt, alloc, &matrix, &matrix, &Type::U32);
-    drop((pairs, pair, matrix));
+    let (matrix, word) = (matrix(&rt, alloc, Type::U32), Type::U32);
+    assert_types(&rt, alloc, &matrix, &matrix, &word);
+    drop((pairs, pair, matrix, word));
 }
 
 #[test]
 fn types_of_literals_arrays_vectors_and_matrices(rt: HostRuntime) {
-    let alloc = rt.alloc();
+    let (alloc, word) = (rt.alloc(), Type::U32);
     let ty = vector(&rt, alloc, 3, Type::U32);
     let value = vector_of(&rt, alloc, &[1, 2, 3]);
-    assert_types(&rt, alloc, &value, &ty, &Type::U32);
+    assert_types(&rt, alloc, &value, &ty, &word);
     drop((ty, value));
     let ty = array(&rt, alloc, Type::U32, Some(2));
     let value = array_of(&rt, alloc, &[1, 2], false);
-    assert_types(&rt, alloc, &value, &ty, &Type::U32);
+    assert_types(&rt, alloc, &value, &ty, &word);
     drop((ty, value));
     let ty = matrix(&rt, alloc, Type::U32);
     let value = mat2x3(&rt, alloc);
-    assert_types(&rt, alloc, &value, &ty, &Type::U32);
+    assert_types(&rt, alloc, &value, &ty, &word);
     drop((ty, value));
     let literal = LiteralInstance::U32(5);
-    assert_types(&rt, alloc, &literal, &Type::U32, &Type::U32);
+    assert_types(&rt, alloc, &literal, &word, &word);
+    drop(word);
 }
 
 #[test]
 fn types_of_structures_atomics_references_and_pointers(rt: HostRuntime) {
-    let alloc = rt.alloc();
+    let (alloc, word) = (rt.alloc(), Type::U32);
     let ty = pair(&rt, alloc);
     let value = pair_with(&rt, alloc, 1);
     assert_types(&rt, alloc, &value, &ty, &ty);
     drop((ty, value));
     let ty = atomic(&rt, alloc, Type::U32);
     let value = atomic_of(&rt, alloc, 5);
-    assert_types(&rt, alloc, &value, &ty, &Type::U32);
+    assert_types(&rt, alloc, &value, &ty, &word);
     drop((ty, value));
     let ty = reference(&rt, alloc, Type::U32, ReadWrite);
     let value = reference_of(&rt, alloc);
-    assert_types(&rt, alloc, &value, &ty, &Type::U32);
+    assert_types(&rt, alloc, &value, &ty, &word);
     let pointer = PtrInstance::from(value);
     drop(ty);
     let target = made!(&rt; Box::new(alloc, Type::U32));
     let ty = Type::Ptr(Storage, target, ReadWrite);
-    assert_types(&rt, alloc, &pointer, &ty, &Type::U32);
-    drop((ty, pointer));
+    assert_types(&rt, alloc, &pointer, &ty, &word);
+    drop((ty, pointer, word));
 }
 
 /// The array type of two vectors of the type.

@@ -4,7 +4,7 @@
 ghost use Rattle.wgsl_rules.specs.Values.{IsWellFormed};
 ghost use Rattle.wgsl_values.specs.View.{value_of};
 
-use crate::tests::asserts::assert_same;
+use crate::tests::asserts::{assert_refusal, assert_same, is_of_memory};
 use crate::tests::samples::{array, array_of, at, named, pair, pair_with, storable, text};
 use std::alloc::Global;
 use std::process::Abort;
@@ -32,12 +32,13 @@ fn assert_not_viewed(
 )
     requires { IsWellFormed (value_of value.now) }
 {
-    let refusal = match value.view(alloc, view).err() {
-        Some(Error::Memory) => value.view(alloc, view).err(),
-        refusal => refusal,
+    let first = value.view(alloc, view).err();
+    let again = if is_of_memory(&first) {
+        value.view(alloc, view).err()
+    } else {
+        None
     };
-    assert!(rt; refusal.as_ref() == Some(error));
-    drop(refusal);
+    assert_refusal(rt, first, again, error);
 }
 
 /// Asserts that the view is refused, where the value is looked at and where it is to be written.
@@ -47,16 +48,17 @@ fn assert_refused(rt: &impl Abort, alloc: Global, value: Instance, view: MemView
     assert_not_viewed(rt, alloc, &value, &view, &error);
     let copy = made!(rt; value.clone(alloc));
     let mut value = value;
-    let refusal = refusal_to_write(alloc, &mut value, &view);
-    assert_eq!(rt; value, copy);
+    let first = refusal_to_write(alloc, &mut value, &view);
+    assert_same(rt, &value, &copy);
     let mut value = storable(rt, value);
-    let refusal = match refusal {
-        Some(Error::Memory) => refusal_to_write(alloc, &mut value, &view),
-        refusal => refusal,
+    let again = if is_of_memory(&first) {
+        refusal_to_write(alloc, &mut value, &view)
+    } else {
+        None
     };
-    assert_same(rt, refusal, Some(error));
+    assert_refusal(rt, first, again, &error);
     assert_same(rt, value, copy);
-    drop(view);
+    drop((view, error));
 }
 
 #[test]
