@@ -3,7 +3,7 @@
 ghost use Rattle.wgsl_session.specs.Calls.{IsSoundCall};
 ghost use Rattle.wgsl_session.specs.View.{call_of};
 
-use crate::tests::asserts::{assert_memory, assert_same};
+use crate::tests::asserts::{assert_memory, assert_same, assert_that, is_memory};
 use crate::tests::samples::{
     array, array_from, array_of, atomic_of, pair_with, reference_of, text, vector_of,
 };
@@ -14,8 +14,8 @@ use wgsl_rules::AccessMode::{ReadWrite, Write};
 use wgsl_rules::AddressSpace::Storage;
 use wgsl_rules::Type;
 use wgsl_samples::atomics::{counters, flagged};
+use wgsl_scalar::LiteralInstance;
 use wgsl_scalar::LiteralInstance::U32;
-use wgsl_scalar::{Error, LiteralInstance};
 use wgsl_session::{Call, Fault, Reply, Session};
 use wgsl_store::{References, Store};
 use wgsl_values::{AtomicInstance, Instance, MemView, RefInstance};
@@ -89,7 +89,7 @@ fn assert_reads<R: Env + Abort>(
     match reference.read(alloc, store) {
         Ok(value) => assert_same(rt, value, wanted),
         Err(error) => {
-            assert!(rt; are_refused(rt));
+            assert_that(rt, are_refused(rt));
             assert_memory(rt, error);
             drop(wanted);
         }
@@ -109,15 +109,15 @@ fn accepted_writes_and_tests_of_references(rt: HostRuntime) {
     let next = Instance::from(vector_of(&rt, alloc, &[7, 8, 9]));
     let held = Instance::from(reference_of(&rt, alloc));
     let wanted = Instance::from(vector_of(&rt, alloc, &[7, 8, 5]));
-    assert_eq!(rt; store.len(), 2);
+    assert_same(&rt, store.len(), 2);
     assert!(rt; !store.holds_value(&held));
     assert_written(&rt, alloc, &mut store, &whole, next);
     assert_written(&rt, alloc, &mut store, &component, Instance::from(5u32));
     assert_written(&rt, alloc, &mut store, &element, Instance::from(6u32));
     assert!(rt; store.holds(&component));
-    assert!(rt; component.names_component(&store));
+    assert_that(&rt, component.names_component(&store));
     assert!(rt; store.holds(&element));
-    assert!(rt; !element.names_component(&store));
+    assert_that(&rt, !element.names_component(&store));
     assert_reads(&rt, alloc, &store, &whole, wanted);
     assert_reads(&rt, alloc, &store, &element, Instance::from(6u32));
     drop((store, whole, component));
@@ -157,7 +157,7 @@ fn assert_number(
     number: Option<LiteralInstance>,
 ) {
     assert!(rt; store.holds(reference));
-    assert_eq!(rt; reference.atomic_number(store), number);
+    assert_same(rt, reference.atomic_number(store), number);
 }
 
 #[test]
@@ -192,7 +192,7 @@ fn the_number_of_an_atomic_in_a_cell_that_is_no_bytes(rt: HostRuntime) {
 /// Asserts how many elements the array has that the reference names; none where it names no array.
 fn assert_counts(rt: &impl Abort, store: &Store, reference: &RefInstance, wanted: Option<usize>) {
     assert!(rt; store.holds(reference));
-    assert_eq!(rt; store.element_count(reference), wanted);
+    assert_same(rt, store.element_count(reference), wanted);
 }
 
 #[test]
@@ -333,36 +333,48 @@ fn sound(rt: &impl Abort, call: Call) -> Call
     call
 }
 
+/// Makes a cell or a handle of the session, with memory.
+fn make(rt: &impl Abort, session: &mut Session, call: Call) {
+    drop(made!(rt; session.call(sound(rt, call))));
+}
+
+/// Asserts that the call is carried out, and answers nothing.
+fn assert_done(rt: &impl Abort, session: &mut Session, call: Call) {
+    assert_same(rt, session.call(sound(rt, call)), Ok(Reply::Done));
+}
+
+/// Asserts what the handle is read as; where growths are refused there may be no memory for that.
+fn assert_read<R: Env + Abort>(rt: &R, session: &mut Session, handle: usize, wanted: Instance) {
+    let answer = session.call(sound(rt, Call::Read(handle)));
+    if is_memory(&answer) {
+        assert_that(rt, are_refused(rt));
+        drop((answer, wanted));
+    } else {
+        assert_same(rt, answer, Ok(Reply::Value(wanted)));
+    }
+}
+
 #[test]
 fn an_accepted_write_of_a_session(rt: HostRuntime) {
     let alloc = rt.alloc();
     let mut session = Session::new(alloc);
     let pair = Instance::from(pair_with(&rt, alloc, 1));
-    let made = sound(&rt, Call::New(pair, Storage, ReadWrite));
-    drop(made!(&rt; session.call(made)));
-    let member = sound(&rt, Call::Member(0, text(&rt, alloc, "a")));
-    drop(made!(&rt; session.call(member)));
+    make(&rt, &mut session, Call::New(pair, Storage, ReadWrite));
+    let member = Call::Member(0, text(&rt, alloc, "a"));
+    make(&rt, &mut session, member);
     let next = Instance::from(pair_with(&rt, alloc, 9));
     let held = Call::Write(0, Instance::from(reference_of(&rt, alloc)));
     let wanted = Instance::from(pair_with(&rt, alloc, 8));
-    let written = session.call(sound(&rt, Call::Write(0, next)));
-    assert_same(&rt, written, Ok(Reply::Done));
+    assert_done(&rt, &mut session, Call::Write(0, next));
     let eight = Call::Write(1, Instance::from(8u32));
-    let written = session.call(sound(&rt, eight));
-    assert_same(&rt, written, Ok(Reply::Done));
+    assert_done(&rt, &mut session, eight);
     let missing = session.call(sound(&rt, Call::Read(2)));
     assert_same(&rt, missing, Err(Fault::NoHandle));
     assert!(rt; !held.is_sound());
-    assert_eq!(rt; session.store().len(), 1);
-    assert!(rt; session.reference(1).is_some());
-    assert!(rt; session.reference(2).is_none());
-    match session.call(sound(&rt, Call::Read(0))) {
-        Err(Fault::Of(Error::Memory)) => {
-            assert!(rt; are_refused(&rt));
-            drop(wanted);
-        }
-        answer => assert_same(&rt, answer, Ok(Reply::Value(wanted))),
-    }
+    assert_same(&rt, session.store().len(), 1);
+    assert_that(&rt, session.reference(1).is_some());
+    assert_that(&rt, session.reference(2).is_none());
+    assert_read(&rt, &mut session, 0, wanted);
     drop((session, held));
 }
 
@@ -372,17 +384,12 @@ fn an_accepted_copy_of_a_session(rt: HostRuntime) {
     let mut session = Session::new(alloc);
     for components in [[1, 2, 3], [7, 8, 9]] {
         let vector = Instance::from(vector_of(&rt, alloc, &components));
-        let made = sound(&rt, Call::New(vector, Storage, ReadWrite));
-        drop(made!(&rt; session.call(made)));
+        make(&rt, &mut session, Call::New(vector, Storage, ReadWrite));
     }
-    let index = sound(&rt, Call::Index(0, 2));
-    drop(made!(&rt; session.call(index)));
-    let index = sound(&rt, Call::Index(1, 0));
-    drop(made!(&rt; session.call(index)));
-    let copied = session.call(sound(&rt, Call::Copy(3, 2)));
-    assert_same(&rt, copied, Ok(Reply::Done));
-    let copied = session.call(sound(&rt, Call::Copy(0, 1)));
-    assert_same(&rt, copied, Ok(Reply::Done));
+    make(&rt, &mut session, Call::Index(0, 2));
+    make(&rt, &mut session, Call::Index(1, 0));
+    assert_done(&rt, &mut session, Call::Copy(3, 2));
+    assert_done(&rt, &mut session, Call::Copy(0, 1));
     let words = [1, 0, 0, 0, 2, 0, 0, 0, 7, 0, 0, 0];
     let whole = session.reference(1).expect(&rt, "a handle");
     assert_lends(&rt, session.store(), whole, Some(words.as_slice()));

@@ -1,5 +1,6 @@
 //! What a layout answers without memory: lengths, ranges, and writes into bytes of the caller's.
 
+use crate::tests::asserts::assert_same;
 use crate::tests::samples::{array, array_of, at, pair, storable, text};
 use std::alloc::Global;
 use std::process::Abort;
@@ -31,19 +32,18 @@ fn ranges_and_writes_of_a_structure(rt: HostRuntime) {
         storable(&rt, Instance::from(true)),
     );
     let mut bytes = [0xff; 32];
-    assert!(rt; layout.ty() == &ty);
-    assert_eq!(rt; layout.size(), Some(32));
-    assert_eq!(rt; layout.size_with(3), Some(32));
-    assert_eq!(rt; layout.count_in(32), Some(0));
+    assert_same(&rt, layout.ty(), &ty);
+    let sizes = [layout.size(), layout.size_with(3), layout.count_in(32)];
+    assert_same(&rt, sizes, [Some(32), Some(32), Some(0)]);
     let range = layout.range(32, &view);
-    assert_eq!(rt; range.map(|r| (r.start, r.end)), Ok((20, 24)));
-    assert_eq!(rt; layout.range(32, &nowhere), Err(NoPart));
-    assert_eq!(rt; layout.range(31, &view), Err(TooFewBytes));
-    assert_eq!(rt; layout.write(&mut bytes, &view, &truth), Err(OtherType));
-    assert_eq!(rt; layout.write(&mut bytes, &view, &seven), Ok(()));
+    assert_same(&rt, range.map(|r| (r.start, r.end)), Ok((20, 24)));
+    assert_same(&rt, layout.range(32, &nowhere), Err(NoPart));
+    assert_same(&rt, layout.range(31, &view), Err(TooFewBytes));
+    assert_same(&rt, layout.write(&mut bytes, &view, &truth), Err(OtherType));
+    assert_same(&rt, layout.write(&mut bytes, &view, &seven), Ok(()));
     let mut wanted = [0xff; 32];
     wanted[20..24].copy_from_slice(&[7, 0, 0, 0]);
-    assert_eq!(rt; bytes, wanted);
+    assert_same(&rt, bytes, wanted);
     drop((ty, layout, view));
     drop((nowhere, seven, truth));
 }
@@ -56,16 +56,17 @@ fn lengths_of_a_runtime_sized_array(rt: HostRuntime) {
     let three = array_of(&rt, alloc, &[1, 2, 3], true);
     let three = storable(&rt, Instance::from(three));
     let mut bytes = [0xff; 13];
-    assert_eq!(rt; layout.size(), None);
-    assert_eq!(rt; layout.size_with(3), Some(12));
-    assert_eq!(rt; layout.count_in(13), Some(3));
-    assert_eq!(rt; layout.count_in(3), None);
+    let sizes = [layout.size(), layout.size_with(3)];
+    assert_same(&rt, sizes, [None, Some(12)]);
+    let counts = [layout.count_in(13), layout.count_in(3)];
+    assert_same(&rt, counts, [Some(3), None]);
     let whole = MemView::Whole;
-    assert_eq!(rt;
+    assert_same(
+        &rt,
         layout.write(&mut bytes[..11], &whole, &three),
-        Err(OtherLength)
+        Err(OtherLength),
     );
-    assert_eq!(rt; layout.write(&mut bytes, &whole, &three), Ok(()));
-    assert_eq!(rt; bytes, [1, 0, 0, 0, 2, 0, 0, 0, 3, 0, 0, 0, 255]);
+    assert_same(&rt, layout.write(&mut bytes, &whole, &three), Ok(()));
+    assert_same(&rt, bytes, [1, 0, 0, 0, 2, 0, 0, 0, 3, 0, 0, 0, 255]);
     drop((ty, layout, three));
 }

@@ -1,5 +1,6 @@
 //! Where the parts of types stand, what the uniform address space asks, and what measures of parts give.
 
+use crate::tests::asserts::{assert_same, assert_that};
 use crate::tests::samples::{array, atomic, matrix, member, pair, pair_type, two_members, vector};
 use std::alloc::Global;
 use std::process::Abort;
@@ -22,18 +23,24 @@ fn strides_and_bindings(rt: HostRuntime) {
     let threes = array(&rt, alloc, vector(&rt, alloc, 3, Type::U32), None);
     let (matrix, endless) = (matrix(&rt, alloc, Type::U32), endless(&rt, alloc));
     let whole = Type::Struct(made!(&rt; Box::new(alloc, self::endless(&rt, alloc))));
-    assert_eq!(rt; threes.stride(), Some(16));
-    assert_eq!(rt; matrix.stride(), Some(16));
-    assert_eq!(rt; Type::U32.stride(), None);
-    assert_eq!(rt; threes.size_with(3), Some(48));
-    assert_eq!(rt; threes.least_binding(), Some(16));
-    assert_eq!(rt; endless.size_with(3), Some(16));
-    assert_eq!(rt; endless.least_binding(), Some(8));
-    assert_eq!(rt; whole.size_with(3), Some(16));
-    assert_eq!(rt; whole.least_binding(), Some(8));
-    assert_eq!(rt; (Read.is_read(), Read.is_write()), (true, false));
-    assert_eq!(rt; (Write.is_read(), Write.is_write()), (false, true));
-    assert_eq!(rt; (ReadWrite.is_read(), ReadWrite.is_write()), (true, true));
+    let strides = [threes.stride(), matrix.stride(), Type::U32.stride()];
+    assert_same(&rt, strides, [Some(16), Some(16), None]);
+    let sizes = [
+        threes.size_with(3),
+        endless.size_with(3),
+        whole.size_with(3),
+    ];
+    assert_same(&rt, sizes, [Some(48), Some(16), Some(16)]);
+    let bindings = [
+        threes.least_binding(),
+        endless.least_binding(),
+        whole.least_binding(),
+    ];
+    assert_same(&rt, bindings, [Some(16), Some(8), Some(8)]);
+    let reads = [Read.is_read(), Write.is_read(), ReadWrite.is_read()];
+    assert_same(&rt, reads, [true, false, true]);
+    let writes = [Read.is_write(), Write.is_write(), ReadWrite.is_write()];
+    assert_same(&rt, writes, [false, true, true]);
     drop((threes, matrix, endless));
     drop(whole);
 }
@@ -59,8 +66,8 @@ fn rules_of_the_uniform_address_space(rt: HostRuntime) {
         ),
     ];
     for (ty, rule, align) in &rows {
-        assert_eq!(rt; ty.uniform_rule(), *rule);
-        assert_eq!(rt; ty.required_align(), *align);
+        assert_same(&rt, ty.uniform_rule(), *rule);
+        assert_same(&rt, ty.required_align(), *align);
     }
     drop(rows);
 }
@@ -71,15 +78,15 @@ fn measures_of_parts_and_of_the_whole(rt: HostRuntime) {
     let (three, structure) = (vector(&rt, alloc, 3, Type::U32), pair_type(&rt, alloc));
     let same = pair_type(&rt, alloc);
     let (word, vector) = (Type::U32.measures(), three.measures());
-    assert_eq!(rt; vector.stride(), Some(16));
-    assert_eq!(rt; vector.of_array(Some(5)).size, Some(80));
-    assert_eq!(rt; word.of_member(Some(8), Some(16)).size, Some(8));
+    assert_same(&rt, vector.stride(), Some(16));
+    assert_same(&rt, vector.of_array(Some(5)).size, Some(80));
+    assert_same(&rt, word.of_member(Some(8), Some(16)).size, Some(8));
     let first = MemberMeasures::NONE.with(word.of_member(None, None));
-    assert_eq!(rt; first.offset_of(vector), Some(16));
+    assert_same(&rt, first.offset_of(vector), Some(16));
     let both = first.with(vector.of_member(None, None));
-    assert!(rt; both.have_layout());
-    assert_eq!(rt; both.of_struct().size, Some(32));
-    assert!(rt; structure == same);
-    assert_eq!(rt; structure.members.len(), 2);
+    assert_that(&rt, both.have_layout());
+    assert_same(&rt, both.of_struct().size, Some(32));
+    assert_same(&rt, &structure, &same);
+    assert_same(&rt, structure.members.len(), 2);
     drop((three, structure, same));
 }

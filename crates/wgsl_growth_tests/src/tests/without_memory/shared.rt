@@ -3,7 +3,7 @@
 ghost use Rattle.wgsl_rules.specs.Values.{IsStorable};
 ghost use Rattle.wgsl_values.specs.View.{struct_view};
 
-use crate::tests::asserts::assert_same;
+use crate::tests::asserts::{assert_same, assert_that};
 use crate::tests::samples::{member, numbers, pair_type, pair_with, two_members, vector_of};
 use std::alloc::Global;
 use std::process::Abort;
@@ -37,9 +37,9 @@ fn of_shared(rt: &impl Abort, ty: SharedStructType, members: Vec<Instance>) -> S
 
 /// Asserts that it is the type, and not the other one.
 fn assert_is_type(rt: &impl Abort, shared: &SharedStructType, ty: &StructType, other: &StructType) {
-    assert!(rt; shared.get() == ty);
-    assert!(rt; shared.is_type(ty));
-    assert!(rt; !shared.is_type(other));
+    assert_same(rt, shared.get(), ty);
+    assert_that(rt, shared.is_type(ty));
+    assert_that(rt, !shared.is_type(other));
 }
 
 /// The same type for another value. The condition: values share it.
@@ -92,6 +92,6 @@ fn a_structure_of_a_type_of_its_own(rt: HostRuntime) {
     let (ty, members) = (pair_type(&rt, alloc), members_with(&rt, alloc, 1));
     let wanted = pair_with(&rt, alloc, 1);
     let value = of_shared(&rt, SharedStructType::own(ty), members);
-    assert!(rt; value.shared_ty().is_type(wanted.struct_ty()));
+    assert_that(&rt, value.shared_ty().is_type(wanted.struct_ty()));
     assert_same(&rt, value, wanted);
 }

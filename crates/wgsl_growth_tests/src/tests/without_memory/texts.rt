@@ -1,6 +1,6 @@
 //! Texts, written to what takes no memory, and whether values of the other sorts are equal.
 
-use crate::tests::asserts::assert_same;
+use crate::tests::asserts::{assert_same, assert_that};
 use crate::tests::samples::{
     array, array_of, atomic_of, mat2x3, named, pair, pair_type, pair_with, reference_of, text,
     vector as vector_type, vector_of,
@@ -40,8 +40,8 @@ impl Write for Wanted<'_> {
 fn assert_text<T: Display>(rt: &impl Abort, value: &T, wanted: &str) {
     let mut wanted = Wanted { rest: wanted };
     let written = write!(wanted, "{value}");
-    assert!(rt; written.is_ok());
-    assert_eq!(rt; wanted.rest, "");
+    assert_that(rt, written.is_ok());
+    assert_same(rt, wanted.rest, "");
 }
 
 #[test]
@@ -59,8 +59,8 @@ fn texts_of_types_and_words(rt: HostRuntime) {
     assert_text(&rt, &BinaryOperator::Addition, "+");
     assert_text(&rt, &UnaryOperator::Negation, "-");
     assert_text(&rt, &I32(-5), "-5i");
-    assert_eq!(rt; BuiltinName::ExtractBits.as_str(), "extractBits");
-    assert!(rt; !BuiltinReason::NotBool.as_str().is_empty());
+    assert_same(&rt, BuiltinName::ExtractBits.as_str(), "extractBits");
+    assert_that(&rt, !BuiltinReason::NotBool.as_str().is_empty());
     drop((pair, pointer));
 }
 
@@ -112,14 +112,14 @@ fn signatures(rt: HostRuntime) {
     };
     assert_text(&rt, &signature, "f<f32, 4>(u32)");
     assert_text(&rt, &other, "f(u32)");
-    assert!(rt; signature == signature);
-    assert!(rt; signature != other);
+    assert_same(&rt, &signature, &signature);
+    assert_that(&rt, signature != other);
     drop((signature, other));
 }
 
 #[test]
 fn each_sort_is_compared_and_has_its_type(rt: HostRuntime) {
-    let alloc = rt.alloc();
+    let (alloc, word, number) = (rt.alloc(), Type::U32, Type::I32);
     let (pair, one) = (pair_with(&rt, alloc, 1), pair_with(&rt, alloc, 1));
     let ty = Type::Struct(made!(&rt; Box::new(alloc, pair_type(&rt, alloc))));
     let (matrix, same) = (mat2x3(&rt, alloc), mat2x3(&rt, alloc));
@@ -128,21 +128,22 @@ fn each_sort_is_compared_and_has_its_type(rt: HostRuntime) {
         reference_of(&rt, alloc),
         PtrInstance::from(reference_of(&rt, alloc)),
     );
-    assert!(rt; pair == one);
-    assert!(rt; pair.has_ty(&ty));
-    assert!(rt; matrix == same);
-    assert!(rt; !matrix.has_ty(&ty));
-    assert!(rt; atomic != six);
-    assert!(rt; !atomic.has_ty(&Type::U32));
-    assert!(rt; !reference.has_ty(&Type::U32));
-    assert!(rt; &reference == pointer.ptr());
-    assert!(rt; pointer == pointer);
-    assert!(rt; !pointer.has_ty(&Type::U32));
+    assert_same(&rt, &pair, &one);
+    assert_that(&rt, pair.has_ty(&ty));
+    assert_same(&rt, &matrix, &same);
+    assert_that(&rt, !matrix.has_ty(&ty));
+    assert_that(&rt, atomic != six);
+    assert_that(&rt, !atomic.has_ty(&word));
+    assert_that(&rt, !reference.has_ty(&word));
+    assert_same(&rt, &reference, pointer.ptr());
+    assert_same(&rt, &pointer, &pointer);
+    assert_that(&rt, !pointer.has_ty(&word));
     assert_text(&rt, &pointer, "ptr<storage, u32, read_write>");
-    assert!(rt; I32(5).has_ty(&Type::I32));
+    assert_that(&rt, I32(5).has_ty(&number));
     drop((pair, one, ty));
     drop((matrix, same, atomic));
     drop((six, reference, pointer));
+    drop((word, number));
 }
 
 #[test]
@@ -156,12 +157,12 @@ fn lists_are_compared_and_have_their_types(rt: HostRuntime) {
         array(&rt, alloc, Type::U32, Some(2)),
         vector_type(&rt, alloc, 2, Type::U32),
     );
-    assert!(rt; list == list);
-    assert!(rt; vector == vector);
-    assert!(rt; list.has_ty(&elements));
-    assert!(rt; !list.has_ty(&components));
-    assert!(rt; vector.has_ty(&components));
-    assert!(rt; !vector.has_ty(&elements));
+    assert_same(&rt, &list, &list);
+    assert_same(&rt, &vector, &vector);
+    assert_that(&rt, list.has_ty(&elements));
+    assert_that(&rt, !list.has_ty(&components));
+    assert_that(&rt, vector.has_ty(&components));
+    assert_that(&rt, !vector.has_ty(&elements));
     assert_text(&rt, &list, "array(1u, 2u)");
     assert_text(&rt, &vector, "vec2(1u, 2u)");
     drop((list, vector));
@@ -174,11 +175,12 @@ fn a_value_is_put_in_its_place(rt: HostRuntime) {
     let mut pair = Instance::from(pair_with(&rt, alloc, 1));
     let (view, same) = (named(&rt, alloc, "a"), named(&rt, alloc, "a"));
     let wanted = Instance::from(pair_with(&rt, alloc, 9));
-    assert!(rt; view == same);
-    assert!(rt; view != MemView::Whole);
+    let whole = MemView::Whole;
+    assert_same(&rt, &view, &same);
+    assert_that(&rt, view != whole);
     Instance::from(9u32).place(&mut pair, &view);
     assert_same(&rt, pair, wanted);
-    drop((view, same));
+    drop((view, same, whole));
 }
 
 #[test]

@@ -1,6 +1,6 @@
 //! Sizes, layouts, ranks and parts of types.
 
-use crate::tests::asserts::{assert_has, assert_is, assert_same};
+use crate::tests::asserts::{assert_has, assert_is, assert_same, assert_that};
 use crate::tests::samples::{array, atomic, matrix, pair, pair_type, reference, vector};
 use std::alloc::Global;
 use std::process::Abort;
@@ -43,40 +43,40 @@ fn rows(rt: &impl Abort, alloc: Global) -> [Row; 7] {
 fn sizes_and_layouts(rt: HostRuntime) {
     let alloc = rt.alloc();
     let rows = rows(&rt, alloc);
-    let structure = pair_type(&rt, alloc);
+    let (structure, truth) = (pair_type(&rt, alloc), Type::Bool);
     for (ty, size, least, align, has_layout) in &rows {
-        assert_eq!(rt; ty.size_of(), *size);
-        assert_eq!(rt; ty.min_size_of(), *least);
-        assert_eq!(rt; ty.align_of(), *align);
-        assert_eq!(rt; ty.has_layout(), *has_layout);
-        assert_eq!(rt; ty.measures().size, *size);
-        assert!(rt; ty.has_ty(ty));
-        assert!(rt; !ty.has_ty(&Type::Bool));
+        let sizes = [ty.size_of(), ty.measures().size, ty.min_size_of()];
+        assert_same(&rt, sizes, [*size, *size, *least]);
+        assert_same(&rt, ty.align_of(), *align);
+        let tests = [ty.has_layout(), ty.has_ty(ty), ty.has_ty(&truth)];
+        assert_same(&rt, tests, [*has_layout, true, false]);
     }
-    assert_eq!(rt; structure.size_of(), Some(32));
-    assert_eq!(rt; structure.align_of(), Some(16));
-    assert!(rt; structure.is_convertible_to(&rows[0].0));
-    assert!(rt; !structure.is_convertible_to(&rows[1].0));
-    drop((rows, structure));
+    assert_same(&rt, structure.size_of(), Some(32));
+    assert_same(&rt, structure.align_of(), Some(16));
+    assert_that(&rt, structure.is_convertible_to(&rows[0].0));
+    assert_that(&rt, !structure.is_convertible_to(&rows[1].0));
+    drop((rows, structure, truth));
 }
 
 #[test]
 fn ranks_and_common_types(rt: HostRuntime) {
     let alloc = rt.alloc();
+    let word = Type::U32;
     let types = [
         array(&rt, alloc, vector(&rt, alloc, 2, Type::AbstractInt), None),
         array(&rt, alloc, vector(&rt, alloc, 2, Type::U32), None),
     ];
-    assert_eq!(rt; conversion_rank(&types[0], &types[1]), Some(4));
-    assert_eq!(rt; conversion_rank(&types[1], &types[0]), None);
-    assert!(rt; types[0].is_convertible_to(&types[1]));
-    assert!(rt; !types[1].is_convertible_to(&types[0]));
-    assert!(rt; convert_ty(&types[0], &types[1]) == Some(&types[1]));
-    assert!(rt; convert_ty(&types[1], &types[0]) == Some(&types[1]));
-    assert!(rt; convert_ty(&types[0], &Type::U32).is_none());
-    assert!(rt; convert_all_ty(&types) == Some(&types[1]));
-    assert!(rt; convert_all_ty(&[]).is_none());
-    drop(types);
+    let [numbers, words] = &types;
+    assert_same(&rt, conversion_rank(numbers, words), Some(4));
+    assert_same(&rt, conversion_rank(words, numbers), None);
+    assert_that(&rt, numbers.is_convertible_to(words));
+    assert_that(&rt, !words.is_convertible_to(numbers));
+    assert_same(&rt, convert_ty(numbers, words), Some(words));
+    assert_same(&rt, convert_ty(words, numbers), Some(words));
+    assert_same(&rt, convert_ty(numbers, &word), None);
+    assert_same(&rt, convert_all_ty(&types), Some(words));
+    assert_same(&rt, convert_all_ty(&[]), None);
+    drop((types, word));
 }
 
 #[test]
@@ -86,21 +86,27 @@ fn parts_of_types(rt: HostRuntime) {
     let (two, structure) = (pair(&rt, alloc), pair_type(&rt, alloc));
     let target = made!(&rt; Box::new(alloc, Type::I32));
     let pointer = Type::Ptr(Storage, target, Write);
-    assert_has(&rt, rows[0].0.as_struct(), structure);
-    assert!(rt; rows[1].0.as_array() == Some((&two, Some(5))));
-    assert!(rt;
-        rows[2]
-            .0
-            .as_array()
-            .is_some_and(|(_, count)| count.is_none())
-    );
-    assert!(rt; rows[3].0.as_vec() == Some((2, &Type::Bool)));
-    assert!(rt; rows[4].0.as_mat() == Some((2, 3, &Type::U32)));
-    assert!(rt; rows[5].0.as_atomic() == Some(&Type::U32));
-    assert!(rt; rows[6].0.as_reference() == Some((Storage, &Type::U32, Read)));
-    assert!(rt; pointer.as_ptr() == Some((Storage, &Type::I32, Write)));
-    assert!(rt; rows[1].0.inner() == &two);
-    assert!(rt; two.as_vec().is_none());
+    let (word, truth, number) = (Type::U32, Type::Bool, Type::I32);
+    let [
+        (record, ..),
+        (five, ..),
+        (threes, ..),
+        (truths, ..),
+        (grid, ..),
+        (atom, ..),
+        (reads, ..),
+    ] = &rows;
+    assert_has(&rt, record.as_struct(), structure);
+    assert_same(&rt, five.as_array(), Some((&two, Some(5))));
+    assert_that(&rt, matches!(threes.as_array(), Some((_, None))));
+    assert_same(&rt, truths.as_vec(), Some((2, &truth)));
+    assert_same(&rt, grid.as_mat(), Some((2, 3, &word)));
+    assert_same(&rt, atom.as_atomic(), Some(&word));
+    assert_same(&rt, reads.as_reference(), Some((Storage, &word, Read)));
+    assert_same(&rt, pointer.as_ptr(), Some((Storage, &number, Write)));
+    assert_same(&rt, five.inner(), &two);
+    assert_that(&rt, two.as_vec().is_none());
+    drop((word, truth, number));
     drop((rows, two, pointer));
 }
 

@@ -1,12 +1,15 @@
 //! How values are made of others, and the tests of values.
 
-use crate::tests::asserts::{assert_is, assert_same};
+ghost use Rattle.wgsl_rules.specs.Values.{IsWellFormed};
+ghost use Rattle.wgsl_values.specs.View.{value_of};
+
+use crate::tests::asserts::{assert_is, assert_same, assert_that};
 use crate::tests::samples::{
     abstract_vector, array, array_of, atomic, atomic_of, mat2x3, matrix, numbers, pair, pair_type,
     pair_with, reference_of, storable, vector, vector_of,
 };
+use crate::tests::without_memory::parts::replace;
 use std::alloc::Global;
-use std::mem;
 use std::process::Abort;
 use wgsl_rules::{AccessMode, AddressSpace, Ty, Type};
 use wgsl_samples::values::member_then_index;
@@ -52,7 +55,9 @@ fn matrices_and_references_are_made(rt: HostRuntime) {
     );
     assert!(rt; MatInstance::can_make(&columns));
     assert_is(&rt, MatInstance::from_cols(columns), &matrix);
-    assert!(rt; AtomicInstance::can_make(&Instance::from(5i32)));
+    let five = Instance::from(5i32);
+    assert_that(&rt, AtomicInstance::can_make(&five));
+    drop(five);
     let made = RefInstance::from_parts(
         7,
         view,
@@ -62,6 +67,26 @@ fn matrices_and_references_are_made(rt: HostRuntime) {
     );
     assert_is(&rt, RefInstance::from(PtrInstance::from(made)), &reference);
     drop((matrix, reference));
+}
+
+/// Asserts whether the value has the type.
+fn assert_typed(rt: &impl Abort, value: Instance, ty: Type, has_ty: bool)
+    requires { IsWellFormed (value_of value) }
+{
+    assert_same(rt, value.has_ty(&ty), has_ty);
+    drop((value, ty));
+}
+
+/// Asserts whether the value can be stored.
+fn assert_stored(rt: &impl Abort, value: Instance, is_storable: bool) {
+    assert_same(rt, value.is_storable(), is_storable);
+    drop(value);
+}
+
+/// Asserts that the value is well-formed.
+fn assert_formed(rt: &impl Abort, value: Instance) {
+    assert_that(rt, value.is_well_formed());
+    drop(value);
 }
 
 #[test]
@@ -74,18 +99,18 @@ fn each_sort_becomes_a_value(rt: HostRuntime) {
     let (two, matrix) = (vector_of(&rt, alloc, &[1, 2]), mat2x3(&rt, alloc));
     let (five, reference) = (atomic_of(&rt, alloc, 5), reference_of(&rt, alloc));
     let pointer = PtrInstance::from(reference_of(&rt, alloc));
-    assert_same(&rt, Instance::from(pair).has_ty(&Type::U32), false);
-    assert_same(&rt, Instance::from(list).has_ty(&Type::U32), false);
-    assert_same(&rt, Instance::from(two).is_storable(), true);
-    assert_same(&rt, Instance::from(matrix).is_storable(), true);
-    assert_same(&rt, Instance::from(five).is_storable(), true);
-    assert_same(&rt, Instance::from(reference).is_well_formed(), true);
-    assert_same(&rt, Instance::from(pointer).is_well_formed(), true);
+    assert_typed(&rt, Instance::from(pair), Type::U32, false);
+    assert_typed(&rt, Instance::from(list), Type::U32, false);
+    assert_stored(&rt, Instance::from(two), true);
+    assert_stored(&rt, Instance::from(matrix), true);
+    assert_stored(&rt, Instance::from(five), true);
+    assert_formed(&rt, Instance::from(reference));
+    assert_formed(&rt, Instance::from(pointer));
     assert_same(&rt, Instance::from(U32(7)), Instance::from(7u32));
-    assert_same(&rt, Instance::from(true).has_ty(&Type::Bool), true);
-    assert_same(&rt, Instance::from(-7i64).has_ty(&Type::AbstractInt), true);
-    assert_same(&rt, Instance::from(-7i32).has_ty(&Type::I32), true);
-    assert_same(&rt, Instance::from(Type::U32).is_storable(), false);
+    assert_typed(&rt, Instance::from(true), Type::Bool, true);
+    assert_typed(&rt, Instance::from(-7i64), Type::AbstractInt, true);
+    assert_typed(&rt, Instance::from(-7i32), Type::I32, true);
+    assert_stored(&rt, Instance::from(Type::U32), false);
 }
 
 /// Values, the type of each, and whether it converts to a vector of two i32.
@@ -123,9 +148,9 @@ fn values_are_tested(rt: HostRuntime) {
     for (value, ty, converts) in &rows {
         assert!(rt; value.is_storable());
         assert!(rt; value.is_well_formed());
-        assert!(rt; value.has_ty(ty));
-        assert!(rt; !value.has_ty(&target));
-        assert_eq!(rt; value.is_convertible_to(&target), *converts);
+        assert_that(&rt, value.has_ty(ty));
+        assert_that(&rt, !value.has_ty(&target));
+        assert_same(&rt, value.is_convertible_to(&target), *converts);
     }
     assert!(rt; deferred.is_well_formed());
     assert!(rt; !deferred.is_storable());
@@ -141,12 +166,10 @@ fn payloads_are_taken_out(rt: HostRuntime) {
     );
     let mut value = Instance::Vec(vector_of(&rt, alloc, &[1, 2]));
     let seven = Instance::Literal(U32(7));
-    assert_eq!(rt; seven.unwrap_literal_ref(), &U32(7));
-    assert_eq!(rt; seven.unwrap_literal(), U32(7));
-    assert!(rt; value.unwrap_vec_ref() == &first);
-    if let Some(second) = value.unwrap_vec_mut().get_mut(1) {
-        drop(mem::replace(second, Instance::from(9u32)));
-    }
+    assert_same(&rt, seven.unwrap_literal_ref(), &U32(7));
+    assert_same(&rt, seven.unwrap_literal(), U32(7));
+    assert_same(&rt, value.unwrap_vec_ref(), &first);
+    replace(value.unwrap_vec_mut().get_mut(1), Instance::from(9u32));
     let wanted = Instance::Vec(last);
     assert_same(&rt, value, wanted);
     drop(first);
