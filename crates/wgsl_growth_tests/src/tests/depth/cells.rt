@@ -1,7 +1,7 @@
 //! Calls on references to cells that hold arrays of one element in each other: cells of bytes, and cells of what has no
 //! layout.
 
-use crate::tests::asserts::assert_same;
+use crate::tests::asserts::{assert_same, assert_that};
 use crate::tests::depth::{arrays, first_parts, in_arrays, levels, nested};
 use std::alloc::Global;
 use std::process::Abort;
@@ -176,8 +176,8 @@ fn what_is_told_of_a_cell(rt: HostRuntime) {
     let value = in_arrays(&rt, alloc, depth, Instance::from(1u32));
     let whole = cell_with(&rt, alloc, &mut store, value);
     assert!(rt; store.holds(&whole));
-    assert!(rt; !whole.names_component(&store));
-    assert_eq!(rt; store.element_count(&whole), Some(1));
+    assert_that(&rt, !whole.names_component(&store));
+    assert_same(&rt, store.element_count(&whole), Some(1));
     let bytes = [1u8, 0, 0, 0];
     assert_same(&rt, store.read_bytes(&whole), Ok(Some(bytes.as_slice())));
     let shown = made!(&rt; whole.show(alloc, &store));

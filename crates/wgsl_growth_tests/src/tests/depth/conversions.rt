@@ -1,6 +1,6 @@
 //! Conversions of values: arrays of one element in each other.
 
-use crate::tests::asserts::{assert_answer, assert_is, assert_same};
+use crate::tests::asserts::{assert_answer, assert_is, assert_same, assert_that};
 use crate::tests::depth::{array_around, arrays, in_arrays, levels};
 use std::alloc::Global;
 use std::process::Abort;
@@ -17,7 +17,7 @@ fn values_convert_to_types(rt: HostRuntime) {
     let ty = arrays(&rt, alloc, depth, Type::U32);
     let inner = arrays(&rt, alloc, depth.saturating_sub(1), Type::U32);
     let wanted = in_arrays(&rt, alloc, depth, Instance::from(1u32));
-    assert!(rt; value.is_convertible_to(&ty));
+    assert_that(&rt, value.is_convertible_to(&ty));
     let answer = made!(&rt; value.convert_to(alloc, &ty));
     assert_answer(&rt, answer, Some(&wanted));
     let answer = made!(&rt; value.convert_inner_to(alloc, &inner));
@@ -69,7 +69,7 @@ fn two_values_convert_to_their_common_type(rt: HostRuntime) {
 fn assert_only(rt: &impl Abort, list: Option<Vec<Instance>>, value: &Instance) {
     let mut list = list.expect(rt, "a common type");
     assert_is(rt, list.pop().expect(rt, "a value"), value);
-    assert!(rt; list.is_empty());
+    assert_that(rt, list.is_empty());
     drop(list);
 }
 

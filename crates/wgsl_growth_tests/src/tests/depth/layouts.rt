@@ -1,6 +1,6 @@
 //! The bytes of values, and layouts: arrays of one element in each other.
 
-use crate::tests::asserts::{assert_answer, assert_is};
+use crate::tests::asserts::{assert_answer, assert_is, assert_same, assert_that};
 use crate::tests::depth::{arrays, first_parts, in_arrays, levels};
 use crate::tests::samples::storable;
 use std::alloc::Global;
@@ -37,19 +37,19 @@ fn parts_of_layouts(rt: HostRuntime) {
     let layout = layout_of(&rt, alloc, &ty);
     let view = first_parts(&rt, alloc, depth);
     let nowhere = first_parts(&rt, alloc, depth.saturating_add(1));
-    assert!(rt; layout.ty() == &ty);
-    assert_eq!(rt; layout.size(), Some(4));
-    assert_eq!(rt; layout.size_with(3), Some(4));
-    assert_eq!(rt; layout.count_in(4), Some(0));
+    let (word, all) = (Type::U32, MemView::Whole);
+    assert_same(&rt, layout.ty(), &ty);
+    let sizes = [layout.size(), layout.size_with(3), layout.count_in(4)];
+    assert_same(&rt, sizes, [Some(4), Some(4), Some(0)]);
     let range = layout.range(4, &view);
-    assert_eq!(rt; range.map(|r| (r.start, r.end)), Ok((0, 4)));
-    assert_eq!(rt; layout.range(4, &nowhere), Err(NoPart));
+    assert_same(&rt, range.map(|r| (r.start, r.end)), Ok((0, 4)));
+    assert_same(&rt, layout.range(4, &nowhere), Err(NoPart));
     let part = made!(&rt; layout.part_ty(alloc, 4, &view));
-    assert_answer(&rt, part, Some(&Type::U32));
-    let whole = made!(&rt; layout.part_ty(alloc, 4, &MemView::Whole));
+    assert_answer(&rt, part, Some(&word));
+    let whole = made!(&rt; layout.part_ty(alloc, 4, &all));
     assert_answer(&rt, whole, Some(&ty));
     drop((ty, layout, view));
-    drop(nowhere);
+    drop((nowhere, word, all));
 }
 
 #[test]
@@ -61,7 +61,7 @@ fn copies_of_layouts(rt: HostRuntime) {
         arrays(&rt, alloc, depth, Type::I32),
     );
     let (layout, signed) = (layout_of(&rt, alloc, &ty), layout_of(&rt, alloc, &other));
-    assert!(rt; layout != signed);
+    assert_that(&rt, layout != signed);
     assert_is(&rt, made!(&rt; layout.clone(alloc)), &layout);
     drop((ty, other));
     drop((layout, signed));
@@ -73,18 +73,18 @@ fn bytes_of_the_caller_are_read_and_written(rt: HostRuntime) {
     let depth = levels(&rt);
     let ty = arrays(&rt, alloc, depth, Type::U32);
     let layout = layout_of(&rt, alloc, &ty);
-    let view = first_parts(&rt, alloc, depth);
+    let (view, all) = (first_parts(&rt, alloc, depth), MemView::Whole);
     let whole = in_arrays(&rt, alloc, depth, Instance::from(5u32));
     let seven = storable(&rt, Instance::from(7u32));
     let mut bytes = [0u8; 6];
-    assert_eq!(rt; layout.write(&mut bytes, &MemView::Whole, &whole), Ok(()));
-    assert_eq!(rt; bytes, [5, 0, 0, 0, 0, 0]);
-    let read = made!(&rt; layout.read(alloc, &bytes, &MemView::Whole));
+    assert_same(&rt, layout.write(&mut bytes, &all, &whole), Ok(()));
+    assert_same(&rt, bytes, [5, 0, 0, 0, 0, 0]);
+    let read = made!(&rt; layout.read(alloc, &bytes, &all));
     assert_answer(&rt, read, Some(&whole));
-    assert_eq!(rt; layout.write(&mut bytes, &view, &seven), Ok(()));
-    assert_eq!(rt; bytes, [7, 0, 0, 0, 0, 0]);
+    assert_same(&rt, layout.write(&mut bytes, &view, &seven), Ok(()));
+    assert_same(&rt, bytes, [7, 0, 0, 0, 0, 0]);
     let read = made!(&rt; layout.read(alloc, &bytes, &view));
     assert_answer(&rt, read, Some(&seven));
-    drop((ty, layout, view));
+    drop((ty, layout, view, all));
     drop((whole, seven));
 }

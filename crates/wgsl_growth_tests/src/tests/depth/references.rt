@@ -1,7 +1,7 @@
 //! References whose types are deep, and a chain of references: a reference to a cell that holds a reference, and so on. Its
 //! types take memory with the square of its length, so it has a hundred of them, whatever the levels of types and values are.
 
-use crate::tests::asserts::{assert_is, assert_same};
+use crate::tests::asserts::{assert_is, assert_same, assert_that};
 use crate::tests::depth::{arrays, assert_text, levels, nested};
 use std::alloc::Global;
 use std::process::Abort;
@@ -33,7 +33,7 @@ fn a_chain_is_copied_and_printed(rt: HostRuntime) {
     let mut store = Store::new(alloc);
     let reference = chain(&rt, alloc, &mut store);
     let copy = made!(&rt; reference.clone(alloc));
-    assert!(rt; copy == reference);
+    assert_same(&rt, &copy, &reference);
     let wanted = nested(&rt, alloc, 100, ["ref<storage, ", "u32", ", read_write>"]);
     assert_text(&rt, alloc, &reference, wanted.as_str());
     let wanted = nested(&rt, alloc, 99, ["ref<storage, ", "u32", ", read_write>"]);
@@ -53,13 +53,13 @@ fn a_chain_is_loaded(rt: HostRuntime) {
     let value = Instance::from(reference);
     assert!(rt; store.holds_value(&value));
     assert!(rt; value.is_well_formed());
-    let ty = made!(&rt; value.ty(alloc));
-    assert_is(&rt, ty.loaded(), &Type::U32);
-    let converted = made!(&rt; value.convert_loaded(alloc, &store, &Type::U32));
+    let (ty, word) = (made!(&rt; value.ty(alloc)), Type::U32);
+    assert_is(&rt, ty.loaded(), &word);
+    let converted = made!(&rt; value.convert_loaded(alloc, &store, &word));
     assert_same(&rt, converted, Some(Instance::from(5u32)));
     let loaded = made!(&rt; value.loaded(alloc, &store));
     assert_same(&rt, loaded, Instance::from(5u32));
-    drop(store);
+    drop((store, word));
 }
 
 /// A reference to cell 0, of so many arrays of the type.
@@ -75,9 +75,9 @@ fn references_to_deep_types(rt: HostRuntime) {
     let reference = to_arrays(&rt, alloc, depth, Type::U32);
     let other = to_arrays(&rt, alloc, depth, Type::I32);
     assert_is(&rt, made!(&rt; reference.clone(alloc)), &reference);
-    assert!(rt; reference != other);
+    assert_that(&rt, reference != other);
     let own = made!(&rt; reference.ty(alloc));
-    assert!(rt; reference.has_ty(&own));
+    assert_that(&rt, reference.has_ty(&own));
     drop(own);
     let ty = nested(&rt, alloc, depth, ["array<", "u32", ", 1>"]);
     let wanted = made!(&rt; format!(in alloc; "ref<storage, {ty}, read_write>"));

@@ -4,7 +4,7 @@
 ghost use Rattle.wgsl_rules.specs.Values.{IsStorable, IsWellFormed};
 ghost use Rattle.wgsl_values.specs.View.{value_of};
 
-use crate::tests::asserts::{assert_answer, assert_has, assert_is, assert_same};
+use crate::tests::asserts::{assert_answer, assert_has, assert_is, assert_same, assert_that};
 use crate::tests::depth::{assert_text, levels, nested, structure, structure_chain};
 use crate::tests::samples::{storable, text};
 use std::alloc::Global;
@@ -54,10 +54,10 @@ fn copies_types_and_texts(rt: HostRuntime) {
     let other = in_structures(&rt, alloc, depth, 2);
     let ty = structure_chain(&rt, alloc, depth, Type::U32);
     assert_is(&rt, made!(&rt; value.clone(alloc)), &value);
-    assert!(rt; value != other);
+    assert_that(&rt, value != other);
     assert_is(&rt, made!(&rt; value.ty(alloc)), &ty);
-    assert!(rt; value.has_ty(&ty));
-    assert!(rt; value.is_convertible_to(&ty));
+    assert_that(&rt, value.has_ty(&ty));
+    assert_that(&rt, value.is_convertible_to(&ty));
     let answer = made!(&rt; value.convert_to(alloc, &ty));
     assert_answer(&rt, answer, Some(&value));
     let wanted = nested(&rt, alloc, depth, ["S(", "1u", ")"]);
@@ -122,8 +122,8 @@ fn types_that_are_shared(rt: HostRuntime) {
     let other = structure(&rt, alloc, structure_chain(&rt, alloc, around, Type::I32));
     let own = SharedStructType::own(ty);
     let copy = made!(&rt; own.clone(alloc));
-    assert!(rt; copy == own);
-    assert!(rt; own.is_type(copy.get()));
-    assert!(rt; !own.is_type(&other));
+    assert_same(&rt, &copy, &own);
+    assert_that(&rt, own.is_type(copy.get()));
+    assert_that(&rt, !own.is_type(&other));
     drop((own, copy, other));
 }

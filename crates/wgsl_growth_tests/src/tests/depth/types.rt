@@ -1,7 +1,7 @@
 //! Calls on types: arrays of one element in each other, structures that are each the member of the next, and references
 //! to references.
 
-use crate::tests::asserts::{assert_answer, assert_is, assert_same};
+use crate::tests::asserts::{assert_answer, assert_is, assert_same, assert_that};
 use crate::tests::depth::{arrays, assert_text, levels, nested, structure, structure_chain};
 use crate::tests::samples::reference;
 use std::alloc::Global;
@@ -51,10 +51,10 @@ fn copies_and_whether_types_are_equal(rt: HostRuntime) {
     for (ty, other) in &rows {
         assert_is(&rt, copy_of(&rt, alloc, ty), ty);
         assert_is(&rt, made!(&rt; ty.ty(alloc)), ty);
-        assert!(rt; ty.has_ty(ty));
-        assert!(rt; !ty.has_ty(other));
-        assert_eq!(rt; conversion_rank(ty, ty), Some(0));
-        assert_eq!(rt; conversion_rank(ty, other), None);
+        assert_that(&rt, ty.has_ty(ty));
+        assert_that(&rt, !ty.has_ty(other));
+        assert_same(&rt, conversion_rank(ty, ty), Some(0));
+        assert_same(&rt, conversion_rank(ty, other), None);
     }
     drop(rows);
 }
@@ -75,9 +75,9 @@ fn measured(ty: &Type) -> [Option<u32>; 6] {
 fn sizes_of_arrays(rt: HostRuntime) {
     let alloc = rt.alloc();
     let ty = arrays(&rt, alloc, levels(&rt), Type::U32);
-    assert_eq!(rt; measured(&ty), [Some(4); 6]);
-    assert_eq!(rt; ty.stride(), Some(4));
-    assert!(rt; ty.has_layout());
+    assert_same(&rt, measured(&ty), [Some(4); 6]);
+    assert_same(&rt, ty.stride(), Some(4));
+    assert_that(&rt, ty.has_layout());
     drop(ty);
 }
 
@@ -85,9 +85,9 @@ fn sizes_of_arrays(rt: HostRuntime) {
 fn sizes_of_structures(rt: HostRuntime) {
     let alloc = rt.alloc();
     let ty = structure_chain(&rt, alloc, levels(&rt), Type::U32);
-    assert_eq!(rt; measured(&ty), [Some(4); 6]);
-    assert_eq!(rt; ty.stride(), None);
-    assert!(rt; ty.has_layout());
+    assert_same(&rt, measured(&ty), [Some(4); 6]);
+    assert_same(&rt, ty.stride(), None);
+    assert_that(&rt, ty.has_layout());
     drop(ty);
 }
 
@@ -95,12 +95,12 @@ fn sizes_of_structures(rt: HostRuntime) {
 fn rules_of_uniform_space(rt: HostRuntime) {
     let alloc = rt.alloc();
     let ty = arrays(&rt, alloc, levels(&rt), Type::U32);
-    assert_eq!(rt; ty.uniform_rule(), Some(UniformRule::Stride(4)));
-    assert_eq!(rt; ty.required_align(), Some(16));
+    assert_same(&rt, ty.uniform_rule(), Some(UniformRule::Stride(4)));
+    assert_same(&rt, ty.required_align(), Some(16));
     drop(ty);
     let ty = structure_chain(&rt, alloc, levels(&rt), Type::U32);
-    assert_eq!(rt; ty.uniform_rule(), None);
-    assert_eq!(rt; ty.required_align(), Some(16));
+    assert_same(&rt, ty.uniform_rule(), None);
+    assert_same(&rt, ty.required_align(), Some(16));
     drop(ty);
 }
 
@@ -116,16 +116,15 @@ fn assert_structure(rt: &impl Abort, alloc: Global, ty: &StructType, fault: Opti
     assert_same(rt, layouts.first().copied(), Some(place));
     let faults = made!(rt; ty.uniform_faults(alloc));
     assert_same(rt, faults.first().copied(), fault);
-    assert_eq!(rt; ty.size_of(), Some(4));
-    assert_eq!(rt; ty.align_of(), Some(4));
-    assert_eq!(rt; ty.size_with(7), Some(4));
-    assert_eq!(rt; ty.least_binding(), Some(4));
+    let sizes = [ty.size_of(), ty.align_of(), ty.size_with(7)];
+    assert_same(rt, sizes, [Some(4); 3]);
+    assert_same(rt, ty.least_binding(), Some(4));
     assert_is(rt, made!(rt; ty.clone(alloc)), ty);
     for member in &ty.members {
         assert_is(rt, made!(rt; member.clone(alloc)), member);
     }
     let same = Type::Struct(made!(rt; Box::new(alloc, made!(rt; ty.clone(alloc)))));
-    assert!(rt; ty.is_convertible_to(&same));
+    assert_that(rt, ty.is_convertible_to(&same));
     drop(same);
 }
 
@@ -151,13 +150,14 @@ fn ranks_and_common_types(rt: HostRuntime) {
         arrays(&rt, alloc, depth, Type::AbstractInt),
         arrays(&rt, alloc, depth, Type::U32),
     ];
-    assert_eq!(rt; conversion_rank(&types[0], &types[1]), Some(4));
-    assert_eq!(rt; conversion_rank(&types[1], &types[0]), None);
-    assert!(rt; types[0].is_convertible_to(&types[1]));
-    assert!(rt; !types[1].is_convertible_to(&types[0]));
-    assert!(rt; convert_ty(&types[0], &types[1]) == Some(&types[1]));
-    assert!(rt; convert_ty(&types[1], &types[0]) == Some(&types[1]));
-    assert!(rt; convert_all_ty(&types) == Some(&types[1]));
+    let [numbers, words] = &types;
+    assert_same(&rt, conversion_rank(numbers, words), Some(4));
+    assert_same(&rt, conversion_rank(words, numbers), None);
+    assert_that(&rt, numbers.is_convertible_to(words));
+    assert_that(&rt, !words.is_convertible_to(numbers));
+    assert_same(&rt, convert_ty(numbers, words), Some(words));
+    assert_same(&rt, convert_ty(words, numbers), Some(words));
+    assert_same(&rt, convert_all_ty(&types), Some(words));
     drop(types);
 }
 
@@ -199,9 +199,9 @@ fn conversions_of_two_types(rt: HostRuntime) {
 /// Asserts that the list is the type twice.
 fn assert_twice(rt: &impl Abort, list: Option<Vec<Type>>, ty: &Type) {
     let list = list.expect(rt, "a common type");
-    assert_eq!(rt; list.len(), 2);
+    assert_same(rt, list.len(), 2);
     for item in &list {
-        assert_eq!(rt; item, ty);
+        assert_same(rt, item, ty);
     }
     drop(list);
 }
@@ -241,6 +241,7 @@ fn texts_of_types(rt: HostRuntime) {
 #[test]
 fn the_type_behind_references(rt: HostRuntime) {
     let alloc = rt.alloc();
-    let ty = references(&rt, alloc, levels(&rt), Type::U32);
-    assert_is(&rt, ty.loaded(), &Type::U32);
+    let (ty, word) = (references(&rt, alloc, levels(&rt), Type::U32), Type::U32);
+    assert_is(&rt, ty.loaded(), &word);
+    drop(word);
 }

@@ -1,7 +1,7 @@
 //! Calls on values: arrays of one element in each other. What is written through a view takes half as many steps as there are
 //! levels.
 
-use crate::tests::asserts::{assert_has, assert_is, assert_same};
+use crate::tests::asserts::{assert_has, assert_is, assert_same, assert_that};
 use crate::tests::depth::{
     array_around, arrays, assert_text, first_parts, in_arrays, levels, nested,
 };
@@ -18,7 +18,7 @@ fn copies_and_whether_values_are_equal(rt: HostRuntime) {
     let depth = levels(&rt);
     let value = in_arrays(&rt, alloc, depth, Instance::from(1u32));
     let other = in_arrays(&rt, alloc, depth, Instance::from(2u32));
-    assert!(rt; value != other);
+    assert_that(&rt, value != other);
     drop(other);
     assert_is(&rt, made!(&rt; value.clone(alloc)), &value);
     drop(value);
@@ -38,10 +38,10 @@ fn types_of_values(rt: HostRuntime) {
     let other = arrays(&rt, alloc, depth, Type::I32);
     assert_is(&rt, made!(&rt; value.ty(alloc)), &ty);
     assert_is(&rt, made!(&rt; value.inner_ty(alloc)), &inner);
-    assert!(rt; value.has_ty(&ty));
-    assert!(rt; !value.has_ty(&other));
-    assert!(rt; value.is_convertible_to(&ty));
-    assert!(rt; !value.is_convertible_to(&other));
+    assert_that(&rt, value.has_ty(&ty));
+    assert_that(&rt, !value.has_ty(&other));
+    assert_that(&rt, value.is_convertible_to(&ty));
+    assert_that(&rt, !value.is_convertible_to(&other));
     drop((value, ty, inner, other));
 }
 

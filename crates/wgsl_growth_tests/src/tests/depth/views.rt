@@ -3,7 +3,7 @@
 ghost use Rattle.wgsl_rules.specs.Values.{IsWellFormed};
 ghost use Rattle.wgsl_values.specs.View.{value_of};
 
-use crate::tests::asserts::{assert_is, assert_same};
+use crate::tests::asserts::{assert_is, assert_same, assert_that};
 use crate::tests::depth::{assert_text, first_parts, nested};
 use crate::tests::samples::{array, array_of, storable, text};
 use std::alloc::Global;
@@ -27,18 +27,18 @@ fn copies_of_views_with_a_step_more(rt: HostRuntime) {
     let alloc = rt.alloc();
     let view = long_view(&rt, alloc);
     let mut copy = made!(&rt; view.clone(alloc));
-    assert!(rt; copy == view);
+    assert_same(&rt, &copy, &view);
     made!(&rt; copy.append_index(alloc, 7));
     let longer = made!(&rt; view.with_index(alloc, 7));
-    assert!(rt; longer == copy);
-    assert!(rt; longer != view);
+    assert_same(&rt, &longer, &copy);
+    assert_that(&rt, longer != view);
     let wanted = nested(&rt, alloc, STEPS, [":0", ":7", ""]);
     assert_text(&rt, alloc, &longer, wanted.as_str());
     drop((copy, longer));
     let mut copy = made!(&rt; view.clone(alloc));
     made!(&rt; copy.append_member(alloc, text(&rt, alloc, "m")));
     let longer = made!(&rt; view.with_member(alloc, text(&rt, alloc, "m")));
-    assert!(rt; longer == copy);
+    assert_same(&rt, &longer, &copy);
     let wanted = nested(&rt, alloc, STEPS, [":0", ":m", ""]);
     assert_text(&rt, alloc, &longer, wanted.as_str());
     drop((view, copy, longer));
@@ -66,7 +66,7 @@ fn a_view_that_leads_nowhere_behind_its_first_step(rt: HostRuntime) {
     assert_same(&rt, value.put(&view, Instance::from(7u32)), None);
     let ty = array(&rt, alloc, Type::U32, Some(1));
     let layout = made!(&rt; Layout::of(alloc, &ty)).expect(&rt, "a layout");
-    assert_eq!(rt; layout.range(4, &view), Err(NoPart));
+    assert_same(&rt, layout.range(4, &view), Err(NoPart));
     drop((view, value, ty));
     drop(layout);
 }
@@ -84,7 +84,7 @@ fn references_with_long_views(rt: HostRuntime) {
     let longer = RefInstance::from_parts(whole.cell(), longer, Type::U32, Storage, ReadWrite);
     assert!(rt; store.holds(&whole));
     assert!(rt; !store.holds(&long));
-    assert!(rt; long != longer);
+    assert_that(&rt, long != longer);
     assert_is(&rt, made!(&rt; long.clone(alloc)), &long);
     drop((store, whole, other));
     drop((long, longer));
