@@ -18,15 +18,6 @@ pub(super) fn assert_gives<T: PartialEq + Debug + Drop, E: Debug + Drop>(
     assert_eq!(rt; answer.expect(rt, "an answer"), wanted);
 }
 
-/// Asserts that the call is refused with the error.
-pub(super) fn assert_refused<T: Drop, E: PartialEq + Debug + Drop>(
-    rt: &impl Abort,
-    answer: Result<T, E>,
-    wanted: E,
-) {
-    assert_eq!(rt; answer.err(), Some(wanted));
-}
-
 /// Asserts that the answer is the wanted value.
 pub(super) fn assert_some<T: PartialEq + Debug + Drop, E: Debug + Drop>(
     rt: &impl Abort,
@@ -34,11 +25,6 @@ pub(super) fn assert_some<T: PartialEq + Debug + Drop, E: Debug + Drop>(
     wanted: &T,
 ) {
     assert_eq!(rt; answer.expect(rt, "an answer").as_ref(), Some(wanted));
-}
-
-/// Asserts that the answer is none.
-pub(super) fn assert_none<T: Drop, E: Debug + Drop>(rt: &impl Abort, answer: Result<Option<T>, E>) {
-    assert!(rt; answer.expect(rt, "an answer").is_none());
 }
 
 /// Asserts that the value is the wanted one.

@@ -21,4 +21,5 @@ macro_rules! answer_of {
 mod buffers;
 mod layouts;
 mod references;
+mod samples;
 mod sessions;

@@ -5,8 +5,9 @@ use crate::tests::calls;
 use crate::tests::fixtures::vector;
 use crate::tests::sessions::call;
 use std::alloc::Global;
+use std::fmt::Write;
 use std::process::Abort;
-use wgsl_rules::AccessMode::{ReadWrite, Write};
+use wgsl_rules::AccessMode::ReadWrite;
 use wgsl_rules::AddressSpace::{Function, Storage};
 use wgsl_rules::{AccessMode, Type};
 use wgsl_scalar::Error;
@@ -198,14 +199,6 @@ fn chain(rt: &impl Abort, alloc: Global, middle: AccessMode) -> Session {
     session
 }
 
-/// What a session holds: its cells, the references of its handles, and how each of these is read.
-#[derive(Debug, PartialEq, Eq, Drop)]
-struct Held {
-    cells: Vec<Instance>,
-    references: Vec<RefInstance>,
-    reads: Vec<Result<Reply, Fault>>,
-}
-
 /// What the cell of the reference holds, whatever access it has.
 fn content_of(
     rt: &impl Abort,
@@ -222,21 +215,18 @@ fn content_of(
     content.expect(rt, "a value")
 }
 
-/// What a session holds of whose cells each has a handle.
-fn held_by(rt: &impl Abort, alloc: Global, session: &mut Session) -> Held {
-    let mut held = Held {
-        cells: Vec::new(alloc),
-        references: Vec::new(alloc),
-        reads: Vec::new(alloc),
-    };
+/// What a session holds of whose cells each has a handle, as it is written: its cells, the references of its handles, and
+/// how each of these is read.
+fn held_by(rt: &impl Abort, alloc: Global, session: &mut Session) -> String {
+    let mut held = String::new(alloc);
     for handle in 0..session.store().len() {
         let reference = session.reference(handle).expect(rt, "a handle");
         let cell = content_of(rt, alloc, session, reference);
-        held.cells.push(cell).expect(rt, "memory");
-        let copy = reference.clone(alloc).expect(rt, "memory");
-        held.references.push(copy).expect(rt, "memory");
+        write!(held, "{cell:?} at {reference:?}").expect(rt, "memory");
+        drop(cell);
         let read = call(rt, session, Call::Read(handle));
-        held.reads.push(read).expect(rt, "memory");
+        write!(held, " is read: {read:?}; ").expect(rt, "memory");
+        drop(read);
     }
     held
 }
@@ -258,5 +248,10 @@ fn a_chain_of_a_hundred_references_is_loaded_where_each_can_be_read(rt: HostRunt
     let alloc = rt.alloc();
     let five = Ok(Reply::Value(Instance::from(5i32)));
     assert_loads(&rt, alloc, ReadWrite, five);
-    assert_loads(&rt, alloc, Write, Err(Fault::Of(Error::NotRead)));
+    assert_loads(
+        &rt,
+        alloc,
+        AccessMode::Write,
+        Err(Fault::Of(Error::NotRead)),
+    );
 }

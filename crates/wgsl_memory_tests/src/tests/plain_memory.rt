@@ -48,7 +48,7 @@ struct Both {
 impl Both {
     fn new(rt: &impl Abort, alloc: Global, seed: u64) -> Both {
         let mut numbers = Numbers::new(seed);
-        let shapes = Shapes::random(alloc, &mut numbers).expect(rt, "memory");
+        let shapes = Shapes::random(rt, alloc, &mut numbers);
         Both {
             session: Session::new(alloc),
             plain: Memory::new(alloc, shapes),
@@ -63,8 +63,7 @@ impl Both {
         alloc: Global,
         coverage: &mut Coverage,
     ) -> (Call, Result<Reply, Fault>) {
-        let next = self.plain.random_call(alloc, &mut self.numbers);
-        let next = next.expect(rt, "memory");
+        let next = self.plain.random_call(rt, alloc, &mut self.numbers);
         let call = self.plain.call(rt, alloc, &next);
         let answer = self.plain.step(rt, alloc, &next);
         coverage.add(rt, &self.plain, &next, &answer);
@@ -92,7 +91,7 @@ impl Both {
         let mut wanted = Vec::new(alloc);
         for _ in 0..count {
             let (call, reply) = self.next(rt, alloc, coverage);
-            add_call(rt, &mut calls, call);
+            sessions::add_call(rt, &mut calls, call);
             wanted.push(reply).expect(rt, "memory");
         }
         let replies = self.session.run(calls).expect(rt, "memory");
@@ -152,16 +151,6 @@ fn assert_bytes(rt: &impl Abort, bytes: Option<Vec<u8>>, layout: Layout, content
     drop(bytes);
 }
 
-/// Puts the call behind the others.
-#[tactic(auto, using(crate::proofs::SoundCalls::sound_pushed))]
-fn add_call(rt: &impl Abort, calls: &mut Vec<Call>, call: Call)
-    requires { AreSoundCalls (map call_of calls.old.items) }
-    ensures { AreSoundCalls (map call_of calls.new.items) }
-{
-    let call = sessions::sound(rt, call);
-    calls.push(call).expect(rt, "memory");
-}
-
 #[test]
 fn a_session_answers_each_call_as_a_plain_memory(rt: HostRuntime) {
     let alloc = rt.alloc();
@@ -176,7 +165,7 @@ fn a_session_answers_each_call_as_a_plain_memory(rt: HostRuntime) {
         }
         drop(both);
     }
-    coverage.assert_met(&rt, alloc);
+    coverage.assert_met(&rt);
     drop(coverage);
 }
 
@@ -192,6 +181,6 @@ fn a_session_runs_lists_as_a_plain_memory(rt: HostRuntime) {
         }
         drop(both);
     }
-    coverage.assert_met(&rt, alloc);
+    coverage.assert_met(&rt);
     drop(coverage);
 }

@@ -6,8 +6,8 @@ ghost use Rattle.wgsl_values.specs.View.{value_of, array_view, atomic_view, mat_
 
 use std::alloc::{AllocError, Global};
 use std::process::Abort;
-use wgsl_rules::{StructMemberType, StructType, Type};
-use wgsl_samples::types::{array, matrix, member, pair, pair_type, struct_type};
+use wgsl_rules::StructType;
+use wgsl_samples::types::pair_type;
 use wgsl_samples::values::{abstract_numbers, numbers};
 use wgsl_values::{
     ArrayInstance, AtomicInstance, Instance, MatInstance, StructInstance, VecInstance,
@@ -83,15 +83,6 @@ pub(super) fn matrix_from(rt: &impl Abort, columns: Vec<Instance>) -> MatInstanc
     MatInstance::from_cols(columns)
 }
 
-/// The matrix with the columns (1u, 2u, 3u) and (4u, 5u, 6u).
-pub(super) fn mat2x3(rt: &impl Abort, alloc: Global) -> Result<MatInstance, AllocError>
-    ensures { IfOk result (λ m. IsStorable (mat_view m)) }
-{
-    let first = Instance::from(vector_of(rt, alloc, &[1, 2, 3])?);
-    let second = Instance::from(vector_of(rt, alloc, &[4, 5, 6])?);
-    Ok(matrix_from(rt, vec![in alloc; first, second]?))
-}
-
 pub(super) fn atomic_from(
     rt: &impl Abort,
     alloc: Global,
@@ -132,33 +123,4 @@ pub(super) fn pair_value(rt: &impl Abort, alloc: Global) -> Result<StructInstanc
     ensures { IfOk result (λ s. IsStorable (struct_view s)) }
 {
     pair_with(rt, alloc, 1)
-}
-
-/// Light(mat2x3(vec3(1u, 2u, 3u), vec3(4u, 5u, 6u)), array(Pair(1u, vec3(2u, 3u, 4u)))), with the
-/// members m and pairs, of which the second is runtime-sized.
-pub(super) fn light(rt: &impl Abort, alloc: Global) -> Result<Instance, AllocError>
-    ensures { IfOk result (λ v. IsStorable (value_of v)) }
-{
-    let pairs = vec![in alloc; Instance::from(pair_value(rt, alloc)?)]?;
-    assert!(rt; ArrayInstance::can_make(&pairs, true));
-    let pairs = Instance::from(ArrayInstance::new(pairs, true));
-    let members = vec![in alloc; Instance::from(mat2x3(rt, alloc)?), pairs]?;
-    let m = member(alloc, "m", matrix(alloc, Type::U32)?, None)?;
-    let pairs = member(alloc, "pairs", array(alloc, pair(alloc)?, None)?, None)?;
-    let ty = struct_type(alloc, "Light", vec![in alloc; m, pairs]?)?;
-    Ok(storable(rt, Instance::from(structure_from(rt, ty, members))))
-}
-
-/// A structure of two members, each given by its type and its value.
-pub(super) fn two(
-    rt: &impl Abort,
-    alloc: Global,
-    first: (StructMemberType, Instance),
-    second: (StructMemberType, Instance),
-) -> Result<Instance, AllocError>
-    ensures { IfOk result (λ v. IsWellFormed (value_of v)) }
-{
-    let ty = struct_type(alloc, "S", vec![in alloc; first.0, second.0]?)?;
-    let value = structure_from(rt, ty, vec![in alloc; first.1, second.1]?);
-    Ok(storable(rt, Instance::from(value)))
 }

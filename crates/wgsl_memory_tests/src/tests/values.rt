@@ -1,6 +1,6 @@
 //! Values: what they are read from, their copies and their types.
 
-use crate::tests::asserts::{assert_gives, assert_is};
+use crate::tests::asserts::{assert_gives, assert_is, assert_same};
 use crate::tests::fixtures::{bytes_of, vector};
 use std::alloc::Global;
 use std::process::Abort;
@@ -25,7 +25,7 @@ fn a_copy_equals_its_source(rt: HostRuntime) {
     assert!(rt; copy.is_well_formed());
     assert!(rt; copy.has_ty(&ty));
     let again = copy.to_buffer(alloc).expect(&rt, "memory");
-    assert!(rt; again.is_some_and(|again| again.as_slice() == bytes.as_slice()));
+    assert_same(&rt, again, Some(bytes));
     assert_gives(&rt, copy.ty(alloc), ty);
     assert_is(&rt, &value, copy);
     drop(value);

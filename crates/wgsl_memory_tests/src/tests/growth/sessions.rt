@@ -1,13 +1,14 @@
 //! Lists of calls on a session: where room for the replies is refused no call is made, and a call in it that
 //! wants memory changes nothing.
 
-ghost use Rattle.std.specs.Prelude.{IfOk, map};
+ghost use Rattle.std.specs.Prelude.{map};
 ghost use Rattle.wgsl_session.specs.Calls.{AreSoundCalls};
 ghost use Rattle.wgsl_session.specs.View.{call_of};
 
-use crate::tests::samples::{pair_value, pair_with};
-use crate::tests::sessions::sound;
-use std::alloc::{AllocError, Global};
+use crate::tests::asserts::assert_is;
+use crate::tests::growth::samples::pair_of;
+use crate::tests::sessions::add_call;
+use std::alloc::Global;
 use std::process::Abort;
 use wgsl_rules::AccessMode::ReadWrite;
 use wgsl_rules::AddressSpace::Storage;
@@ -15,73 +16,64 @@ use wgsl_scalar::Error;
 use wgsl_session::{Call, Fault, Reply, Session};
 use wgsl_values::Instance;
 
+/// The name of the member.
+fn name(rt: &impl Abort, alloc: Global) -> String {
+    answer_of!(rt; String::from_str(alloc, "a"))
+}
+
 /// A cell with Pair(1u, vec3(2u, 3u, 4u)), its member a, a write of 9u there, and a read of the whole.
-fn calls(rt: &impl Abort, alloc: Global) -> Result<Vec<Call>, AllocError>
-    ensures { IfOk result (λ calls. AreSoundCalls (map call_of calls.items)) }
+fn calls(rt: &impl Abort, alloc: Global) -> Vec<Call>
+    ensures { AreSoundCalls (map call_of result.items) }
 {
-    let name = String::from_str(alloc, "a")?;
-    let pair = Instance::from(pair_value(rt, alloc)?);
-    let made = sound(rt, Call::New(pair, Storage, ReadWrite));
-    let written = sound(rt, Call::Write(1, Instance::from(9u32)));
-    Ok(vec![in alloc; made, Call::Member(0, name), written, Call::Read(0)]?)
+    let mut calls = answer_of!(rt; Vec::with_capacity(alloc, 4));
+    let pair = pair_of(rt, alloc, 1);
+    add_call(rt, &mut calls, Call::New(pair, Storage, ReadWrite));
+    add_call(rt, &mut calls, Call::Member(0, name(rt, alloc)));
+    add_call(rt, &mut calls, Call::Write(1, Instance::from(9u32)));
+    add_call(rt, &mut calls, Call::Read(0));
+    calls
 }
 
-fn cell() -> Result<Reply, Fault> {
-    Ok(Reply::Handle(0))
-}
-
-fn part() -> Result<Reply, Fault> {
-    Ok(Reply::Handle(1))
-}
-
-fn done() -> Result<Reply, Fault> {
-    Ok(Reply::Done)
-}
-
-fn missing() -> Result<Reply, Fault> {
-    Err(Fault::NoHandle)
-}
-
-fn memory() -> Result<Reply, Fault> {
-    Err(Fault::Of(Error::Memory))
-}
-
-/// What a read of the cell is answered, where its member a is the number.
-fn pair(rt: &impl Abort, alloc: Global, a: u32) -> Result<Result<Reply, Fault>, AllocError> {
-    let pair = pair_with(rt, alloc, a)?;
-    Ok(Ok(Reply::Value(Instance::from(pair))))
-}
-
-/// What the calls are answered where memory is refused to the call of this number, or to none.
+/// What the call of this number is answered where memory is refused to the other one, or to none.
 fn wanted(
     rt: &impl Abort,
     alloc: Global,
     refused: Option<usize>,
-) -> Result<Vec<Result<Reply, Fault>>, AllocError> {
-    match refused {
-        None => {
-            let new = pair(rt, alloc, 9)?;
-            Ok(vec![in alloc; cell(), part(), done(), new]?)
-        }
-        Some(0) => Ok(vec![in alloc; memory(), missing(), missing(), missing()]?),
-        Some(1) => {
-            let old = pair(rt, alloc, 1)?;
-            Ok(vec![in alloc; cell(), memory(), missing(), old]?)
-        }
-        Some(2) => {
-            let old = pair(rt, alloc, 1)?;
-            Ok(vec![in alloc; cell(), part(), memory(), old]?)
-        }
-        Some(_) => Ok(vec![in alloc; cell(), part(), done(), memory()]?),
+    call: usize,
+) -> Result<Reply, Fault> {
+    // The first call has no handle to name, the second names that of the first, and so on.
+    match (refused, call) {
+        (Some(refused), _) if refused == call => Err(Fault::Of(Error::Memory)),
+        (Some(0), _) | (Some(1), 2) => Err(Fault::NoHandle),
+        (_, 0) => Ok(Reply::Handle(0)),
+        (_, 1) => Ok(Reply::Handle(1)),
+        (_, 2) => Ok(Reply::Done),
+        (None, _) => Ok(Reply::Value(pair_of(rt, alloc, 9))),
+        (Some(_), _) => Ok(Reply::Value(pair_of(rt, alloc, 1))),
+    }
+}
+
+/// Asserts what the calls are answered.
+fn assert_replies(
+    rt: &impl Abort,
+    alloc: Global,
+    replies: &[Result<Reply, Fault>],
+    refused: Option<usize>,
+) {
+    assert_eq!(rt; replies.len(), 4);
+    for (i, reply) in replies.iter().enumerate() {
+        assert_is(rt, reply, wanted(rt, alloc, refused, i));
     }
 }
 
 /// The number of the call that memory is refused to.
 fn refused_in(replies: &[Result<Reply, Fault>]) -> Option<usize> {
-    let memory = memory();
-    let refused = replies.iter().position(|reply| reply == &memory);
-    drop(memory);
-    refused
+    for (i, reply) in replies.iter().enumerate() {
+        if matches!(reply, Err(Fault::Of(Error::Memory))) {
+            return Some(i);
+        }
+    }
+    None
 }
 
 /// Runs the calls on a new session, and asserts what is answered and made. Answers whether memory was refused.
@@ -96,23 +88,17 @@ fn assert_run(rt: &impl Abort, alloc: Global, calls: Vec<Call>) -> bool
         return true;
     };
     let refused = refused_in(&replies);
-    let wanted = match wanted(rt, alloc, refused) {
-        Ok(wanted) => wanted,
-        // One growth alone is refused.
-        Err(_) => wanted(rt, alloc, refused).expect(rt, "memory"),
-    };
-    assert!(rt; replies == wanted);
+    assert_replies(rt, alloc, &replies, refused);
     assert_eq!(rt; session.store().len(), usize::from(refused != Some(0)));
-    drop((session, replies, wanted));
+    drop((session, replies));
     refused.is_some()
 }
 
 #[test]
 fn a_list_of_calls_wants_memory_or_is_run(rt: HostRuntime) {
     let alloc = rt.alloc();
-    let (Ok(first), Ok(again)) = (calls(&rt, alloc), calls(&rt, alloc)) else {
-        return;
-    };
+    let first = calls(&rt, alloc);
+    let again = calls(&rt, alloc);
     if assert_run(&rt, alloc, first) {
         assert!(rt; !assert_run(&rt, alloc, again));
     } else {

@@ -6,7 +6,8 @@ use crate::tests::plain_memory::memory::{Call, Content, Memory, Named};
 use crate::tests::plain_memory::numbers::Numbers;
 use crate::tests::plain_memory::shapes::{Kind, Place, Shape, Shapes};
 use crate::tests::plain_memory::tables::{Drawn, NAMES};
-use std::alloc::{AllocError, Global};
+use std::alloc::Global;
+use std::process::Abort;
 
 /// The most parts that a value has, those of its parts included.
 const PARTS: usize = 10_000;
@@ -44,15 +45,16 @@ impl Shapes {
     /// many elements.
     fn random_content(
         &self,
+        rt: &impl Abort,
         alloc: Global,
         numbers: &mut Numbers,
         shape: usize,
         elements: usize,
-    ) -> Result<Content, AllocError> {
+    ) -> Content {
         let laid = self.laid(shape);
         let elements = if laid.is_open { elements } else { 0 };
-        let mut bytes = vec![in alloc; 0u8; laid.len(elements)]?;
-        let mut places = vec![in alloc; Place { shape, first: 0 }]?;
+        let mut bytes = vec![in alloc; 0u8; laid.len(elements)].expect(rt, "memory");
+        let mut places = vec![in alloc; Place { shape, first: 0 }].expect(rt, "memory");
         for i in 0..PARTS {
             let Some(place) = places.get(i).copied() else {
                 break;
@@ -62,22 +64,22 @@ impl Shapes {
                     put_number(&mut bytes, place.first, kind, numbers.number());
                 }
                 Shape::Row(_, _, _) | Shape::Structure(_, _, _) => {
-                    places.extend_from_slice(&self.parts(alloc, place, elements)?)?;
+                    let parts = self.parts(rt, alloc, place, elements);
+                    places.extend_from_slice(&parts).expect(rt, "memory");
                 }
                 Shape::Reference(_, _, _) => {}
             }
         }
-        let content = Content {
+        Content {
             shape,
             elements,
             bytes,
-        };
-        Ok(content)
+        }
     }
 
     /// A value of any type but a reference; one of four or more has a runtime-sized array, and one of twelve or more is
     /// a truth value or an abstract number.
-    fn any_content(&self, alloc: Global, numbers: &mut Numbers) -> Result<Content, AllocError> {
+    fn any_content(&self, rt: &impl Abort, alloc: Global, numbers: &mut Numbers) -> Content {
         let drawn = match numbers.below(12) {
             0 => Drawn::Unlaid,
             1 | 2 | 3 => Drawn::Open,
@@ -85,7 +87,7 @@ impl Shapes {
         };
         let shape = self.draw(numbers, drawn);
         let elements = numbers.below(4).wrapping_add(1);
-        self.random_content(alloc, numbers, shape, elements)
+        self.random_content(rt, alloc, numbers, shape, elements)
     }
 }
 
@@ -108,10 +110,7 @@ impl Memory {
 
     /// Whether the part has a layout, and its cell has none.
     fn is_loose(&self, named: Named) -> bool {
-        let cell = self
-            .cells
-            .get(named.cell)
-            .map_or(0, |content| content.shape);
+        let cell = self.cell_shape(named.cell);
         let is_laid_out = self.shapes.laid(named.shape).layout != Layout::Missing;
         is_laid_out && self.shapes.laid(cell).layout == Layout::Missing
     }
@@ -135,29 +134,42 @@ impl Memory {
     }
 
     /// The type of what the handle names; type 0 where it is not there.
-    fn shape_at(&self, handle: usize) -> usize {
-        self.handles.get(handle).map_or(0, |named| named.shape)
+    pub(super) fn shape_at(&self, handle: usize) -> usize {
+        match self.handles.get(handle) {
+            Some(named) => named.shape,
+            None => 0,
+        }
+    }
+
+    /// The cell of what the handle names; cell 0 where it is not there.
+    pub(super) fn cell_at(&self, handle: usize) -> usize {
+        match self.handles.get(handle) {
+            Some(named) => named.cell,
+            None => 0,
+        }
     }
 
     /// A value for what the handle names; one of a few is of another type or length.
     fn content_for(
         &self,
+        rt: &impl Abort,
         alloc: Global,
         numbers: &mut Numbers,
         handle: usize,
-    ) -> Result<Content, AllocError> {
+    ) -> Content {
         let shape = self.shape_at(handle);
         let is_reference = matches!(self.shapes.shape(shape), Shape::Reference(_, _, _));
         if is_reference || numbers.is_one_in(8) {
-            return self.shapes.any_content(alloc, numbers);
+            return self.shapes.any_content(rt, alloc, numbers);
         }
-        let cell = self.handles.get(handle).map_or(0, |named| named.cell);
+        let cell = self.cell_at(handle);
         let elements = if numbers.is_one_in(2) {
             numbers.below(4).wrapping_add(1)
         } else {
             self.elements(cell)
         };
-        self.shapes.random_content(alloc, numbers, shape, elements)
+        self.shapes
+            .random_content(rt, alloc, numbers, shape, elements)
     }
 
     /// The name of a member of what the handle names, or any.
@@ -208,19 +220,20 @@ impl Memory {
         Call::Copy(from, to)
     }
 
-    fn random_new(&self, alloc: Global, numbers: &mut Numbers) -> Result<Call, AllocError> {
-        let content = self.shapes.any_content(alloc, numbers)?;
-        Ok(Call::New(content, numbers.space(), numbers.access()))
+    fn random_new(&self, rt: &impl Abort, alloc: Global, numbers: &mut Numbers) -> Call {
+        let content = self.shapes.any_content(rt, alloc, numbers);
+        Call::New(content, numbers.space(), numbers.access())
     }
 
     /// A call of any sort. Without handles it makes one.
     pub(super) fn random_call(
         &self,
+        rt: &impl Abort,
         alloc: Global,
         numbers: &mut Numbers,
-    ) -> Result<Call, AllocError> {
+    ) -> Call {
         if self.handles.is_empty() {
-            return self.random_new(alloc, numbers);
+            return self.random_new(rt, alloc, numbers);
         }
         let sought = if numbers.is_one_in(8) {
             Sought::Open
@@ -229,22 +242,22 @@ impl Memory {
         };
         let any = self.random_handle(numbers, sought);
         match numbers.below(25) {
-            0 | 1 => self.random_new(alloc, numbers),
-            2 | 3 => Ok(self.random_new_of(numbers)),
+            0 | 1 => self.random_new(rt, alloc, numbers),
+            2 | 3 => self.random_new_of(numbers),
             4 | 5 | 6 => {
                 let handle = self.random_handle(numbers, Sought::Structure);
-                Ok(Call::Member(handle, self.random_name(numbers, handle)))
+                Call::Member(handle, self.random_name(numbers, handle))
             }
             7 | 8 | 9 => {
                 let handle = self.random_handle(numbers, Sought::Row);
-                Ok(Call::Index(handle, self.random_index(numbers, handle)))
+                Call::Index(handle, self.random_index(numbers, handle))
             }
-            10 | 11 => Ok(Call::Read(any)),
-            12 | 13 | 14 => Ok(Call::Write(any, self.content_for(alloc, numbers, any)?)),
-            15 | 16 | 17 => Ok(Call::Replace(any, self.content_for(alloc, numbers, any)?)),
-            18 | 19 | 20 | 21 | 22 => Ok(self.random_copy(numbers)),
-            _ if numbers.is_one_in(3) => Ok(Call::Load(any)),
-            _ => Ok(Call::Load(self.random_handle(numbers, Sought::Reference))),
+            10 | 11 => Call::Read(any),
+            12 | 13 | 14 => Call::Write(any, self.content_for(rt, alloc, numbers, any)),
+            15 | 16 | 17 => Call::Replace(any, self.content_for(rt, alloc, numbers, any)),
+            18 | 19 | 20 | 21 | 22 => self.random_copy(numbers),
+            _ if numbers.is_one_in(3) => Call::Load(any),
+            _ => Call::Load(self.random_handle(numbers, Sought::Reference)),
         }
     }
 }

@@ -199,9 +199,10 @@ impl Shapes {
         let Some((last, others)) = members.split_last() else {
             return Layout::Missing;
         };
-        let are_fixed = others
-            .iter()
-            .all(|member| self.is_in(*member, Layout::Fixed));
+        let mut are_fixed = true;
+        for member in others {
+            are_fixed &= self.is_in(*member, Layout::Fixed);
+        }
         let is_array = matches!(self.shape(last.shape), Shape::Row(Sort::Open, _, _));
         if are_fixed && self.is_in(*last, Layout::Fixed) {
             Layout::Fixed

@@ -138,15 +138,26 @@ impl Memory {
 
     /// How many elements the runtime-sized array of a cell has.
     pub(super) fn elements(&self, cell: usize) -> usize {
-        self.cells.get(cell).map_or(0, |content| content.elements)
+        match self.cells.get(cell) {
+            Some(content) => content.elements,
+            None => 0,
+        }
+    }
+
+    /// The type of a cell; type 0 where it is not there.
+    pub(super) fn cell_shape(&self, cell: usize) -> usize {
+        match self.cells.get(cell) {
+            Some(content) => content.shape,
+            None => 0,
+        }
     }
 
     /// The bytes that are named.
     fn bytes(&self, named: Named) -> &[u8] {
-        let bytes: &[u8] = self
-            .cells
-            .get(named.cell)
-            .map_or(&[], |content| content.bytes.as_slice());
+        let bytes: &[u8] = match self.cells.get(named.cell) {
+            Some(content) => content.bytes.as_slice(),
+            None => &[],
+        };
         let len = self.shapes.laid(named.shape).len(self.elements(named.cell));
         range(bytes, named.first, len)
     }
@@ -165,13 +176,13 @@ impl Memory {
         }
     }
 
-    fn read(&self, rt: &impl Abort, alloc: Global, handle: usize) -> Result<Content, Refusal> {
+    fn read(&self, rt: &impl Abort, alloc: Global, handle: usize) -> Result<Answer, Refusal> {
         let named = self.readable(handle)?;
-        Ok(self.content(rt, alloc, named))
+        Ok(Answer::Value(self.content(rt, alloc, named)))
     }
 
     /// Reads on while what is read is a reference, which is the number of a handle.
-    fn load(&self, rt: &impl Abort, alloc: Global, handle: usize) -> Result<Content, Refusal> {
+    fn load(&self, rt: &impl Abort, alloc: Global, handle: usize) -> Result<Answer, Refusal> {
         let mut named = self.readable(handle)?;
         for _ in 0..self.handles.len() {
             if !matches!(self.shapes.shape(named.shape), Shape::Reference(_, _, _)) {
@@ -180,7 +191,7 @@ impl Memory {
             let next = usize::try_from(number_of(self.bytes(named))).unwrap_or(usize::MAX);
             named = self.readable(next)?;
         }
-        Ok(self.content(rt, alloc, named))
+        Ok(Answer::Value(self.content(rt, alloc, named)))
     }
 
     fn add_handle(&mut self, rt: &impl Abort, named: Named) -> Answer {
@@ -220,7 +231,7 @@ impl Memory {
         let named = self.named(handle)?;
         let ty = Shape::Reference(named.space, named.shape, named.access);
         let content = Content {
-            shape: self.shapes.add(ty).expect(rt, "memory"),
+            shape: self.shapes.add(rt, ty),
             elements: 0,
             bytes: number_bytes(rt, alloc, handle),
         };
@@ -229,8 +240,7 @@ impl Memory {
 
     fn member(&mut self, rt: &impl Abort, handle: usize, name: usize) -> Result<Answer, Refusal> {
         let named = self.readable(handle)?;
-        let members = self.shapes.members(named.shape);
-        let member = members.iter().find(|member| member.name == name).copied();
+        let member = self.shapes.member(named.shape, name);
         let member = member.ok_or(Refusal::Component(named.shape, name))?;
         let part = Named {
             from: Some((handle, Step::Name(name))),
@@ -258,11 +268,9 @@ impl Memory {
             shape: named.shape,
             first: named.first,
         };
-        let parts = self
-            .shapes
-            .parts(alloc, place, elements)
-            .expect(rt, "memory");
+        let parts = self.shapes.parts(rt, alloc, place, elements);
         let part = parts.get(i).copied();
+        drop(parts);
         let part = part.ok_or(Refusal::OutOfBounds(i, named.shape, count))?;
         let part = Named {
             from: Some((handle, Step::Index(i))),
@@ -329,8 +337,11 @@ impl Memory {
     ) -> Result<Answer, Refusal> {
         self.named(from)?;
         self.named(to)?;
-        let content = self.read(rt, alloc, from)?;
-        self.write(to, &content)
+        let named = self.readable(from)?;
+        let content = self.content(rt, alloc, named);
+        let answer = self.write(to, &content);
+        drop(content);
+        answer
     }
 
     /// Makes the call.
@@ -350,11 +361,11 @@ impl Memory {
             }
             Call::Member(handle, name) => self.member(rt, *handle, *name),
             Call::Index(handle, i) => self.index(rt, alloc, *handle, *i),
-            Call::Read(handle) => Ok(Answer::Value(self.read(rt, alloc, *handle)?)),
+            Call::Read(handle) => self.read(rt, alloc, *handle),
             Call::Write(handle, content) => self.write(*handle, content),
             Call::Replace(handle, content) => self.replace(rt, alloc, *handle, content),
             Call::Copy(from, to) => self.copy(rt, alloc, *from, *to),
-            Call::Load(handle) => Ok(Answer::Value(self.load(rt, alloc, *handle)?)),
+            Call::Load(handle) => self.load(rt, alloc, *handle),
         }
     }
 }

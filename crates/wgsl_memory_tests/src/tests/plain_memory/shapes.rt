@@ -1,7 +1,8 @@
 //! Types as a table of rows: each names those that it is made of by their numbers in the table, and is there once.
 
 use crate::tests::plain_memory::layout::{Laid, row_distance};
-use std::alloc::{AllocError, Global};
+use std::alloc::Global;
+use std::process::Abort;
 use wgsl_rules::{AccessMode, AddressSpace};
 
 /// The kind of a number, or of a truth value.
@@ -112,11 +113,21 @@ impl Shapes {
         }
     }
 
+    /// The first member of the name.
+    pub(super) fn member(&self, shape: usize, name: usize) -> Option<Member> {
+        for member in self.members(shape) {
+            if member.name == name {
+                return Some(*member);
+            }
+        }
+        None
+    }
+
     /// The number of the type, which is added where it is not there. It is no structure.
-    pub(super) fn add(&mut self, shape: Shape) -> Result<usize, AllocError> {
+    pub(super) fn add(&mut self, rt: &impl Abort, shape: Shape) -> usize {
         for (i, entry) in self.entries.iter().enumerate() {
             if entry.shape == shape {
-                return Ok(i);
+                return i;
             }
         }
         let laid = match shape {
@@ -126,53 +137,58 @@ impl Shapes {
             Shape::Structure(_, _, _) => Laid::nothing(),
             Shape::Reference(_, _, _) => Laid::reference(),
         };
-        let made = self.entries.len();
-        self.entries.push(Entry { shape, laid })?;
-        Ok(made)
+        self.add_entry(rt, Entry { shape, laid })
     }
 
     /// The number of the structure of that name with the members, whose places are not given yet. It is added where it
     /// is not there.
     pub(super) fn add_structure(
         &mut self,
+        rt: &impl Abort,
         name: usize,
         members: &mut [Member],
-    ) -> Result<usize, AllocError> {
+    ) -> usize {
         let laid = self.place(members);
         for i in 0..self.entries.len() {
             let is_named = matches!(self.shape(i), Shape::Structure(other, _, _) if other == name);
             if is_named && self.members(i) == &*members {
-                return Ok(i);
+                return i;
             }
         }
         let shape = Shape::Structure(name, self.members.len(), members.len());
-        self.members.extend_from_slice(members)?;
+        self.members.extend_from_slice(members).expect(rt, "memory");
+        self.add_entry(rt, Entry { shape, laid })
+    }
+
+    fn add_entry(&mut self, rt: &impl Abort, entry: Entry) -> usize {
         let made = self.entries.len();
-        self.entries.push(Entry { shape, laid })?;
-        Ok(made)
+        self.entries.push(entry).expect(rt, "memory");
+        made
     }
 
     /// The parts of what has the type and stands there. Its runtime-sized array, if it has one, has so many elements.
     pub(super) fn parts(
         &self,
+        rt: &impl Abort,
         alloc: Global,
         place: Place,
         elements: usize,
-    ) -> Result<Vec<Place>, AllocError> {
+    ) -> Vec<Place> {
         let mut parts = Vec::new(alloc);
         if let Shape::Row(sort, count, part) = self.shape(place.shape) {
             let distance = row_distance(sort, self.laid(part));
             for i in 0..part_count(sort, count, elements) {
                 let first = place.first.wrapping_add(i.wrapping_mul(distance));
-                parts.push(Place { shape: part, first })?;
+                let part = Place { shape: part, first };
+                parts.push(part).expect(rt, "memory");
             }
         }
         for member in self.members(place.shape) {
             let first = place.first.wrapping_add(member.offset);
             let shape = member.shape;
-            parts.push(Place { shape, first })?;
+            parts.push(Place { shape, first }).expect(rt, "memory");
         }
-        Ok(parts)
+        parts
     }
 }
 

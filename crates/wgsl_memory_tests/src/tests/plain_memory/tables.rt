@@ -4,7 +4,8 @@
 use crate::tests::plain_memory::layout::Layout;
 use crate::tests::plain_memory::numbers::Numbers;
 use crate::tests::plain_memory::shapes::{Kind, Member, Shape, Shapes, Sort};
-use std::alloc::{AllocError, Global};
+use std::alloc::Global;
+use std::process::Abort;
 
 const KINDS: [Kind; 6] = [
     Kind::Bool,
@@ -51,57 +52,61 @@ pub(super) enum Drawn {
 
 impl Shapes {
     /// A table with types of each sort.
-    pub(super) fn random(alloc: Global, numbers: &mut Numbers) -> Result<Shapes, AllocError> {
+    pub(super) fn random(rt: &impl Abort, alloc: Global, numbers: &mut Numbers) -> Shapes {
         let mut shapes = Shapes::new(alloc);
         for kind in KINDS {
-            let number = shapes.add(Shape::Number(kind))?;
+            let number = shapes.add(rt, Shape::Number(kind));
             for count in 2..5 {
-                shapes.add(Shape::Row(Sort::Vector, count, number))?;
+                shapes.add(rt, Shape::Row(Sort::Vector, count, number));
             }
         }
-        shapes.add(Shape::Atomic(Kind::I32))?;
-        shapes.add(Shape::Atomic(Kind::U32))?;
+        shapes.add(rt, Shape::Atomic(Kind::I32));
+        shapes.add(rt, Shape::Atomic(Kind::U32));
         for _ in 0..MADE {
-            shapes.add_random(alloc, numbers)?;
+            shapes.add_random(rt, alloc, numbers);
         }
-        Ok(shapes)
+        shapes
     }
 
     /// A matrix, an array or a structure.
-    fn add_random(&mut self, alloc: Global, numbers: &mut Numbers) -> Result<(), AllocError> {
+    fn add_random(&mut self, rt: &impl Abort, alloc: Global, numbers: &mut Numbers) {
         let part = self.random_part(numbers);
         match numbers.below(8) {
-            0 => self.add_matrix(numbers)?,
-            1 => self.add(Shape::Row(Sort::Array, numbers.below(4).wrapping_add(1), part))?,
-            2 => self.add(Shape::Row(Sort::Open, 0, part))?,
-            _ => self.add_members(alloc, numbers)?,
+            0 => self.add_matrix(rt, numbers),
+            1 => {
+                let count = numbers.below(4).wrapping_add(1);
+                self.add(rt, Shape::Row(Sort::Array, count, part))
+            }
+            2 => self.add(rt, Shape::Row(Sort::Open, 0, part)),
+            _ => self.add_members(rt, alloc, numbers),
         };
-        Ok(())
     }
 
     /// A matrix of any of the vectors.
-    fn add_matrix(&mut self, numbers: &mut Numbers) -> Result<usize, AllocError> {
+    fn add_matrix(&mut self, rt: &impl Abort, numbers: &mut Numbers) -> usize {
         let kind = numbers.below(KINDS.len()).wrapping_mul(4);
         let column = numbers.below(3).wrapping_add(kind).wrapping_add(1);
         let columns = numbers.below(3).wrapping_add(2);
-        self.add(Shape::Row(Sort::Matrix, columns, column))
+        self.add(rt, Shape::Row(Sort::Matrix, columns, column))
     }
 
     /// A structure of up to four members, and perhaps one that is or ends in a runtime-sized array.
-    fn add_members(&mut self, alloc: Global, numbers: &mut Numbers) -> Result<usize, AllocError> {
+    fn add_members(&mut self, rt: &impl Abort, alloc: Global, numbers: &mut Numbers) -> usize {
         let mut members = Vec::new(alloc);
         for _ in 0..numbers.below(5) {
             let shape = self.random_part(numbers);
-            members.push(self.random_member(numbers, shape))?;
+            let member = self.random_member(numbers, shape);
+            members.push(member).expect(rt, "memory");
         }
         if numbers.is_one_in(3) {
             let shape = self.draw(numbers, Drawn::Open);
-            members.push(self.random_member(numbers, shape))?;
+            let member = self.random_member(numbers, shape);
+            members.push(member).expect(rt, "memory");
             if numbers.is_one_in(8) {
                 members.reverse();
             }
         }
-        self.add_structure(numbers.below(3), &mut members)
+        self.add_structure(rt, numbers.below(3), &mut members)
     }
 
     /// A type of a part. One of a few has no layout.

@@ -187,9 +187,9 @@ impl Shapes {
                 Instance::from(atomic_from(rt, alloc, number).expect(rt, "memory"))
             }
             Shape::Row(_, _, _) | Shape::Structure(_, _, _) => {
-                let places = self.parts(alloc, place, content.elements);
+                let places = self.parts(rt, alloc, place, content.elements);
                 let mut parts = Vec::new(alloc);
-                for part in &places.expect(rt, "memory") {
+                for part in &places {
                     let part = self.value_within(rt, alloc, content, *part, depth);
                     parts.push(part).expect(rt, "memory");
                 }
@@ -213,8 +213,10 @@ impl Memory {
         let mut view = MemView::Whole;
         let mut handle = handle;
         for _ in 0..self.handles.len() {
-            let from = self.handles.get(handle).and_then(|named| named.from);
-            let Some((whole, step)) = from else {
+            let Ok(named) = self.named(handle) else {
+                break;
+            };
+            let Some((whole, step)) = named.from else {
                 break;
             };
             let rest = boxed(rt, alloc, view);
