@@ -10,9 +10,19 @@ mod rows;
 mod seeds;
 
 use std::alloc::Global;
-use std::fmt::Write;
+use std::fmt::{Debug, Write};
 use std::process::Abort;
 use wgsl_script::{RunFault, run_script};
+
+/// Asserts that it is so.
+fn assert_that(rt: &impl Abort, is_so: bool) {
+    assert!(rt; is_so);
+}
+
+/// Asserts that the values are equal.
+fn assert_same<T: PartialEq + Debug + Drop>(rt: &impl Abort, value: T, wanted: T) {
+    assert_eq!(rt; value, wanted);
+}
 
 /// The output of a script that is run to its end.
 fn output_of(alloc: Global, script: &[u8]) -> Result<Vec<u8>, RunFault> {

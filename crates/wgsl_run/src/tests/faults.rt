@@ -1,6 +1,6 @@
 use crate::output::Buffered;
 use crate::run_buffered;
-use crate::tests::output_of;
+use crate::tests::{assert_prints, assert_same, assert_that};
 use std::alloc::Global;
 use std::io;
 use std::io::{Read, Write};
@@ -100,10 +100,25 @@ refused BadLine
 09000000
 ";
 
+/// Asserts how the run ends, behind so many reads or writes.
+fn assert_ends(
+    rt: &impl Abort,
+    outcome: Result<(), RunFault>,
+    wanted: Result<(), RunFault>,
+    before: usize,
+) {
+    assert_eq!(rt; outcome, wanted, "after {before} calls");
+    drop((outcome, wanted));
+}
+
+/// Asserts that what is wanted begins with what was written, behind so many writes.
+fn assert_begins(rt: &impl Abort, taken: &[u8], before: usize) {
+    assert!(rt; WANTED.starts_with(taken), "after {before} writes");
+}
+
 #[test]
 fn the_script_prints_what_is_wanted(rt: HostRuntime) {
-    let output = output_of(rt.alloc(), SCRIPT).expect(&rt, "memory");
-    assert_eq!(rt; output.as_slice(), WANTED);
+    assert_prints(&rt, rt.alloc(), SCRIPT, WANTED);
 }
 
 #[test]
@@ -114,8 +129,10 @@ fn a_script_that_comes_byte_by_byte_is_run(rt: HostRuntime) {
         kind: io::ErrorKind::Other,
     };
     let mut output = Vec::new(rt.alloc());
-    assert_eq!(rt; run_script(rt.alloc(), &mut reader, &mut output), Ok(()));
-    assert_eq!(rt; output.as_slice(), WANTED);
+    let outcome = run_script(rt.alloc(), &mut reader, &mut output);
+    assert_same(&rt, outcome, Ok(()));
+    assert_same(&rt, output.as_slice(), WANTED);
+    drop(output);
 }
 
 #[test]
@@ -135,8 +152,9 @@ fn a_read_that_fails_at_any_call_runs_nothing(rt: HostRuntime) {
             } else {
                 (Ok(()), WANTED)
             };
-            assert_eq!(rt; outcome, wanted, "after {before} reads");
-            assert_eq!(rt; output.as_slice(), printed);
+            assert_ends(&rt, outcome, wanted, before);
+            assert_same(&rt, output.as_slice(), printed);
+            drop(output);
         }
     }
 }
@@ -172,12 +190,10 @@ fn a_write_that_fails_at_any_call_ends_the_run(rt: HostRuntime) {
             let mut writer = failing(rt.alloc(), 1, before, failure);
             let outcome = run_script(rt.alloc(), &mut script, &mut writer);
             let wanted = outcome_of(before, WANTED.len());
-            assert_eq!(rt; outcome, wanted, "after {before} writes");
-            assert_eq!(rt; writer.taken.len(), before);
-            assert!(rt;
-                WANTED.starts_with(writer.taken.as_slice()),
-                "after {before} writes"
-            );
+            assert_ends(&rt, outcome, wanted, before);
+            assert_begins(&rt, writer.taken.as_slice(), before);
+            assert_same(&rt, writer.taken.len(), before);
+            drop(writer);
         }
     }
 }
@@ -191,8 +207,9 @@ fn a_line_is_written_at_once_where_it_is_taken(rt: HostRuntime) {
             let mut writer = failing(rt.alloc(), usize::MAX, before, failure);
             let outcome = run_script(rt.alloc(), &mut script, &mut writer);
             let lines = writer.taken.iter().filter(|byte| **byte == b'\n').count();
-            assert_eq!(rt; lines, before.min(7));
-            assert_eq!(rt; outcome, outcome_of(before, 7));
+            assert_same(&rt, lines, before.min(7));
+            assert_ends(&rt, outcome, outcome_of(before, 7), before);
+            drop(writer);
         }
     }
 }
@@ -211,15 +228,16 @@ fn assert_buffered(
     let mut output = Buffered::new(alloc, capacity, writer).expect(rt, "memory");
     let outcome = run_buffered(alloc, &mut script, &mut output);
     let taken = output.writer.taken.as_slice();
-    assert!(rt; WANTED.starts_with(taken), "after {before} writes");
+    assert_begins(rt, taken, before);
     // No write comes behind the one that failed.
     let wanted = if taken.len() < WANTED.len() {
-        assert_eq!(rt; output.writer.before, usize::MAX);
+        assert_same(rt, output.writer.before, usize::MAX);
         Err(RunFault::Write)
     } else {
         Ok(())
     };
-    assert_eq!(rt; outcome, wanted, "after {before} writes");
+    assert_ends(rt, outcome, wanted, before);
+    drop(output);
 }
 
 #[test]
@@ -237,18 +255,21 @@ fn a_write_of_the_program_that_fails_at_any_call_ends_the_run(rt: HostRuntime) {
 fn an_endless_input_is_too_long(rt: HostRuntime) {
     let mut output = Vec::new(rt.alloc());
     let outcome = run_script(rt.alloc(), &mut Endless, &mut output);
-    assert_eq!(rt; outcome, Err(RunFault::TooLong));
-    assert!(rt; output.is_empty());
+    assert_same(&rt, outcome, Err(RunFault::TooLong));
+    assert_that(&rt, output.is_empty());
+}
+
+/// Asserts the status and the text of the fault.
+fn assert_told(rt: &impl Abort, fault: RunFault, status: u8, text: &str) {
+    assert_same(rt, fault.status(), status);
+    assert_same(rt, fault.text(), text);
+    drop(fault);
 }
 
 #[test]
 fn each_fault_has_its_status_and_text(rt: HostRuntime) {
-    assert_eq!(rt; RunFault::Read.status(), 1);
-    assert_eq!(rt; RunFault::Write.status(), 1);
-    assert_eq!(rt; RunFault::TooLong.status(), 2);
-    assert_eq!(rt; RunFault::Memory.status(), 3);
-    assert_eq!(rt; RunFault::Read.text(), "read fault");
-    assert_eq!(rt; RunFault::Write.text(), "write fault");
-    assert_eq!(rt; RunFault::TooLong.text(), "input too long");
-    assert_eq!(rt; RunFault::Memory.text(), "out of memory");
+    assert_told(&rt, RunFault::Read, 1, "read fault");
+    assert_told(&rt, RunFault::Write, 1, "write fault");
+    assert_told(&rt, RunFault::TooLong, 2, "input too long");
+    assert_told(&rt, RunFault::Memory, 3, "out of memory");
 }

@@ -1,23 +1,26 @@
 //! Runs in which memory may be refused at any growth: they accept either answer, and check what must
 //! be so after each.
 
-use crate::tests::output_of;
+use crate::tests::{assert_same, assert_that, output_of};
 use std::alloc::{AllocError, Global};
 use std::io::Write;
 use std::process::Abort;
 use std::rt::Env;
-use std::test::Fail;
 use std::{io, str};
 use wgsl_script::{RunFault, run_script};
 
 const REFUSED: &[u8] = b"refused Memory";
 
-/// The lines that a script prints, and how its run ends. The lines are copied to their own list, so
-/// that a refused growth there ends the test early, and not wrongly.
-fn lines_of(
-    alloc: Global,
-    script: &[u8],
-) -> Result<(Vec<Vec<u8>>, Result<(), RunFault>), AllocError> {
+/// The lines that a script prints, and how its run ends.
+#[derive(Drop)]
+struct Run {
+    lines: Vec<Vec<u8>>,
+    outcome: Result<(), RunFault>,
+}
+
+/// Runs the script. The lines are copied to their own list, so that a refused growth there ends the test early, and not
+/// wrongly.
+fn run_of(alloc: Global, script: &[u8]) -> Result<Run, AllocError> {
     let mut reader = script;
     let mut output = Vec::with_capacity(alloc, 4096)?;
     let outcome = run_script(alloc, &mut reader, &mut output);
@@ -26,7 +29,7 @@ fn lines_of(
         lines.push(Vec::from_slice(alloc, line)?)?;
     }
     let _end = lines.pop();
-    Ok((lines, outcome))
+    Ok(Run { lines, outcome })
 }
 
 fn is_line(lines: &Vec<Vec<u8>>, i: usize, wanted: &[u8]) -> bool {
@@ -47,26 +50,33 @@ fn are_lines(lines: &Vec<Vec<u8>>, wanted: &[&[u8]]) -> bool {
             .all(|(line, wanted)| line.as_slice() == *wanted)
 }
 
-/// Asserts that a run of the script, which printed these lines, ended well, or for want of memory. One growth alone is
-/// refused: where a line differed or the run ended early, the script runs again, and prints each line whole.
+/// Whether the run ended for want of memory.
+fn wanted_memory(run: &Run) -> bool {
+    matches!(run.outcome, Err(RunFault::Memory))
+}
+
+/// Asserts that a run of the script ended well, or for want of memory. One growth alone is refused: where a line differed
+/// or the run ended early, the script runs again, and prints each line whole.
 fn assert_whole_in_the_end(
     rt: &impl Abort,
     alloc: Global,
     script: &[u8],
-    lines: &Vec<Vec<u8>>,
-    outcome: Result<(), RunFault>,
+    run: Run,
     wanted: &[&[u8]],
 ) {
-    assert!(rt; matches!(outcome, Ok(()) | Err(RunFault::Memory)));
-    if outcome.is_err() || !are_lines(lines, wanted) {
-        let (lines, outcome) = lines_of(alloc, script).expect(rt, "memory");
-        assert!(rt; are_lines(&lines, wanted));
-        assert_eq!(rt; outcome, Ok(()));
+    let is_well = run.outcome.is_ok();
+    assert_that(rt, is_well || wanted_memory(&run));
+    if !is_well || !are_lines(&run.lines, wanted) {
+        let again = run_of(alloc, script).expect(rt, "memory");
+        assert_that(rt, are_lines(&again.lines, wanted));
+        assert_that(rt, again.outcome.is_ok());
+        drop(again);
     }
+    drop(run);
 }
 
 #[test]
-fn the_first_line_that_differs_is_refused_for_memory(rt: HostRuntime) -> Result<(), Fail> {
+fn the_first_line_that_differs_is_refused_for_memory(rt: HostRuntime) {
     let script = b"struct S a:u32 b:vec3<u32>
 struct T a:S b:vec2<u32>
 new T storage read_write 010000000000000000000000000000000200000003000000040000000000000005000000060000000000000000000000
@@ -90,101 +100,99 @@ member &0 c
         b"refused NoValue",
         b"refused Component",
     ];
-    let Ok((lines, outcome)) = lines_of(rt.alloc(), script) else {
-        return Ok(());
+    let Ok(run) = run_of(rt.alloc(), script) else {
+        return;
     };
-    let first = (0..10).find(|i| !is_line(&lines, *i, wanted[*i]));
+    let first = (0..10).find(|i| !is_line(&run.lines, *i, wanted[*i]));
     match first {
-        None => assert_eq!(rt; outcome, Ok(())),
-        Some(i) if i < lines.len() => assert!(rt; is_line(&lines, i, REFUSED)),
-        Some(_) => assert_eq!(rt; outcome, Err(RunFault::Memory)),
+        None => assert_that(&rt, run.outcome.is_ok()),
+        Some(i) if i < run.lines.len() => assert_that(&rt, is_line(&run.lines, i, REFUSED)),
+        Some(_) => assert_that(&rt, wanted_memory(&run)),
     }
-    assert_whole_in_the_end(&rt, rt.alloc(), script, &lines, outcome, &wanted);
-    Ok(())
+    assert_whole_in_the_end(&rt, rt.alloc(), script, run, &wanted);
 }
 
 #[test]
-fn a_write_that_is_refused_memory_changes_nothing(rt: HostRuntime) -> Result<(), Fail> {
+fn a_write_that_is_refused_memory_changes_nothing(rt: HostRuntime) {
     let script = b"new vec2<u32> storage read_write 0100000002000000
 write &0 0300000004000000
 read &0
 ";
-    let Ok((lines, outcome)) = lines_of(rt.alloc(), script) else {
-        return Ok(());
+    let Ok(run) = run_of(rt.alloc(), script) else {
+        return;
     };
-    if is_line(&lines, 0, b"&0") {
-        let held: &[u8] = if is_line(&lines, 1, b"done") {
+    if is_line(&run.lines, 0, b"&0") {
+        let held: &[u8] = if is_line(&run.lines, 1, b"done") {
             b"vec2(3u, 4u)"
         } else {
             b"vec2(1u, 2u)"
         };
-        assert!(rt; is_or_refused(&lines, 1, b"done"));
-        assert!(rt; is_or_refused(&lines, 2, held));
+        assert_that(&rt, is_or_refused(&run.lines, 1, b"done"));
+        assert_that(&rt, is_or_refused(&run.lines, 2, held));
     }
     let wanted: [&[u8]; 3] = [b"&0", b"done", b"vec2(3u, 4u)"];
-    assert_whole_in_the_end(&rt, rt.alloc(), script, &lines, outcome, &wanted);
-    Ok(())
+    assert_whole_in_the_end(&rt, rt.alloc(), script, run, &wanted);
 }
 
 #[test]
-fn a_handle_that_is_refused_memory_takes_no_number(rt: HostRuntime) -> Result<(), Fail> {
+fn a_handle_that_is_refused_memory_takes_no_number(rt: HostRuntime) {
     let script = b"new u32 storage read 01000000
 new u32 storage read 02000000
 read &0
 ";
-    let Ok((lines, outcome)) = lines_of(rt.alloc(), script) else {
-        return Ok(());
+    let Ok(run) = run_of(rt.alloc(), script) else {
+        return;
     };
-    let is_made = is_line(&lines, 0, b"&0");
-    assert!(rt; is_or_refused(&lines, 0, b"&0"));
-    assert!(rt; is_or_refused(&lines, 1, if is_made { b"&1" } else { b"&0" }));
+    let is_made = is_line(&run.lines, 0, b"&0");
+    assert_that(&rt, is_or_refused(&run.lines, 0, b"&0"));
+    assert_that(
+        &rt,
+        is_or_refused(&run.lines, 1, if is_made { b"&1" } else { b"&0" }),
+    );
     if is_made {
-        assert!(rt; is_or_refused(&lines, 2, b"1u"));
+        assert_that(&rt, is_or_refused(&run.lines, 2, b"1u"));
     }
     let wanted: [&[u8]; 3] = [b"&0", b"&1", b"1u"];
-    assert_whole_in_the_end(&rt, rt.alloc(), script, &lines, outcome, &wanted);
-    Ok(())
+    assert_whole_in_the_end(&rt, rt.alloc(), script, run, &wanted);
 }
 
 #[test]
-fn cells_of_one_structure_want_memory_or_are_made(rt: HostRuntime) -> Result<(), Fail> {
+fn cells_of_one_structure_want_memory_or_are_made(rt: HostRuntime) {
     let script = b"struct S a:u32
 new S storage read 01000000
 new S storage read 02000000
 new S storage read 03000000
 read &2
 ";
-    let Ok((lines, outcome)) = lines_of(rt.alloc(), script) else {
-        return Ok(());
+    let Ok(run) = run_of(rt.alloc(), script) else {
+        return;
     };
-    if is_line(&lines, 3, b"&2") {
-        assert!(rt; is_or_refused(&lines, 4, b"S(3u)"));
+    if is_line(&run.lines, 3, b"&2") {
+        assert_that(&rt, is_or_refused(&run.lines, 4, b"S(3u)"));
     }
     let wanted: [&[u8]; 5] = [b"done", b"&0", b"&1", b"&2", b"S(3u)"];
-    assert_whole_in_the_end(&rt, rt.alloc(), script, &lines, outcome, &wanted);
-    Ok(())
+    assert_whole_in_the_end(&rt, rt.alloc(), script, run, &wanted);
 }
 
 #[test]
-fn an_element_of_wide_vectors_is_read_or_refused_memory(rt: HostRuntime) -> Result<(), Fail> {
+fn an_element_of_wide_vectors_is_read_or_refused_memory(rt: HostRuntime) {
     let script =
         b"new array<vec3<i64>> storage read_write 01000000000000000200000000000000030000000000000000000000000000000400000000000000050000000000000006000000000000000000000000000000
 index &0 1
 read &1
 ";
-    let Ok((lines, outcome)) = lines_of(rt.alloc(), script) else {
-        return Ok(());
+    let Ok(run) = run_of(rt.alloc(), script) else {
+        return;
     };
-    assert!(rt; is_or_refused(&lines, 0, b"&0"));
-    if is_line(&lines, 0, b"&0") {
-        assert!(rt; is_or_refused(&lines, 1, b"&1"));
+    assert_that(&rt, is_or_refused(&run.lines, 0, b"&0"));
+    if is_line(&run.lines, 0, b"&0") {
+        assert_that(&rt, is_or_refused(&run.lines, 1, b"&1"));
     }
-    if is_line(&lines, 1, b"&1") {
-        assert!(rt; is_or_refused(&lines, 2, b"vec3(4li, 5li, 6li)"));
+    if is_line(&run.lines, 1, b"&1") {
+        assert_that(&rt, is_or_refused(&run.lines, 2, b"vec3(4li, 5li, 6li)"));
     }
     let wanted: [&[u8]; 3] = [b"&0", b"&1", b"vec3(4li, 5li, 6li)"];
-    assert_whole_in_the_end(&rt, rt.alloc(), script, &lines, outcome, &wanted);
-    Ok(())
+    assert_whole_in_the_end(&rt, rt.alloc(), script, run, &wanted);
 }
 
 /// Lines, what each prints, and how many growths of memory it asks for outside of the calls of a session and of those to
@@ -290,16 +298,17 @@ fn want_of_memory_within_a_call_is_told_and_other_want_ends_the_run(rt: HostRunt
     let mut reader = script.as_bytes();
     let outcome = run_script(alloc, &mut reader, &mut noting);
     let Some(line) = first_other(&noting.taken) else {
-        assert_eq!(rt; outcome, Ok(()));
+        assert_same(&rt, outcome, Ok(()));
         return;
     };
     let ends = noting.lines == line;
-    assert_eq!(rt; outcome, if ends { Err(RunFault::Memory) } else { Ok(()) });
+    let wanted = if ends { Err(RunFault::Memory) } else { Ok(()) };
+    assert_same(&rt, outcome, wanted);
     let printed = noting.taken.split(|byte| *byte == b'\n').nth(line);
-    assert!(rt; ends || printed == Some(REFUSED));
+    assert_that(&rt, ends || printed == Some(REFUSED));
     // One growth alone is refused, so the script runs whole again.
     let again = output_of(alloc, script.as_bytes()).expect(&rt, "memory");
-    assert!(rt; first_other(&again).is_none());
+    assert_that(&rt, first_other(&again).is_none());
     let before = line.checked_sub(1).and_then(|last| noting.asked.get(last));
     let outside = LINES.get(line).and_then(|row| row.2);
     if let (Some(outside), Some(refused)) = (outside, number_of(&rt, "REFUSE_GROWTH")) {

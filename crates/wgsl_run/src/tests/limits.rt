@@ -1,4 +1,6 @@
-use crate::tests::{Script, assert_answers, assert_each, assert_prints, output_of};
+use crate::tests::{
+    Script, assert_answers, assert_each, assert_prints, assert_same, assert_that, output_of,
+};
 use std::alloc::{AllocError, Global};
 use std::fmt::Write;
 use std::process::Abort;
@@ -27,7 +29,7 @@ fn joined(
 fn a_script_of_the_greatest_length_is_run(rt: HostRuntime) {
     let first = b"new u32 storage read 05000000\nread &0\n";
     let script = joined(rt.alloc(), first, b'\n', LIMIT - first.len(), b"").expect(&rt, "memory");
-    assert_eq!(rt; script.len(), 1_048_576);
+    assert_same(&rt, script.len(), 1_048_576);
     assert_prints(&rt, rt.alloc(), script.as_slice(), b"&0\n5u\n");
 }
 
@@ -36,12 +38,12 @@ fn one_byte_more_is_too_long_and_runs_nothing(rt: HostRuntime) {
     let first = b"new u32 storage read 05000000\nread &0\n";
     let script = joined(rt.alloc(), first, b'\n', LIMIT - first.len() + 1, b"");
     let script = script.expect(&rt, "memory");
-    assert_eq!(rt; script.len(), 1_048_577);
+    assert_same(&rt, script.len(), 1_048_577);
     let mut reader = script.as_slice();
     let mut output = Vec::new(rt.alloc());
     let outcome = run_script(rt.alloc(), &mut reader, &mut output);
-    assert_eq!(rt; outcome, Err(RunFault::TooLong));
-    assert!(rt; output.is_empty());
+    assert_same(&rt, outcome, Err(RunFault::TooLong));
+    assert_that(&rt, output.is_empty());
 }
 
 #[test]
@@ -313,8 +315,8 @@ fn counts_reach_to_4294967295(rt: HostRuntime) {
 fn many_definitions_cost_no_more_than_their_lines(rt: HostRuntime) {
     let script = chain(rt.alloc(), 4094).expect(&rt, "memory");
     let output = output_of(rt.alloc(), script.as_bytes()).expect(&rt, "memory");
-    assert_eq!(rt; output.len(), 5 * 4095);
+    assert_same(&rt, output.len(), 5 * 4095);
     let script = chain(rt.alloc(), 4095).expect(&rt, "memory");
     let output = output_of(rt.alloc(), script.as_bytes()).expect(&rt, "memory");
-    assert!(rt; output.ends_with(b"done\nrefused BadLine\n"));
+    assert_that(&rt, output.ends_with(b"done\nrefused BadLine\n"));
 }

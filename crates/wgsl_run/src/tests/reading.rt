@@ -406,14 +406,13 @@ impl Reader {
     }
 
     fn dump(&mut self, rt: &impl Abort, from: usize) -> Option<String> {
-        match self.call(rt, Call::Read(from)) {
-            Ok(Reply::Value(value)) => {
-                let digits = digits(rt, self.alloc, &value);
-                drop(value);
-                Some(digits)
-            }
-            answer => Some(answer_text(rt, self.alloc, answer)),
-        }
+        let answer = self.call(rt, Call::Read(from));
+        let Ok(Reply::Value(value)) = &answer else {
+            return Some(answer_text(rt, self.alloc, answer));
+        };
+        let digits = digits(rt, self.alloc, value);
+        drop(answer);
+        Some(digits)
     }
 
     fn step(&mut self, rt: &impl Abort, from: usize, name: &str) -> Option<String> {
