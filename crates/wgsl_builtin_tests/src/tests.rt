@@ -28,5 +28,6 @@ mod atomics;
 mod builtins;
 mod growth;
 mod laws;
+mod rows;
 mod using;
 mod without_memory;

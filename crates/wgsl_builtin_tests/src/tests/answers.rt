@@ -33,11 +33,11 @@ pub(super) fn settled<T>(answer: Result<T, Error>) -> Option<Result<T, Error>> {
 pub(super) fn assert_answer<T: Display + Drop>(
     rt: &impl Abort,
     alloc: Global,
-    row: usize,
+    row: &str,
     answer: Result<T, Error>,
     wanted: &str,
 ) {
     let text = again!(rt; text_of(alloc, &answer));
     drop(answer);
-    assert_eq!(rt; text.as_str(), wanted, "row {row}");
+    assert_eq!(rt; text.as_str(), wanted, "{row}");
 }

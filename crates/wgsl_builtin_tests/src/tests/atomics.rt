@@ -7,11 +7,13 @@ mod calls;
 mod lists;
 mod memory;
 mod plain;
+mod rows;
 mod sorts;
 mod steps;
 
 pub(super) use calls::{changed, length, loaded, stored};
-pub(super) use steps::{Step, assert_call, assert_refused, assert_steps, view};
+pub(super) use rows::{accessed, assert_rows, assert_steps};
+pub(super) use steps::view;
 
 /// A change of an atomic.
 #[derive(Clone, Copy, Debug, PartialEq, Eq)]
@@ -45,14 +47,4 @@ pub(super) struct Place {
     pub indices: &'static [usize],
     pub like: Sample,
     pub access: AccessMode,
-}
-
-/// The whole of a cell that has the sample.
-pub(super) fn whole(cell: Sample, access: AccessMode) -> Place {
-    Place {
-        name: "",
-        indices: &[],
-        like: cell,
-        access,
-    }
 }

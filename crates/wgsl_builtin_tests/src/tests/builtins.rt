@@ -4,6 +4,7 @@ ghost use Rattle.wgsl_rules.specs.Values.{IsWellFormed};
 ghost use Rattle.wgsl_values.specs.View.{value_of};
 
 use crate::tests::answers::{assert_answer, made};
+use crate::tests::rows::{parted, sample, three_samples, two_samples};
 use std::alloc::{AllocError, Global};
 use std::process::Abort;
 use wgsl_rules::{ShaderStage, Type};
@@ -72,7 +73,7 @@ fn of_one(alloc: Global, function: One, e: &Instance) -> Result<Instance, Error>
 pub(super) fn assert_one(
     rt: &impl Abort,
     alloc: Global,
-    row: usize,
+    row: &str,
     function: One,
     e: Sample,
     wanted: &str,
@@ -83,9 +84,11 @@ pub(super) fn assert_one(
     assert_answer(rt, alloc, row, answer, wanted);
 }
 
-pub(super) fn assert_rows_of_one(rt: &impl Abort, alloc: Global, rows: &[(One, Sample, &str)]) {
-    for (row, (function, e, wanted)) in rows.iter().enumerate() {
-        assert_one(rt, alloc, row, *function, *e, wanted);
+/// Asserts each row: `value -> wanted`.
+pub(super) fn assert_rows_of_one(rt: &impl Abort, alloc: Global, function: One, rows: &str) {
+    for line in rows.lines() {
+        let (e, wanted) = parted(rt, line, " -> ");
+        assert_one(rt, alloc, line, function, sample(rt, e), wanted);
     }
 }
 
@@ -122,7 +125,7 @@ pub(super) fn of_two(
 pub(super) fn assert_two(
     rt: &impl Abort,
     alloc: Global,
-    row: usize,
+    row: &str,
     function: Two,
     (a, b): (Sample, Sample),
     wanted: &str,
@@ -134,13 +137,12 @@ pub(super) fn assert_two(
     assert_answer(rt, alloc, row, answer, wanted);
 }
 
-pub(super) fn assert_rows_of_two(
-    rt: &impl Abort,
-    alloc: Global,
-    rows: &[(Two, Sample, Sample, &str)],
-) {
-    for (row, (function, a, b, wanted)) in rows.iter().enumerate() {
-        assert_two(rt, alloc, row, *function, (*a, *b), wanted);
+/// Asserts each row: `value; value -> wanted`.
+pub(super) fn assert_rows_of_two(rt: &impl Abort, alloc: Global, function: Two, rows: &str) {
+    for line in rows.lines() {
+        let (values, wanted) = parted(rt, line, " -> ");
+        let values = two_samples(rt, values);
+        assert_two(rt, alloc, line, function, values, wanted);
     }
 }
 
@@ -175,7 +177,7 @@ pub(super) fn of_three(
 pub(super) fn assert_three(
     rt: &impl Abort,
     alloc: Global,
-    row: usize,
+    row: &str,
     function: Three,
     (a, b, c): (Sample, Sample, Sample),
     wanted: &str,
@@ -188,13 +190,12 @@ pub(super) fn assert_three(
     assert_answer(rt, alloc, row, answer, wanted);
 }
 
-pub(super) fn assert_rows_of_three(
-    rt: &impl Abort,
-    alloc: Global,
-    rows: &[(Three, Sample, Sample, Sample, &str)],
-) {
-    for (row, (function, a, b, c, wanted)) in rows.iter().enumerate() {
-        assert_three(rt, alloc, row, *function, (*a, *b, *c), wanted);
+/// Asserts each row: `value; value; value -> wanted`.
+pub(super) fn assert_rows_of_three(rt: &impl Abort, alloc: Global, function: Three, rows: &str) {
+    for line in rows.lines() {
+        let (values, wanted) = parted(rt, line, " -> ");
+        let values = three_samples(rt, values);
+        assert_three(rt, alloc, line, function, values, wanted);
     }
 }
 
@@ -202,7 +203,7 @@ pub(super) fn assert_rows_of_three(
 pub(super) fn assert_inserted(
     rt: &impl Abort,
     alloc: Global,
-    row: usize,
+    row: &str,
     (e, newbits): (Sample, Sample),
     (offset, count): (Sample, Sample),
     wanted: &str,
@@ -214,6 +215,17 @@ pub(super) fn assert_inserted(
     let answer = answered!(insertBits(alloc, &e, &newbits, &offset, &count));
     drop((e, newbits, offset, count));
     assert_answer(rt, alloc, row, answer, wanted);
+}
+
+/// Asserts each row: `value; value; offset; count -> wanted`.
+pub(super) fn assert_rows_of_insertions(rt: &impl Abort, alloc: Global, rows: &str) {
+    for line in rows.lines() {
+        let (samples, wanted) = parted(rt, line, " -> ");
+        let (e, others) = parted(rt, samples, "; ");
+        let (newbits, offset, count) = three_samples(rt, others);
+        let values = (sample(rt, e), newbits);
+        assert_inserted(rt, alloc, line, values, (offset, count), wanted);
+    }
 }
 
 /// The scalar of a cast's template.
@@ -244,7 +256,7 @@ fn template(alloc: Global, count: u8, word: Word) -> Result<Type, AllocError> {
 pub(super) fn assert_cast(
     rt: &impl Abort,
     alloc: Global,
-    row: usize,
+    row: &str,
     (count, word): (u8, Word),
     e: Sample,
     wanted: &str,
@@ -257,13 +269,10 @@ pub(super) fn assert_cast(
     assert_answer(rt, alloc, row, answer, wanted);
 }
 
-pub(super) fn assert_casts(
-    rt: &impl Abort,
-    alloc: Global,
-    word: Word,
-    rows: &[(u8, Sample, &str)],
-) {
-    for (row, (count, e, wanted)) in rows.iter().enumerate() {
-        assert_cast(rt, alloc, row, (*count, word), *e, wanted);
+/// Asserts each row: `value -> wanted`.
+pub(super) fn assert_casts(rt: &impl Abort, alloc: Global, template: (u8, Word), rows: &str) {
+    for line in rows.lines() {
+        let (e, wanted) = parted(rt, line, " -> ");
+        assert_cast(rt, alloc, line, template, sample(rt, e), wanted);
     }
 }

@@ -2,14 +2,15 @@
 //! arguments is refused.
 
 use crate::tests::atomics::{Place, view};
+use crate::tests::rows::{parted, sample};
 use std::alloc::Global;
 use std::process::Abort;
 use wgsl_rules::AccessMode::ReadWrite;
 use wgsl_rules::AddressSpace::Storage;
-use wgsl_rules::{AccessMode, Ty, Type};
-use wgsl_samples::operands::{Sample, b, b2, i, make};
+use wgsl_rules::{Ty, Type};
+use wgsl_samples::operands::{Sample, make};
 use wgsl_samples::types::vector;
-use wgsl_scalar::LiteralInstance::Bool;
+use wgsl_scalar::Error;
 use wgsl_store::{References, Store};
 use wgsl_types::{all, any, is_bitcast_target};
 use wgsl_values::{Instance, PtrInstance, RefInstance};
@@ -51,49 +52,48 @@ fn pointer(rt: &impl Abort, alloc: Global, place: Place) -> Instance {
     Instance::from(PtrInstance::from(reference))
 }
 
-/// A part of what the cell has.
-fn part(name: &'static str, indices: &'static [usize], like: Sample, access: AccessMode) -> Place {
-    Place {
-        name,
-        indices,
-        like,
-        access,
+/// Whether the answer is true; none where there is none.
+fn truth(answer: Result<Instance, Error>) -> Option<bool> {
+    let wanted = Instance::from(true);
+    let truth = match &answer {
+        Ok(value) => Some(value == &wanted),
+        Err(_) => None,
+    };
+    drop((answer, wanted));
+    truth
+}
+
+/// What the word says: `-` stands for none.
+fn said(rt: &impl Abort, word: &str) -> Option<bool> {
+    match word {
+        "true" => Some(true),
+        "false" => Some(false),
+        "-" => None,
+        _ => panic!(rt; "{word} is no answer"),
     }
 }
 
-/// A value, and whether all and any of its bools are true, where it has some.
-type Row = (Instance, Option<bool>, Option<bool>);
-
-fn row(
-    rt: &impl Abort,
-    alloc: Global,
-    sample: Sample,
-    all: Option<bool>,
-    any: Option<bool>,
-) -> Row {
-    let value = value(rt, alloc, sample);
-    assert!(rt; value.is_well_formed());
-    (value, all, any)
-}
+/// Values, and whether all and any of their bools are true, where they have some.
+const ALL_AND_ANY: &str = "\
+    true -> true true
+    vec2(true, true) -> true true
+    vec2(false, false) -> false false
+    vec4(false, false, false, true) -> false true
+    1i -> - -
+    structure -> - -";
 
 #[test]
 fn all_and_any(rt: HostRuntime) {
     let alloc = rt.alloc();
-    let last = Sample::Four([Bool(false), Bool(false), Bool(false), Bool(true)]);
-    let rows = [
-        row(&rt, alloc, b(true), Some(true), Some(true)),
-        row(&rt, alloc, b2(true, true), Some(true), Some(true)),
-        row(&rt, alloc, b2(false, false), Some(false), Some(false)),
-        row(&rt, alloc, last, Some(false), Some(true)),
-        row(&rt, alloc, i(1), None, None),
-        row(&rt, alloc, Sample::Structure, None, None),
-    ];
-    for (value, every, some) in &rows {
+    for row in ALL_AND_ANY.lines() {
+        let (name, words) = parted(&rt, row, " -> ");
+        let (every, some) = parted(&rt, words, " ");
+        let value = value(&rt, alloc, sample(&rt, name));
         assert!(rt; value.is_well_formed());
-        assert_eq!(rt; all(value).ok().map(|v| v == Instance::from(true)), *every);
-        assert_eq!(rt; any(value).ok().map(|v| v == Instance::from(true)), *some);
+        assert!(rt; truth(all(&value)) == said(&rt, every), "{row}");
+        assert!(rt; truth(any(&value)) == said(&rt, some), "{row}");
+        drop(value);
     }
-    drop(rows);
 }
 
 #[test]

@@ -3,7 +3,8 @@
 use crate::tests::atomics::OnMemory::{CompareExchange, Length, Load, Store};
 use crate::tests::atomics::steps::assert_no_pointer;
 use crate::tests::atomics::{Change, OnMemory};
-use wgsl_samples::operands::{Sample, b, i2, n, u};
+use crate::tests::rows::sample;
+use wgsl_samples::operands::Sample;
 use wgsl_scalar::LiteralInstance::I32;
 
 const EACH_ON_MEMORY: [OnMemory; 13] = [
@@ -22,24 +23,26 @@ const EACH_ON_MEMORY: [OnMemory; 13] = [
     CompareExchange(Sample::Deferred, Sample::Deferred),
 ];
 
+/// A value of each sort, none of them a pointer.
+const OTHERS: &str = "\
+    1u
+    1
+    true
+    vec2(1i, 2i)
+    matrix
+    array
+    structure
+    reference
+    atomic 5i
+    deferred";
+
 #[test]
 fn functions_of_memory_refuse_what_is_no_pointer(rt: HostRuntime) {
     let alloc = rt.alloc();
-    let others = [
-        u(1),
-        n(1),
-        b(true),
-        i2(1, 2),
-        Sample::Matrix,
-        Sample::Array,
-        Sample::Structure,
-        Sample::Reference,
-        Sample::Atomic(I32(5)),
-        Sample::Deferred,
-    ];
     for function in EACH_ON_MEMORY {
-        for (row, other) in others.iter().enumerate() {
-            assert_no_pointer(&rt, alloc, row, function, *other);
+        for line in OTHERS.lines() {
+            let other = sample(&rt, line.trim());
+            assert_no_pointer(&rt, alloc, line, function, other);
         }
     }
 }

@@ -77,14 +77,14 @@ fn held_by(rt: &impl Abort, alloc: Global, store: &Store, cell: &RefInstance) ->
 }
 
 /// Asserts the text of the value in the cell, and its bytes as words: none where it has no layout.
-fn assert_held(rt: &impl Abort, alloc: Global, row: usize, held: Held, text: &str, words: &[u32]) {
-    assert_eq!(rt; held.text.as_str(), text, "row {row}");
+fn assert_held(rt: &impl Abort, alloc: Global, row: &str, held: Held, text: &str, words: &[u32]) {
+    assert_eq!(rt; held.text.as_str(), text, "{row}");
     match &held.bytes {
         Some(bytes) => {
             let wanted = again!(rt; bytes_of(alloc, words));
-            assert_eq!(rt; bytes, &wanted, "row {row}");
+            assert_eq!(rt; bytes, &wanted, "{row}");
         }
-        None => assert!(rt; words.is_empty(), "row {row} has no bytes"),
+        None => assert!(rt; words.is_empty(), "{row} has no bytes"),
     }
     drop(held);
 }
@@ -125,110 +125,103 @@ fn called_again(
 fn assert_outcome(
     rt: &impl Abort,
     alloc: Global,
-    row: usize,
+    row: &str,
     answer: Result<Option<Instance>, Error>,
     wanted: &str,
 ) {
     match answer {
         Ok(Some(value)) => assert_answer(rt, alloc, row, Ok(value), wanted),
-        Ok(None) => assert_eq!(rt; "done", wanted, "row {row}"),
+        Ok(None) => assert_eq!(rt; "done", wanted, "{row}"),
         Err(error) => assert_answer(rt, alloc, row, Err::<Instance, Error>(error), wanted),
     }
 }
 
-/// Asserts what the function answers at the place, and hands out what the store then has.
-fn called_at(
-    rt: &impl Abort,
-    alloc: Global,
-    row: usize,
-    (store, cell): (&mut Store, &RefInstance),
-    (place, function): (Place, OnMemory),
-    wanted: &str,
-) -> Held {
-    let p = pointer(rt, alloc, place);
-    let answer = called_again(rt, alloc, function, store, cell, &p);
-    drop(p);
-    assert_outcome(rt, alloc, row, answer, wanted);
-    held_by(rt, alloc, store, cell)
+/// A store with one cell, and the reference to it.
+#[derive(Drop)]
+pub(crate) struct Only {
+    store: Store,
+    cell: RefInstance,
 }
 
-/// Asserts what the function answers at the place of a store with one cell, and hands out what the store then has.
-fn outcome(
-    rt: &impl Abort,
-    alloc: Global,
-    row: usize,
-    (cell, place): (Sample, Place),
-    function: OnMemory,
-    wanted: &str,
-) -> Held {
-    let mut store = Store::new(alloc);
-    let cell = only_cell(rt, alloc, &mut store, cell);
-    let held = called_at(
-        rt,
-        alloc,
-        row,
-        (&mut store, &cell),
-        (place, function),
-        wanted,
-    );
-    drop((store, cell));
-    held
+impl Only {
+    pub(crate) fn new(rt: &impl Abort, alloc: Global, cell: Sample) -> Only {
+        let mut store = Store::new(alloc);
+        let cell = only_cell(rt, alloc, &mut store, cell);
+        Only { store, cell }
+    }
+
+    /// Asserts what the function answers where it is handed the value, and hands out what the store then has.
+    fn called(
+        &mut self,
+        rt: &impl Abort,
+        alloc: Global,
+        row: &str,
+        (p, function): (Instance, OnMemory),
+        wanted: &str,
+    ) -> Held {
+        let answer = called_again(rt, alloc, function, &mut self.store, &self.cell, &p);
+        drop(p);
+        assert_outcome(rt, alloc, row, answer, wanted);
+        held_by(rt, alloc, &self.store, &self.cell)
+    }
+
+    /// Asserts what the function answers at the place, and what the cell then has: the text of its value, and its bytes
+    /// as words, or none where it has no layout.
+    pub(crate) fn assert_step(
+        &mut self,
+        rt: &impl Abort,
+        alloc: Global,
+        row: &str,
+        (place, function): (Place, OnMemory),
+        wanted: &str,
+        after: (&str, &[u32]),
+    ) {
+        let p = pointer(rt, alloc, place);
+        let held = self.called(rt, alloc, row, (p, function), wanted);
+        assert_held(rt, alloc, row, held, after.0, after.1);
+    }
 }
 
 /// Asserts that the function is refused at the place of a store with one cell; the store is as before.
 pub(crate) fn assert_refused(
     rt: &impl Abort,
     alloc: Global,
-    row: usize,
-    at: (Sample, Place),
+    row: &str,
+    (cell, place): (Sample, Place),
     function: OnMemory,
     wanted: &str,
 ) {
-    drop(outcome(rt, alloc, row, at, function, wanted));
+    let mut only = Only::new(rt, alloc, cell);
+    let p = pointer(rt, alloc, place);
+    drop(only.called(rt, alloc, row, (p, function), wanted));
+    drop(only);
 }
 
-/// Asserts what the function answers at the place of a store with one cell, and what the cell then has: the text of
-/// its value, and its bytes as words, or none where it has no layout.
+/// Asserts what the function answers at the place of a store with one cell, and what the cell then has.
 pub(crate) fn assert_call(
     rt: &impl Abort,
     alloc: Global,
-    row: usize,
-    at: (Sample, Place),
+    row: &str,
+    (cell, place): (Sample, Place),
     function: OnMemory,
     wanted: &str,
     after: (&str, &[u32]),
 ) {
-    let held = outcome(rt, alloc, row, at, function, wanted);
-    assert_held(rt, alloc, row, held, after.0, after.1);
-}
-
-/// A call at a place, what it answers, and what the cell then has: the text of its value, and its bytes as words.
-pub(crate) type Step = (Place, OnMemory, &'static str, &'static str, &'static [u32]);
-
-/// Asserts the steps on a store with one cell, one after the other.
-pub(crate) fn assert_steps(rt: &impl Abort, alloc: Global, cell: Sample, steps: &[Step]) {
-    let mut store = Store::new(alloc);
-    let cell = only_cell(rt, alloc, &mut store, cell);
-    for (row, (place, function, wanted, text, words)) in steps.iter().enumerate() {
-        let call = (*place, *function);
-        let held = called_at(rt, alloc, row, (&mut store, &cell), call, wanted);
-        assert_held(rt, alloc, row, held, text, words);
-    }
-    drop((store, cell));
+    let mut only = Only::new(rt, alloc, cell);
+    only.assert_step(rt, alloc, row, (place, function), wanted, after);
+    drop(only);
 }
 
 /// Asserts that the function refuses the value in the place of a pointer by `Builtin`; the store is as before.
 pub(super) fn assert_no_pointer(
     rt: &impl Abort,
     alloc: Global,
-    row: usize,
+    row: &str,
     function: OnMemory,
     value: Sample,
 ) {
-    let mut store = Store::new(alloc);
-    let cell = only_cell(rt, alloc, &mut store, Sample::Counters);
+    let mut only = Only::new(rt, alloc, Sample::Counters);
     let p = made(rt, alloc, value);
-    let answer = called_again(rt, alloc, function, &mut store, &cell, &p);
-    drop((p, cell, store));
-    assert_outcome(rt, alloc, row, answer, "Builtin");
+    drop(only.called(rt, alloc, row, (p, function), "Builtin"));
+    drop(only);
 }

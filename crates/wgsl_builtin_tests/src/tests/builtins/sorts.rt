@@ -4,11 +4,11 @@ use crate::tests::builtins::Word::{Signed, Unsigned};
 use crate::tests::builtins::{
     One, Three, Two, assert_cast, assert_inserted, assert_one, assert_three, assert_two,
 };
+use crate::tests::rows::sample;
 use std::alloc::Global;
 use std::process::Abort;
 use wgsl_rules::ShaderStage::{Const, Exec};
-use wgsl_samples::operands::{Sample, u};
-use wgsl_scalar::LiteralInstance::I32;
+use wgsl_samples::operands::u;
 
 const EACH_OF_ONE: [One; 17] = [
     One::Abs,
@@ -39,38 +39,45 @@ const EACH_OF_TWO: [Two; 6] = [
     Two::Dot4I8Packed,
 ];
 
-const MATRICES: [Sample; 2] = [Sample::Matrix, Sample::Tall];
-
 /// A value of each sort beside numbers, bools, vectors and matrices.
-const OTHERS: [Sample; 6] = [
-    Sample::Array,
-    Sample::Structure,
-    Sample::Pointer,
-    Sample::Reference,
-    Sample::Atomic(I32(5)),
-    Sample::Deferred,
-];
+const OTHERS: &str = "\
+    array
+    structure
+    pointer
+    reference
+    atomic 5i
+    deferred";
+
+const MATRICES: &str = "\
+    matrix
+    tall";
 
 #[test]
 fn functions_of_one_value_refuse_other_sorts(rt: HostRuntime) {
     let alloc = rt.alloc();
     for function in EACH_OF_ONE {
-        for (row, other) in OTHERS.iter().enumerate() {
-            assert_one(&rt, alloc, row, function, *other, "Builtin");
-        }
+        assert_each_refused_by_one(&rt, alloc, function, OTHERS);
         if function != One::Transpose {
-            assert_one(&rt, alloc, 6, function, Sample::Matrix, "Builtin");
+            assert_each_refused_by_one(&rt, alloc, function, "matrix");
         }
     }
 }
 
-/// Asserts that the function refuses the value at each place.
-fn assert_refused_by_two(rt: &impl Abort, alloc: Global, function: Two, other: Sample) {
-    for (row, arguments) in [(other, u(1)), (u(1), other), (other, other)]
-        .iter()
-        .enumerate()
-    {
-        assert_two(rt, alloc, row, function, *arguments, "Builtin");
+/// Asserts that the function refuses each of the values.
+fn assert_each_refused_by_one(rt: &impl Abort, alloc: Global, function: One, others: &str) {
+    for line in others.lines() {
+        let other = sample(rt, line.trim());
+        assert_one(rt, alloc, line, function, other, "Builtin");
+    }
+}
+
+/// Asserts that the function refuses each of the values at each place.
+fn assert_each_refused_by_two(rt: &impl Abort, alloc: Global, function: Two, others: &str) {
+    for line in others.lines() {
+        let other = sample(rt, line.trim());
+        assert_two(rt, alloc, line, function, (other, u(1)), "Builtin");
+        assert_two(rt, alloc, line, function, (u(1), other), "Builtin");
+        assert_two(rt, alloc, line, function, (other, other), "Builtin");
     }
 }
 
@@ -78,12 +85,23 @@ fn assert_refused_by_two(rt: &impl Abort, alloc: Global, function: Two, other: S
 fn functions_of_two_values_refuse_other_sorts(rt: HostRuntime) {
     let alloc = rt.alloc();
     for function in EACH_OF_TWO {
-        for other in OTHERS {
-            assert_refused_by_two(&rt, alloc, function, other);
-        }
-        for other in MATRICES {
-            assert_refused_by_two(&rt, alloc, function, other);
-        }
+        assert_each_refused_by_two(&rt, alloc, function, OTHERS);
+        assert_each_refused_by_two(&rt, alloc, function, MATRICES);
+    }
+}
+
+/// Asserts that the function refuses each of the values at each place.
+fn assert_each_refused_by_three(rt: &impl Abort, alloc: Global, function: Three, others: &str) {
+    for line in others.lines() {
+        let other = sample(rt, line.trim());
+        let (first, second, third) = (
+            (other, u(1), u(1)),
+            (u(1), other, u(1)),
+            (u(1), u(1), other),
+        );
+        assert_three(rt, alloc, line, function, first, "Builtin");
+        assert_three(rt, alloc, line, function, second, "Builtin");
+        assert_three(rt, alloc, line, function, third, "Builtin");
     }
 }
 
@@ -91,42 +109,32 @@ fn functions_of_two_values_refuse_other_sorts(rt: HostRuntime) {
 fn functions_of_three_values_refuse_other_sorts(rt: HostRuntime) {
     let alloc = rt.alloc();
     for function in [Three::Clamp, Three::ExtractBits, Three::Select] {
-        for other in OTHERS {
-            let places = [
-                (other, u(1), u(1)),
-                (u(1), other, u(1)),
-                (u(1), u(1), other),
-            ];
-            for (row, arguments) in places.iter().enumerate() {
-                assert_three(&rt, alloc, row, function, *arguments, "Builtin");
-            }
-        }
+        assert_each_refused_by_three(&rt, alloc, function, OTHERS);
     }
 }
 
 #[test]
 fn inserted_bits_are_of_no_other_sort(rt: HostRuntime) {
     let alloc = rt.alloc();
-    for other in OTHERS {
-        let places = [
-            ((other, u(1)), (u(1), u(1))),
-            ((u(1), other), (u(1), u(1))),
-            ((other, other), (u(1), u(1))),
-            ((u(1), u(1)), (other, u(1))),
-            ((u(1), u(1)), (u(1), other)),
-        ];
-        for (row, (values, field)) in places.iter().enumerate() {
-            assert_inserted(&rt, alloc, row, *values, *field, "Builtin");
-        }
+    let (one, field) = (u(1), (u(1), u(1)));
+    for line in OTHERS.lines() {
+        let other = sample(&rt, line.trim());
+        assert_inserted(&rt, alloc, line, (other, one), field, "Builtin");
+        assert_inserted(&rt, alloc, line, (one, other), field, "Builtin");
+        assert_inserted(&rt, alloc, line, (other, other), field, "Builtin");
+        assert_inserted(&rt, alloc, line, (one, one), (other, one), "Builtin");
+        assert_inserted(&rt, alloc, line, (one, one), (one, other), "Builtin");
     }
 }
 
 #[test]
 fn other_sorts_have_no_bytes_of_a_number(rt: HostRuntime) {
     let alloc = rt.alloc();
-    for (row, other) in OTHERS.iter().enumerate() {
-        for template in [(0, Signed), (0, Unsigned), (2, Signed), (4, Unsigned)] {
-            assert_cast(&rt, alloc, row, template, *other, "Builtin");
-        }
+    for line in OTHERS.lines() {
+        let other = sample(&rt, line.trim());
+        assert_cast(&rt, alloc, line, (0, Signed), other, "Builtin");
+        assert_cast(&rt, alloc, line, (0, Unsigned), other, "Builtin");
+        assert_cast(&rt, alloc, line, (2, Signed), other, "Builtin");
+        assert_cast(&rt, alloc, line, (4, Unsigned), other, "Builtin");
     }
 }

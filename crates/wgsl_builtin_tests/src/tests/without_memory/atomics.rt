@@ -1,13 +1,12 @@
 //! Numbers of atomics, loaded, stored and exchanged in their places.
 
-use crate::tests::atomics::{Change, Place, changed, loaded, stored, whole};
-use crate::tests::without_memory::{part, pointer, store_of, value};
+use crate::tests::atomics::{Change, accessed, changed, loaded, stored};
+use crate::tests::rows::{literal_of, parted, sample};
+use crate::tests::without_memory::{pointer, store_of, value};
 use std::alloc::Global;
 use std::process::Abort;
-use wgsl_rules::AccessMode::{Read, ReadWrite};
-use wgsl_samples::operands::{Sample, i, n, u};
 use wgsl_scalar::LiteralInstance;
-use wgsl_scalar::LiteralInstance::{I32, U32};
+use wgsl_scalar::LiteralInstance::U32;
 use wgsl_store::Store;
 use wgsl_values::Instance;
 
@@ -15,14 +14,14 @@ use wgsl_values::Instance;
 fn assert_loaded(
     rt: &impl Abort,
     alloc: Global,
-    row: usize,
+    row: &str,
     store: &Store,
     p: &Instance,
     number: LiteralInstance,
 ) {
     let answer = loaded(rt, alloc, store, p);
     let wanted = Ok(Instance::from(number));
-    assert_eq!(rt; answer, wanted, "row {row}");
+    assert!(rt; answer == wanted, "{row}");
     drop((answer, wanted));
 }
 
@@ -30,7 +29,7 @@ fn assert_loaded(
 fn assert_stored(
     rt: &impl Abort,
     alloc: Global,
-    row: usize,
+    row: &str,
     (store, p): (Store, Instance),
     v: Instance,
     number: LiteralInstance,
@@ -38,7 +37,7 @@ fn assert_stored(
     let mut store = store;
     assert!(rt; v.is_well_formed());
     let answer = stored(rt, alloc, &mut store, &p, &v);
-    assert_eq!(rt; answer, Ok(()), "row {row}");
+    assert!(rt; answer.is_ok(), "{row}");
     drop((answer, v));
     assert_loaded(rt, alloc, row, &store, &p, number);
     drop((store, p));
@@ -48,7 +47,7 @@ fn assert_stored(
 fn assert_exchanged(
     rt: &impl Abort,
     alloc: Global,
-    row: usize,
+    row: &str,
     (store, p): (Store, Instance),
     v: Instance,
     (old, new): (LiteralInstance, LiteralInstance),
@@ -57,105 +56,69 @@ fn assert_exchanged(
     assert!(rt; v.is_well_formed());
     let answer = changed(rt, alloc, Change::Exchange, &mut store, &p, &v);
     let wanted = Ok(Instance::from(old));
-    assert_eq!(rt; answer, wanted, "row {row}");
+    assert!(rt; answer == wanted, "{row}");
     drop((answer, wanted, v));
     assert_loaded(rt, alloc, row, &store, &p, new);
     drop((store, p));
 }
 
-/// A cell, an atomic in it and its number, an argument, and the number that it is.
-type Row = (Sample, Place, LiteralInstance, Sample, LiteralInstance);
+/// Atomics in cells of bytes, and in one that is none: `place with access: number; argument -> number`, where the last is
+/// what the argument is.
+const ROWS: &str = "\
+    atomic 5u with read_write: 5u; 4294967295u -> 4294967295u
+    atomic 5u with read_write: 5u; 6 -> 6u
+    atomic -5i with read_write: -5i; 3i -> 3i
+    atomic -5i with read_write: -5i; -4 -> -4i
+    counters.count as atomic 7u with read_write: 7u; 8u -> 8u
+    counters.totals[1] as atomic -2i with read_write: -2i; 9 -> 9i
+    flagged.count as atomic 7u with read_write: 7u; 8 -> 8u
+    flagged.totals[1] as atomic -2i with read_write: -2i; 9i -> 9i";
 
-fn row(cell: Sample, place: Place, old: LiteralInstance, v: Sample, new: LiteralInstance) -> Row {
-    (cell, place, old, v, new)
+/// The store and the pointer to the atomic of a row, and its argument.
+fn made_of(rt: &impl Abort, alloc: Global, row: &'static str) -> (Store, Instance, Instance) {
+    let (question, _) = parted(rt, row, " -> ");
+    let (at, numbers) = parted(rt, question, ": ");
+    let (_, argument) = parted(rt, numbers, "; ");
+    let (cell, place) = accessed(rt, at);
+    let store = store_of(rt, alloc, cell);
+    let p = pointer(rt, alloc, place);
+    (store, p, value(rt, alloc, sample(rt, argument)))
 }
 
-/// Atomics in cells of bytes, and in one that is none.
-fn rows() -> [Row; 8] {
-    let (five, count) = (Sample::Atomic(U32(5)), Sample::Atomic(U32(7)));
-    let (minus_five, total) = (Sample::Atomic(I32(-5)), Sample::Atomic(I32(-2)));
-    [
-        row(
-            five,
-            whole(five, ReadWrite),
-            U32(5),
-            u(4294967295),
-            U32(4294967295),
-        ),
-        row(five, whole(five, ReadWrite), U32(5), n(6), U32(6)),
-        row(
-            minus_five,
-            whole(minus_five, ReadWrite),
-            I32(-5),
-            i(3),
-            I32(3),
-        ),
-        row(
-            minus_five,
-            whole(minus_five, ReadWrite),
-            I32(-5),
-            n(-4),
-            I32(-4),
-        ),
-        row(
-            Sample::Counters,
-            part("count", &[], count, ReadWrite),
-            U32(7),
-            u(8),
-            U32(8),
-        ),
-        row(
-            Sample::Counters,
-            part("totals", &[1], total, ReadWrite),
-            I32(-2),
-            n(9),
-            I32(9),
-        ),
-        // without a layout
-        row(
-            Sample::Flagged,
-            part("count", &[], count, ReadWrite),
-            U32(7),
-            n(8),
-            U32(8),
-        ),
-        row(
-            Sample::Flagged,
-            part("totals", &[1], total, ReadWrite),
-            I32(-2),
-            i(9),
-            I32(9),
-        ),
-    ]
+/// The number that the atomic of a row has, and that which its argument is.
+fn numbers_of(rt: &impl Abort, row: &str) -> (LiteralInstance, LiteralInstance) {
+    let (question, new) = parted(rt, row, " -> ");
+    let (_, numbers) = parted(rt, question, ": ");
+    let (old, _) = parted(rt, numbers, "; ");
+    (literal_of(rt, old), literal_of(rt, new))
 }
 
 #[test]
 fn numbers_are_loaded_and_stored(rt: HostRuntime) {
     let alloc = rt.alloc();
-    for (row, (cell, place, old, v, new)) in rows().iter().enumerate() {
-        let store = store_of(&rt, alloc, *cell);
-        let (p, v) = (pointer(&rt, alloc, *place), value(&rt, alloc, *v));
-        assert_loaded(&rt, alloc, row, &store, &p, *old);
-        assert_stored(&rt, alloc, row, (store, p), v, *new);
+    for row in ROWS.lines() {
+        let (store, p, v) = made_of(&rt, alloc, row);
+        let (old, new) = numbers_of(&rt, row);
+        assert_loaded(&rt, alloc, row, &store, &p, old);
+        assert_stored(&rt, alloc, row, (store, p), v, new);
     }
 }
 
 #[test]
 fn numbers_are_exchanged(rt: HostRuntime) {
     let alloc = rt.alloc();
-    for (row, (cell, place, old, v, new)) in rows().iter().enumerate() {
-        let store = store_of(&rt, alloc, *cell);
-        let (p, v) = (pointer(&rt, alloc, *place), value(&rt, alloc, *v));
-        assert_exchanged(&rt, alloc, row, (store, p), v, (*old, *new));
+    for row in ROWS.lines() {
+        let (store, p, v) = made_of(&rt, alloc, row);
+        assert_exchanged(&rt, alloc, row, (store, p), v, numbers_of(&rt, row));
     }
 }
 
 #[test]
 fn numbers_are_loaded_with_read_access_alone(rt: HostRuntime) {
     let alloc = rt.alloc();
-    let five = Sample::Atomic(U32(5));
-    let store = store_of(&rt, alloc, five);
-    let p = pointer(&rt, alloc, whole(five, Read));
-    assert_loaded(&rt, alloc, 0, &store, &p, U32(5));
+    let (cell, place) = accessed(&rt, "atomic 5u with read");
+    let store = store_of(&rt, alloc, cell);
+    let p = pointer(&rt, alloc, place);
+    assert_loaded(&rt, alloc, "read", &store, &p, U32(5));
     drop((store, p));
 }

@@ -1,137 +1,119 @@
 //! Lengths of arrays, and why other values have none: no clause says which reason a refusal by `Builtin` has.
 
-use crate::tests::atomics::{length, whole};
-use crate::tests::without_memory::{part, pointer, store_of, value};
+use crate::tests::atomics::{accessed, length};
+use crate::tests::rows::{literal_of, parted, sample};
+use crate::tests::without_memory::{pointer, store_of, value};
 use std::alloc::Global;
 use std::process::Abort;
-use wgsl_rules::AccessMode::{Read, ReadWrite, Write};
-use wgsl_samples::operands::{Sample, b, i2, n, u, u2};
-use wgsl_scalar::LiteralInstance::{Bool, I32, U32};
-use wgsl_scalar::{BuiltinReason, Error, LiteralInstance};
+use wgsl_samples::operands::Sample;
+use wgsl_scalar::{BuiltinReason, Error};
 use wgsl_store::Store;
 use wgsl_values::Instance;
 
-const NUMBERS: [LiteralInstance; 3] = [U32(1), U32(2), U32(3)];
-
-const TRUTHS: [LiteralInstance; 3] = [Bool(true), Bool(false), Bool(true)];
+/// The length, or why there is none.
+fn answer(rt: &impl Abort, text: &str) -> Result<Instance, Error> {
+    match text {
+        "NotRead" => Err(Error::NotRead),
+        "NotArray" => Err(Error::Builtin(BuiltinReason::NotArray)),
+        "NotPointer" => Err(Error::Builtin(BuiltinReason::NotPointer)),
+        _ => Ok(Instance::from(literal_of(rt, text))),
+    }
+}
 
 /// Asserts the length of what the value points to, or why there is none.
 fn assert_length(
     rt: &impl Abort,
     alloc: Global,
-    row: usize,
+    row: &str,
     (store, p): (Store, Instance),
-    wanted: Result<u32, Error>,
+    wanted: &str,
 ) {
-    let wanted = match wanted {
-        Ok(n) => Ok(Instance::from(n)),
-        Err(error) => Err(error),
-    };
-    let answer = length(rt, alloc, &store, &p);
-    assert_eq!(rt; answer, wanted, "row {row}");
-    drop((answer, wanted));
-    drop((store, p));
+    let found = length(rt, alloc, &store, &p);
+    let wanted = answer(rt, wanted);
+    assert!(rt; found == wanted, "{row}");
+    drop((found, wanted, store, p));
+}
+
+/// Asserts each row: `place with access -> length`.
+fn assert_rows(rt: &impl Abort, alloc: Global, rows: &'static str) {
+    for row in rows.lines() {
+        let (at, wanted) = parted(rt, row, " -> ");
+        let (cell, place) = accessed(rt, at);
+        let store = store_of(rt, alloc, cell);
+        let p = pointer(rt, alloc, place);
+        assert_length(rt, alloc, row, (store, p), wanted);
+    }
 }
 
 #[test]
 fn lengths_of_arrays(rt: HostRuntime) {
     let alloc = rt.alloc();
-    let rows = [
-        (Sample::Array, whole(Sample::Array, Read), 2),
-        (
-            Sample::Elements(NUMBERS, true),
-            whole(Sample::Elements(NUMBERS, true), ReadWrite),
-            3,
-        ),
-        // without a layout
-        (
-            Sample::Elements(TRUTHS, true),
-            whole(Sample::Elements(TRUTHS, true), Read),
-            3,
-        ),
-        (
-            Sample::Elements(TRUTHS, false),
-            whole(Sample::Elements(TRUTHS, false), ReadWrite),
-            3,
-        ),
-        (
-            Sample::Counters,
-            part("totals", &[], Sample::Totals(true), Read),
-            3,
-        ),
-        (
-            Sample::Flagged,
-            part("totals", &[], Sample::Totals(false), ReadWrite),
-            3,
-        ),
-    ];
-    for (row, (cell, place, wanted)) in rows.iter().enumerate() {
-        let store = store_of(&rt, alloc, *cell);
-        let p = pointer(&rt, alloc, *place);
-        assert_length(&rt, alloc, row, (store, p), Ok(*wanted));
-    }
+    let rows = "\
+        array with read -> 2u
+        numbers with read_write -> 3u";
+    assert_rows(&rt, alloc, rows);
+    // without a layout
+    let rows = "\
+        truths with read -> 3u
+        fixed truths with read_write -> 3u
+        counters.totals as totals with read -> 3u
+        flagged.totals as fixed totals with read_write -> 3u";
+    assert_rows(&rt, alloc, rows);
 }
 
 #[test]
 fn pointers_to_no_array(rt: HostRuntime) {
     let alloc = rt.alloc();
-    let rows = [
-        (u(1), whole(u(1), Read)),
-        (u2(1, 2), whole(u2(1, 2), ReadWrite)),
-        (Sample::Matrix, whole(Sample::Matrix, Read)),
-        (Sample::Matrix, part("", &[1], u2(3, 4), Read)),
-        (Sample::Structure, whole(Sample::Structure, ReadWrite)),
-        (Sample::Atomic(I32(5)), whole(Sample::Atomic(I32(5)), Read)),
-        (Sample::Array, part("", &[1], u(2), Read)),
-        (Sample::Counters, whole(Sample::Counters, Read)),
-        // without a layout
-        (b(true), whole(b(true), Read)),
-        (Sample::Flagged, whole(Sample::Flagged, ReadWrite)),
-        (Sample::Flagged, part("flag", &[], b(true), Read)),
-        (
-            Sample::Flagged,
-            part("totals", &[2], Sample::Atomic(I32(3)), Read),
-        ),
-    ];
-    for (row, (cell, place)) in rows.iter().enumerate() {
-        let store = store_of(&rt, alloc, *cell);
-        let p = pointer(&rt, alloc, *place);
-        let wanted = Err(Error::Builtin(BuiltinReason::NotArray));
-        assert_length(&rt, alloc, row, (store, p), wanted);
-    }
+    let rows = "\
+        1u with read -> NotArray
+        vec2(1u, 2u) with read_write -> NotArray
+        matrix with read -> NotArray
+        matrix[1] as vec2(3u, 4u) with read -> NotArray
+        structure with read_write -> NotArray
+        atomic 5i with read -> NotArray
+        array[1] as 2u with read -> NotArray
+        counters with read -> NotArray";
+    assert_rows(&rt, alloc, rows);
+    // without a layout
+    let rows = "\
+        true with read -> NotArray
+        flagged with read_write -> NotArray
+        flagged.flag as true with read -> NotArray
+        flagged.totals[2] as atomic 3i with read -> NotArray";
+    assert_rows(&rt, alloc, rows);
 }
 
 #[test]
 fn pointers_that_are_not_read(rt: HostRuntime) {
     let alloc = rt.alloc();
     // what they point to is not looked at
-    for (row, cell) in [Sample::Array, Sample::Flagged, u(1)].iter().enumerate() {
-        let store = store_of(&rt, alloc, *cell);
-        let p = pointer(&rt, alloc, whole(*cell, Write));
-        assert_length(&rt, alloc, row, (store, p), Err(Error::NotRead));
-    }
+    let rows = "\
+        array with write -> NotRead
+        flagged with write -> NotRead
+        1u with write -> NotRead";
+    assert_rows(&rt, alloc, rows);
 }
+
+/// A value of each sort, none of them a pointer.
+const OTHERS: &str = "\
+    1u
+    1
+    true
+    vec2(1i, 2i)
+    matrix
+    array
+    numbers
+    structure
+    reference
+    atomic 5i
+    deferred";
 
 #[test]
 fn values_that_are_no_pointers(rt: HostRuntime) {
     let alloc = rt.alloc();
-    let others = [
-        u(1),
-        n(1),
-        b(true),
-        i2(1, 2),
-        Sample::Matrix,
-        Sample::Array,
-        Sample::Elements(NUMBERS, true),
-        Sample::Structure,
-        Sample::Reference,
-        Sample::Atomic(I32(5)),
-        Sample::Deferred,
-    ];
-    for (row, other) in others.iter().enumerate() {
+    for line in OTHERS.lines() {
         let store = store_of(&rt, alloc, Sample::Array);
-        let p = value(&rt, alloc, *other);
-        let wanted = Err(Error::Builtin(BuiltinReason::NotPointer));
-        assert_length(&rt, alloc, row, (store, p), wanted);
+        let p = value(&rt, alloc, sample(&rt, line.trim()));
+        assert_length(&rt, alloc, line, (store, p), "NotPointer");
     }
 }

@@ -3,153 +3,142 @@
 use crate::tests::builtins::Three::{Clamp, Select};
 use crate::tests::builtins::Two::{Dot, Max, Min};
 use crate::tests::builtins::{Three, Two, of_three, of_two};
+use crate::tests::rows::{literal_of, parted};
 use std::alloc::Global;
 use std::process::Abort;
 use wgsl_rules::ShaderStage::Const;
 use wgsl_samples::operands::vector;
-use wgsl_scalar::LiteralInstance::{AbstractInt, Bool, I32, I64, U32, U64};
+use wgsl_scalar::LiteralInstance::Bool;
 use wgsl_scalar::{BuiltinReason, Error, LiteralInstance};
 use wgsl_types::{insertBits, select};
 use wgsl_values::Instance;
 
-/// What is answered: a literal, or a refusal by `Builtin`.
-type Answer = Result<LiteralInstance, BuiltinReason>;
-
 /// The rows, in memory of their own.
-fn rows_of<T: Copy + Drop>(rt: &impl Abort, alloc: Global, rows: &[T]) -> Vec<T> {
-    made!(rt; Vec::from_slice(alloc, rows))
+fn rows_of(rt: &impl Abort, alloc: Global, rows: &str) -> String {
+    made!(rt; String::from_str(alloc, rows))
 }
 
-fn assert_answer(rt: &impl Abort, row: usize, answer: Result<Instance, Error>, wanted: Answer) {
-    let wanted = match wanted {
-        Ok(literal) => Ok(Instance::from(literal)),
-        Err(reason) => Err(Error::Builtin(reason)),
-    };
-    assert_eq!(rt; answer, wanted, "row {row}");
-    drop((answer, wanted));
+/// The literal, or the reason of a refusal by `Builtin`.
+fn answer(rt: &impl Abort, text: &str) -> Result<Instance, Error> {
+    match text {
+        "NotNumber" => Err(Error::Builtin(BuiltinReason::NotNumber)),
+        "NotVector" => Err(Error::Builtin(BuiltinReason::NotVector)),
+        "NotBool" => Err(Error::Builtin(BuiltinReason::NotBool)),
+        "NotI32OrU32" => Err(Error::Builtin(BuiltinReason::NotI32OrU32)),
+        _ => Ok(Instance::from(literal_of(rt, text))),
+    }
 }
 
-fn assert_of_two(
-    rt: &impl Abort,
-    alloc: Global,
-    row: usize,
-    function: Two,
-    (a, b): (LiteralInstance, LiteralInstance),
-    wanted: Answer,
-) {
-    let (a, b) = (Instance::from(a), Instance::from(b));
-    let answer = of_two(alloc, function, &a, &b);
-    drop((a, b));
-    assert_answer(rt, row, answer, wanted);
+fn assert_answer(rt: &impl Abort, row: &str, found: Result<Instance, Error>, wanted: &str) {
+    let wanted = answer(rt, wanted);
+    assert!(rt; found == wanted, "{row}");
+    drop((found, wanted));
+}
+
+/// Both literals of `1i; 2i`.
+fn two(rt: &impl Abort, text: &str) -> (LiteralInstance, LiteralInstance) {
+    let (a, b) = parted(rt, text, "; ");
+    (literal_of(rt, a), literal_of(rt, b))
+}
+
+/// Asserts each row: `literal; literal -> answer`.
+fn assert_of_two(rt: &impl Abort, alloc: Global, function: Two, rows: &str) {
+    let rows = rows_of(rt, alloc, rows);
+    for row in rows.as_str().lines() {
+        let (literals, wanted) = parted(rt, row, " -> ");
+        let (a, b) = two(rt, literals);
+        let (a, b) = (Instance::from(a), Instance::from(b));
+        let answer = of_two(alloc, function, &a, &b);
+        assert_answer(rt, row, answer, wanted);
+        drop((a, b));
+    }
+    drop(rows);
 }
 
 #[test]
 fn functions_of_two_literals(rt: HostRuntime) {
     let alloc = rt.alloc();
-    let rows = [
-        (Min, I32(1), I32(2), Ok(I32(1))),
-        (Max, I32(-1), I32(-3), Ok(I32(-1))),
-        (Min, U32(4294967295), U32(1), Ok(U32(1))),
-        (Max, U32(4294967295), U32(1), Ok(U32(4294967295))),
-        (Min, AbstractInt(-2), AbstractInt(3), Ok(AbstractInt(-2))),
-        (Max, AbstractInt(-2), AbstractInt(3), Ok(AbstractInt(3))),
-        (Min, I64(-5), I64(3), Ok(I64(-5))),
-        (Max, U64(5), U64(3), Ok(U64(5))),
-        (Min, Bool(true), Bool(false), Err(BuiltinReason::NotNumber)),
-        (Dot(Const), I32(3), I32(4), Err(BuiltinReason::NotVector)),
-    ];
-    let rows = rows_of(&rt, alloc, &rows);
-    for (row, (function, a, b, wanted)) in rows.iter().enumerate() {
-        assert_of_two(&rt, alloc, row, *function, (*a, *b), *wanted);
-    }
+    let rows = "\
+        1i; 2i -> 1i
+        4294967295u; 1u -> 1u
+        -2; 3 -> -2
+        -5li; 3li -> -5li
+        true; false -> NotNumber";
+    assert_of_two(&rt, alloc, Min, rows);
+    let rows = "\
+        -1i; -3i -> -1i
+        4294967295u; 1u -> 4294967295u
+        -2; 3 -> 3
+        5lu; 3lu -> 5lu";
+    assert_of_two(&rt, alloc, Max, rows);
+    assert_of_two(&rt, alloc, Dot(Const), "3i; 4i -> NotVector");
 }
 
-fn assert_of_three(
-    rt: &impl Abort,
-    alloc: Global,
-    row: usize,
-    function: Three,
-    (a, b, c): (LiteralInstance, LiteralInstance, LiteralInstance),
-    wanted: Answer,
-) {
-    let (a, b, c) = (Instance::from(a), Instance::from(b), Instance::from(c));
-    let answer = of_three(alloc, function, &a, &b, &c);
-    drop((a, b, c));
-    assert_answer(rt, row, answer, wanted);
+/// Asserts each row: `literal; literal; literal -> answer`.
+fn assert_of_three(rt: &impl Abort, alloc: Global, function: Three, rows: &str) {
+    let rows = rows_of(rt, alloc, rows);
+    for row in rows.as_str().lines() {
+        let (literals, wanted) = parted(rt, row, " -> ");
+        let (a, others) = parted(rt, literals, "; ");
+        let (b, c) = two(rt, others);
+        let a = Instance::from(literal_of(rt, a));
+        let (b, c) = (Instance::from(b), Instance::from(c));
+        let answer = of_three(alloc, function, &a, &b, &c);
+        assert_answer(rt, row, answer, wanted);
+        drop((a, b, c));
+    }
+    drop(rows);
 }
 
 #[test]
 fn functions_of_three_literals(rt: HostRuntime) {
     let alloc = rt.alloc();
-    let rows = [
-        (Clamp, I32(300), I32(0), I32(255), Ok(I32(255))),
-        (Clamp, I64(-9), I64(2), I64(3), Ok(I64(2))),
-        (
-            Clamp,
-            AbstractInt(7),
-            AbstractInt(0),
-            AbstractInt(9),
-            Ok(AbstractInt(7)),
-        ),
-        // the lesser of high and the greater of e and low
-        (Clamp, U32(1), U32(10), U32(3), Ok(U32(3))),
-        (
-            Clamp,
-            Bool(true),
-            Bool(true),
-            Bool(true),
-            Err(BuiltinReason::NotNumber),
-        ),
-        (Select, I32(1), I32(2), Bool(false), Ok(I32(1))),
-        (Select, U64(1), U64(2), Bool(true), Ok(U64(2))),
-        (Select, Bool(true), Bool(false), Bool(true), Ok(Bool(false))),
-        (
-            Select,
-            AbstractInt(1),
-            AbstractInt(2),
-            AbstractInt(1),
-            Err(BuiltinReason::NotBool),
-        ),
-    ];
-    let rows = rows_of(&rt, alloc, &rows);
-    for (row, (function, a, b, c, wanted)) in rows.iter().enumerate() {
-        assert_of_three(&rt, alloc, row, *function, (*a, *b, *c), *wanted);
-    }
+    let rows = "\
+        300i; 0i; 255i -> 255i
+        -9li; 2li; 3li -> 2li
+        7; 0; 9 -> 7";
+    assert_of_three(&rt, alloc, Clamp, rows);
+    // the lesser of high and the greater of e and low
+    let rows = "\
+        1u; 10u; 3u -> 3u
+        true; true; true -> NotNumber";
+    assert_of_three(&rt, alloc, Clamp, rows);
+    let rows = "\
+        1i; 2i; false -> 1i
+        1lu; 2lu; true -> 2lu
+        true; false; true -> false
+        1; 2; 1 -> NotBool";
+    assert_of_three(&rt, alloc, Select, rows);
 }
 
-fn assert_inserted(
-    rt: &impl Abort,
-    alloc: Global,
-    row: usize,
-    (e, newbits): (LiteralInstance, LiteralInstance),
-    (offset, count): (u32, u32),
-    wanted: Answer,
-) {
-    let (e, newbits) = (Instance::from(e), Instance::from(newbits));
+/// Asserts the row: `literal; literal; offset; count -> answer`.
+fn assert_inserted(rt: &impl Abort, alloc: Global, row: &str) {
+    let (values, wanted) = parted(rt, row, " -> ");
+    let (e, others) = parted(rt, values, "; ");
+    let (newbits, field) = parted(rt, others, "; ");
+    let e = Instance::from(literal_of(rt, e));
+    let newbits = Instance::from(literal_of(rt, newbits));
+    let (offset, count) = two(rt, field);
     let (offset, count) = (Instance::from(offset), Instance::from(count));
     let answer = insertBits(alloc, &e, &newbits, &offset, &count);
-    drop((e, newbits, offset, count));
     assert_answer(rt, row, answer, wanted);
+    drop((e, newbits, offset, count));
 }
 
 #[test]
 fn bits_inserted_into_a_literal(rt: HostRuntime) {
     let alloc = rt.alloc();
-    let rows = [
-        ((U32(0), U32(5)), (3, 2), Ok(U32(8))),
-        ((U32(255), U32(0)), (4, 32), Ok(U32(15))),
-        ((I32(0), I32(-1)), (31, 1), Ok(I32(-2147483648))),
-        ((I32(-1), I32(0)), (0, 4), Ok(I32(-16))),
-        (
-            (AbstractInt(0), AbstractInt(5)),
-            (3, 2),
-            Err(BuiltinReason::NotI32OrU32),
-        ),
-    ];
-    let rows = rows_of(&rt, alloc, &rows);
-    for (row, (values, field, wanted)) in rows.iter().enumerate() {
-        assert_inserted(&rt, alloc, row, *values, *field, *wanted);
+    let rows = "\
+        0u; 5u; 3u; 2u -> 8u
+        255u; 0u; 4u; 32u -> 15u
+        0i; -1i; 31u; 1u -> -2147483648i
+        -1i; 0i; 0u; 4u -> -16i
+        0; 5; 3u; 2u -> NotI32OrU32";
+    let rows = rows_of(&rt, alloc, rows);
+    for row in rows.as_str().lines() {
+        assert_inserted(&rt, alloc, row);
     }
+    drop(rows);
 }
 
 #[test]
@@ -162,6 +151,6 @@ fn literals_are_not_selected_by_component(rt: HostRuntime) {
         Instance::from(bools),
     );
     let answer = select(alloc, &f, &t, &bools);
-    assert_answer(&rt, 0, answer, Err(BuiltinReason::NotVector));
+    assert_answer(&rt, "select", answer, "NotVector");
     drop((f, t, bools));
 }

@@ -4,191 +4,148 @@ use crate::tests::builtins::{
     One, Three, Two, assert_rows_of_one, assert_rows_of_three, assert_rows_of_two,
 };
 use wgsl_rules::ShaderStage::{Const, Exec, Override};
-use wgsl_samples::operands::{Sample, b, b2, i, i2, i3, l, l2, n, n2, n3, u, u2, u3, u4};
-use wgsl_scalar::LiteralInstance::U64;
-
-/// The least number of 64 bits.
-const LEAST: i64 = -9223372036854775808;
-
-/// The greatest number of 64 bits.
-const GREATEST: i64 = 9223372036854775807;
 
 #[test]
 fn magnitudes(rt: HostRuntime) {
-    let rows = [
-        (One::Abs, i(-3), "3i"),
-        (One::Abs, i2(-3, -2147483648), "vec2(3i, -2147483648i)"),
-        (One::Abs, u(7), "7u"),
-        (
-            One::Abs,
-            u4(0, 1, 4294967295, 2),
-            "vec4(0u, 1u, 4294967295u, 2u)",
-        ),
-        (One::Abs, n(-5), "5"),
-        (
-            One::Abs,
-            n3(LEAST, -1, 1),
-            "vec3(-9223372036854775808, 1, 1)",
-        ),
-        (One::Abs, l(-5), "5li"),
-        (One::Abs, l(LEAST), "-9223372036854775808li"),
-        (One::Abs, Sample::One(U64(5)), "5lu"),
-        (One::Abs, b(true), "Builtin"),
-        (One::Abs, b2(true, false), "Builtin"),
-    ];
-    assert_rows_of_one(&rt, rt.alloc(), &rows);
+    let alloc = rt.alloc();
+    let rows = "\
+        -3i -> 3i
+        vec2(-3i, -2147483648i) -> vec2(3i, -2147483648i)
+        7u -> 7u
+        vec4(0u, 1u, 4294967295u, 2u) -> vec4(0u, 1u, 4294967295u, 2u)
+        -5 -> 5
+        vec3(-9223372036854775808, -1, 1) -> vec3(-9223372036854775808, 1, 1)
+        -5li -> 5li
+        -9223372036854775808li -> -9223372036854775808li
+        5lu -> 5lu
+        true -> Builtin
+        vec2(true, false) -> Builtin";
+    assert_rows_of_one(&rt, alloc, One::Abs, rows);
 }
 
 #[test]
 fn signs(rt: HostRuntime) {
-    let rows = [
-        (One::Sign, i2(-3, 0), "vec2(-1i, 0i)"),
-        (One::Sign, i(2147483647), "1i"),
-        (One::Sign, u2(0, 9), "vec2(0u, 1u)"),
-        (One::Sign, u(4294967295), "1u"),
-        (One::Sign, n(5), "1"),
-        (One::Sign, n3(LEAST, 0, GREATEST), "vec3(-1, 0, 1)"),
-        (One::Sign, l2(-9, 9), "vec2(-1li, 1li)"),
-        (One::Sign, Sample::One(U64(0)), "0lu"),
-        (One::Sign, b(false), "Builtin"),
-        (One::Sign, b2(true, false), "Builtin"),
-    ];
-    assert_rows_of_one(&rt, rt.alloc(), &rows);
+    let alloc = rt.alloc();
+    let rows = "\
+        vec2(-3i, 0i) -> vec2(-1i, 0i)
+        2147483647i -> 1i
+        vec2(0u, 9u) -> vec2(0u, 1u)
+        4294967295u -> 1u
+        5 -> 1
+        vec3(-9223372036854775808, 0, 9223372036854775807) -> vec3(-1, 0, 1)
+        vec2(-9li, 9li) -> vec2(-1li, 1li)
+        0lu -> 0lu
+        false -> Builtin
+        vec2(true, false) -> Builtin";
+    assert_rows_of_one(&rt, alloc, One::Sign, rows);
 }
 
 #[test]
 fn rows_become_columns(rt: HostRuntime) {
-    let rows = [
-        (
-            One::Transpose,
-            Sample::Tall,
-            "mat3x2(vec2(1u, 4u), vec2(2u, 5u), vec2(3u, 6u))",
-        ),
-        (
-            One::Transpose,
-            Sample::Matrix,
-            "mat2x2(vec2(1u, 3u), vec2(2u, 4u))",
-        ),
-        (One::Transpose, u2(1, 2), "Builtin"),
-        (One::Transpose, u(1), "Builtin"),
-        (One::Transpose, b(true), "Builtin"),
-    ];
-    assert_rows_of_one(&rt, rt.alloc(), &rows);
+    let alloc = rt.alloc();
+    let rows = "\
+        tall -> mat3x2(vec2(1u, 4u), vec2(2u, 5u), vec2(3u, 6u))
+        matrix -> mat2x2(vec2(1u, 3u), vec2(2u, 4u))
+        vec2(1u, 2u) -> Builtin
+        1u -> Builtin
+        true -> Builtin";
+    assert_rows_of_one(&rt, alloc, One::Transpose, rows);
 }
 
 #[test]
 fn the_lesser_and_the_greater(rt: HostRuntime) {
-    let rows = [
-        (Two::Min, i(1), n(2), "1i"),
-        (Two::Min, n(2), i(1), "1i"),
-        (Two::Min, i2(1, 5), i2(3, 4), "vec2(1i, 4i)"),
-        (Two::Max, i2(1, 5), i2(3, 4), "vec2(3i, 5i)"),
-        (Two::Max, i2(-1, -5), i2(-3, -4), "vec2(-1i, -4i)"),
-        (Two::Max, n2(1, 5), u2(3, 4), "vec2(3u, 5u)"),
-        (Two::Min, u(4294967295), u(1), "1u"),
-        (Two::Min, n(-2), n(3), "-2"),
-        (
-            Two::Max,
-            n3(LEAST, 0, 1),
-            n3(GREATEST, -1, 1),
-            "vec3(9223372036854775807, 0, 1)",
-        ),
-        (Two::Min, l(-5), l(3), "-5li"),
-        // no common type, or a number that is out of its range
-        (Two::Min, l(1), n(1), "Builtin"),
-        (Two::Min, u(1), i(1), "Builtin"),
-        (Two::Min, i2(1, 2), i(1), "Builtin"),
-        (Two::Max, i2(1, 2), i3(1, 2, 3), "Builtin"),
-        (Two::Min, n(4294967295), i(1), "Builtin"),
-        (Two::Max, u2(1, 1), n2(1, -1), "Builtin"),
-        (Two::Max, b(true), b(false), "Builtin"),
-        (Two::Min, b2(true, false), b2(true, true), "Builtin"),
-        (Two::Min, b(true), i(1), "Builtin"),
-    ];
-    assert_rows_of_two(&rt, rt.alloc(), &rows);
+    let alloc = rt.alloc();
+    let rows = "\
+        1i; 2 -> 1i
+        2; 1i -> 1i
+        vec2(1i, 5i); vec2(3i, 4i) -> vec2(1i, 4i)
+        4294967295u; 1u -> 1u
+        -2; 3 -> -2
+        -5li; 3li -> -5li";
+    assert_rows_of_two(&rt, alloc, Two::Min, rows);
+    let rows = "\
+        vec2(1i, 5i); vec2(3i, 4i) -> vec2(3i, 5i)
+        vec2(-1i, -5i); vec2(-3i, -4i) -> vec2(-1i, -4i)
+        vec2(1, 5); vec2(3u, 4u) -> vec2(3u, 5u)
+        vec3(-9223372036854775808, 0, 1); vec3(9223372036854775807, -1, 1) -> vec3(9223372036854775807, 0, 1)";
+    assert_rows_of_two(&rt, alloc, Two::Max, rows);
+    // no common type, or a number that is out of its range
+    let rows = "\
+        1li; 1 -> Builtin
+        1u; 1i -> Builtin
+        vec2(1i, 2i); 1i -> Builtin
+        4294967295; 1i -> Builtin
+        vec2(true, false); vec2(true, true) -> Builtin
+        true; 1i -> Builtin";
+    assert_rows_of_two(&rt, alloc, Two::Min, rows);
+    let rows = "\
+        vec2(1i, 2i); vec3(1i, 2i, 3i) -> Builtin
+        vec2(1u, 1u); vec2(1, -1) -> Builtin
+        true; false -> Builtin";
+    assert_rows_of_two(&rt, alloc, Two::Max, rows);
 }
 
 #[test]
 fn sums_of_products(rt: HostRuntime) {
-    let rows = [
-        (Two::Dot(Const), i2(3, 4), i2(5, 6), "39i"),
-        (Two::Dot(Exec), n2(3, 4), u2(5, 6), "39u"),
-        (Two::Dot(Override), u3(1, 2, 3), n3(4, 5, 6), "32u"),
-        (Two::Dot(Const), u4(1, 2, 3, 4), u4(1, 1, 1, 1), "10u"),
-        (Two::Dot(Const), i2(2147483647, 1), i2(1, 1), "-2147483648i"),
-        (Two::Dot(Const), l2(2, 3), l2(5, -7), "-11li"),
-        (Two::Dot(Exec), n2(GREATEST, 1), n2(2, 1), "MulOverflow"),
-        (Two::Dot(Const), n2(GREATEST, 1), n2(1, 1), "AddOverflow"),
-        // all products come first, then their sum from the left
-        (
-            Two::Dot(Exec),
-            n3(GREATEST, 1, 2),
-            n3(1, 1, GREATEST),
-            "MulOverflow",
-        ),
-        (
-            Two::Dot(Const),
-            n3(GREATEST, 1, -1),
-            n3(1, 1, 1),
-            "AddOverflow",
-        ),
-        (
-            Two::Dot(Const),
-            n3(GREATEST, -1, 1),
-            n3(1, 1, 1),
-            "9223372036854775807",
-        ),
-        (
-            Two::Dot(Const),
-            b2(true, true),
-            b2(true, true),
-            "Binary * bool, bool",
-        ),
-        // no common type, or no vectors
-        (Two::Dot(Const), b2(true, true), u2(5, 6), "Builtin"),
-        (Two::Dot(Const), i2(3, 4), u2(5, 6), "Builtin"),
-        (Two::Dot(Const), u2(3, 4), u3(5, 6, 7), "Builtin"),
-        (Two::Dot(Const), n2(4294967296, 4), u2(5, 6), "Builtin"),
-        (Two::Dot(Const), u2(3, 4), u(5), "Builtin"),
-        (Two::Dot(Const), i(3), i(4), "Builtin"),
-    ];
-    assert_rows_of_two(&rt, rt.alloc(), &rows);
+    let alloc = rt.alloc();
+    let rows = "\
+        vec2(3i, 4i); vec2(5i, 6i) -> 39i
+        vec4(1u, 2u, 3u, 4u); vec4(1u, 1u, 1u, 1u) -> 10u
+        vec2(2147483647i, 1i); vec2(1i, 1i) -> -2147483648i
+        vec2(2li, 3li); vec2(5li, -7li) -> -11li
+        vec2(9223372036854775807, 1); vec2(1, 1) -> AddOverflow";
+    assert_rows_of_two(&rt, alloc, Two::Dot(Const), rows);
+    let rows = "\
+        vec2(3, 4); vec2(5u, 6u) -> 39u
+        vec2(9223372036854775807, 1); vec2(2, 1) -> MulOverflow";
+    assert_rows_of_two(&rt, alloc, Two::Dot(Exec), rows);
+    let rows = "\
+        vec3(1u, 2u, 3u); vec3(4, 5, 6) -> 32u";
+    assert_rows_of_two(&rt, alloc, Two::Dot(Override), rows);
+    // all products come first, then their sum from the left
+    let rows = "\
+        vec3(9223372036854775807, 1, 2); vec3(1, 1, 9223372036854775807) -> MulOverflow";
+    assert_rows_of_two(&rt, alloc, Two::Dot(Exec), rows);
+    let rows = "\
+        vec3(9223372036854775807, 1, -1); vec3(1, 1, 1) -> AddOverflow
+        vec3(9223372036854775807, -1, 1); vec3(1, 1, 1) -> 9223372036854775807
+        vec2(true, true); vec2(true, true) -> Binary * bool, bool";
+    assert_rows_of_two(&rt, alloc, Two::Dot(Const), rows);
+    // no common type, or no vectors
+    let rows = "\
+        vec2(true, true); vec2(5u, 6u) -> Builtin
+        vec2(3i, 4i); vec2(5u, 6u) -> Builtin
+        vec2(3u, 4u); vec3(5u, 6u, 7u) -> Builtin
+        vec2(4294967296, 4); vec2(5u, 6u) -> Builtin
+        vec2(3u, 4u); 5u -> Builtin
+        3i; 4i -> Builtin";
+    assert_rows_of_two(&rt, alloc, Two::Dot(Const), rows);
 }
 
 #[test]
 fn clamped_values(rt: HostRuntime) {
-    let rows = [
-        (Three::Clamp, n(300), i(0), i(255), "255i"),
-        (Three::Clamp, i(-7), n(0), n(255), "0i"),
-        (Three::Clamp, i(7), n(0), n(255), "7i"),
-        (Three::Clamp, n(1), n(2), u(3), "2u"),
-        (Three::Clamp, n(1), n(2), n(3), "2"),
-        (Three::Clamp, l(9), l(2), l(3), "3li"),
-        (Three::Clamp, i2(-5, 9), i2(0, 0), i2(3, 3), "vec2(0i, 3i)"),
-        (Three::Clamp, n2(5, 9), u2(6, 6), n2(7, 7), "vec2(6u, 7u)"),
-        // the lesser of high and the greater of e and low
-        (Three::Clamp, u(5), u(10), u(3), "3u"),
-        (Three::Clamp, u(1), u(10), u(3), "3u"),
-        (Three::Clamp, i(1), u(2), u(3), "Builtin"),
-        (Three::Clamp, u(1), i(2), u(3), "Builtin"),
-        (Three::Clamp, u(1), u(2), i(3), "Builtin"),
-        (Three::Clamp, u(1), n(-2), u(3), "Builtin"),
-        (Three::Clamp, u2(1, 2), u(1), u(2), "Builtin"),
-        (Three::Clamp, b(true), b(true), b(true), "Builtin"),
-        (
-            Three::Clamp,
-            b2(true, true),
-            b2(true, true),
-            b2(true, true),
-            "Builtin",
-        ),
-        (
-            Three::Clamp,
-            Sample::Matrix,
-            Sample::Matrix,
-            Sample::Matrix,
-            "Builtin",
-        ),
-    ];
-    assert_rows_of_three(&rt, rt.alloc(), &rows);
+    let alloc = rt.alloc();
+    let rows = "\
+        300; 0i; 255i -> 255i
+        -7i; 0; 255 -> 0i
+        7i; 0; 255 -> 7i
+        1; 2; 3u -> 2u
+        1; 2; 3 -> 2
+        9li; 2li; 3li -> 3li
+        vec2(-5i, 9i); vec2(0i, 0i); vec2(3i, 3i) -> vec2(0i, 3i)
+        vec2(5, 9); vec2(6u, 6u); vec2(7, 7) -> vec2(6u, 7u)";
+    assert_rows_of_three(&rt, alloc, Three::Clamp, rows);
+    // the lesser of high and the greater of e and low
+    let rows = "\
+        5u; 10u; 3u -> 3u
+        1u; 10u; 3u -> 3u
+        1i; 2u; 3u -> Builtin
+        1u; 2i; 3u -> Builtin
+        1u; 2u; 3i -> Builtin
+        1u; -2; 3u -> Builtin
+        vec2(1u, 2u); 1u; 2u -> Builtin
+        true; true; true -> Builtin
+        vec2(true, true); vec2(true, true); vec2(true, true) -> Builtin
+        matrix; matrix; matrix -> Builtin";
+    assert_rows_of_three(&rt, alloc, Three::Clamp, rows);
 }
