@@ -1,5 +1,5 @@
 -- Atomics: what fits them, and their numbers in bytes.
-use Rattle.std.proofs.Common.{◌≡◌, ℕ, List, Some, None, is_some, Ok, Err, Bool, true, false, refl, sym, ap, subst}
+use Rattle.std.proofs.Common.{◌≡◌, ℕ, List, Some, None, is_some, Ok, Err, Bool, true, refl, sym, ap, subst}
 use Rattle.std.specs.Prelude.{◌&&◌, IsOk, IsOkAnd, IsTrue}
 use Rattle.std.specs.Result.{result_ok}
 use Rattle.std.proofs.lemmas.Bool.{false≢true}

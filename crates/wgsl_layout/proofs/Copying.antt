@@ -90,7 +90,7 @@ member-next ms ps i n m p b at base out new all h e k d is so_far =
     ∙ so_far
 
 -- a structure is copied as its members
-pub struct-copied : (s : StructType) (ms : List StructMemberType) (n : ℕ) (ps : Places) (b : List ℕ) (at len base : ℕ) (old : List ℕ) → IsThere n (struct_type_view s) (members ps) at len → ms ≡ (out-StructType s).members.items
-    → put_at_places b at n (members_view ms) ps base old ≡ put (decoded b at (layout n (struct_type_view s))) (members ps) base old
-struct-copied s ms n ps b at len base old there e =
-    ap (λ (v : Val). put v (members ps) base old) (struct-made s (struct_type_view s) ms n ps at len b (members_at b at n (members_view ms) ps) there e refl refl).is
+pub struct-copied : (s : StructType) (ms : List StructMemberType) (n : ℕ) (ps : Places) (b : List ℕ) (at len base : ℕ) (old : List ℕ) {long : ℕ} → IsThere n (struct_type_view s) (members long ps) at len → ms ≡ (out-StructType s).members.items
+    → put_at_places b at n (members_view ms) ps base old ≡ put (decoded b at (layout n (struct_type_view s))) (members long ps) base old
+struct-copied s ms n ps b at len base old {long} there e =
+    ap (λ (v : Val). put v (members long ps) base old) (struct-made s (struct_type_view s) ms n ps at len b (members_at b at n (members_view ms) ps) there e refl refl).is

@@ -7,7 +7,7 @@ use Rattle.wgsl_rules.specs.Values.{Step, Val, vector, Vals, no_vals, val, count
 use Rattle.wgsl_rules.specs.Paths.{parts, stepped, viewed}
 use Rattle.wgsl_rules.specs.Layout.{Layout, type_in}
 use Rattle.wgsl_layout.specs.Buffers.{decoded}
-use Rattle.wgsl_layout.specs.Located.{part_range, shape_ty, step_range}
+use Rattle.wgsl_layout.specs.Located.{IsInside, part_range, shape_ty, step_range}
 use Rattle.wgsl_layout.specs.Ranges.{Range, further, part_at, parts_in, step_in, view_range}
 use Rattle.wgsl_layout.specs.declared.located.Located.{Located}
 use Rattle.wgsl_layout.proofs.lemmas.Parts.{behind, decoded_in, decoded-stepped, decoded-viewed, view_range-step}
@@ -49,6 +49,14 @@ pub located-on : (s : Step) (steps all : List Step) (l next : Located) → Some 
 located-on s steps all l next e all_is =
     view-on s steps l.start (part_range l).layout (Some (part_range next)) (e ∙ step_range-is s l)
     ∙ ap (λ (v : List Step). option_map (further l.start) (view_range v (part_range l).layout)) (sym all_is)
+
+-- and along one whose first step leads nowhere
+pub located-off : (s : Step) (steps all : List Step) (l : Located) → None ≡ step_range s l → all ≡ s ∷ steps → None ≡ option_map (further l.start) (view_range all (part_range l).layout)
+located-off s steps all l e all_is =
+    view-on s steps l.start (part_range l).layout None (e ∙ step_range-is s l) ∙ ap (λ (v : List Step). option_map (further l.start) (view_range v (part_range l).layout)) (sym all_is)
+
+pub inside-on : (outer l inner : Located) → IsInside outer l → IsInside l inner → IsInside outer inner
+inside-on outer l inner a b = record { there = b.there; len = b.len ∙ a.len; count = b.count ∙ a.count }
 
 -- ---- values
 

@@ -18,4 +18,4 @@ mod Copying
 mod FlatParts
 mod FlatPuts
 mod LayoutParts
-mod OpenPlans
+mod Sharing

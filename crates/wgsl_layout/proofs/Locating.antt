@@ -160,12 +160,12 @@ pub record IsNamed (ms : List StructMemberType) (ps : List CodePlace) (i n o len
   pub there : AreThere n (members_view ms) (places_view ps) o len
   pub planned : places_view ps ≡ places_of (Some 0) (members_view ms)
 
-pub named : (s : StructType) (ms : List StructMemberType) (ps : List CodePlace) (name : List ℕ) (i n o len : ℕ) → IsThere n (struct_type_view s) (members (places_view ps)) o len
+pub named : (s : StructType) (ms : List StructMemberType) (ps : List CodePlace) (name : List ℕ) (i n o len : ℕ) {long : ℕ} → IsThere n (struct_type_view s) (members long (places_view ps)) o len
     → ms ≡ (out-StructType s).members.items → Some i ≡ index_named name (members_view ms) → IsNamed ms ps i n o len
-named s ms ps name i n o len h e is = record {
+named s ms ps name i n o len {long} h e is = record {
   below = named-below name ms i (sym is);
   there = struct-there s ms n (places_view ps) o len h e;
-  planned = let here = subst (λ (u : Ty). IsThere n u (members (places_view ps)) o len) (struct-of s ms e) h in cc (here.planned);
+  planned = let here = subst (λ (u : Ty). IsThere n u (members long (places_view ps)) o len) (struct-of s ms e) h in cc (here.planned);
 }
 
 pub named-range : (s : StructType) (ms : List StructMemberType) (name : List ℕ) (i n o : ℕ) → ms ≡ (out-StructType s).members.items → Some i ≡ index_named name (members_view ms)

@@ -1,11 +1,11 @@
 -- One step of the walk that makes the plan of a type.
 use Rattle.std.specs.Option.{unwrap_or}
-use Rattle.std.specs.Prelude.{option_map, ◌&&◌, ◌||◌}
+use Rattle.std.specs.Prelude.{◌&&◌, ◌||◌}
 use Rattle.std.proofs.Common.{◌≡◌, ℕ, ◌+◌, ◌<◌, ◌≤◌, List, [], ◌∷◌, ◌++◌, length, get_or, drop, Option, Some, None, Bool, true, false, is_some, Vec, Global, string_bytes, refl, sym, ap, subst, ◌∙◌, add-one, drop-cons, arith}
 use Rattle.std.proofs.Math.ListN.{drop_of_length-le}
 use Rattle.wgsl_rules.specs.Types.{Ty, struct, Fields, no_fields, field}
-use Rattle.wgsl_rules.specs.Size.{Extent, extent_in, extent_of, extents, with_both, round_up, struct_size, struct_align, offset_after, end_after, end_of_members, align_after, greatest_align}
-use Rattle.wgsl_rules.specs.Layout.{amount, has_fixed_layout, is_fixed_member, is_runtime_member, have_fixed_layouts, end_in_runtime_array, Tail, tail_at, last_tail}
+use Rattle.wgsl_rules.specs.Size.{Extent, extent_of, extents, with_both, round_up, struct_size, struct_align, offset_after, end_after, end_of_members, align_after, greatest_align}
+use Rattle.wgsl_rules.specs.Layout.{amount, has_fixed_layout, is_fixed_member, is_runtime_member, have_fixed_layouts, end_in_runtime_array}
 use Rattle.wgsl_rules.specs.Measures.{AreMeasuresOf, AreMeasuresOfMember}
 use Rattle.wgsl_rules.specs.Values.{Val, Vals, array_of, type_of, first_type, IsStorable}
 use Rattle.wgsl_rules.specs.View.{Field, type_view, member_view, members_view}
@@ -17,9 +17,8 @@ use Rattle.wgsl_rules.proofs.lemmas.Views.{member_view-is}
 use Rattle.wgsl_values.specs.View.{value_of, vals_view}
 use Rattle.wgsl_values.specs.declared.inst.Instance.{Instance}
 use Rattle.wgsl_values.proofs.lemmas.Nodes.{nodes}
-use Rattle.wgsl_layout.specs.Plan.{members, Places, no_places, place, Placed, plan_of, places_of, plan_view, place_view, places_view}
-use Rattle.wgsl_layout.specs.TypePlan.{IsPlanOf, kept}
-use Rattle.wgsl_layout.specs.declared.make.Tail.{Tail as CodeTail}
+use Rattle.wgsl_layout.specs.Plan.{members, fixed_size, Places, no_places, place, Placed, plan_of, places_of, plan_view, place_view, places_view}
+use Rattle.wgsl_layout.specs.TypePlan.{IsPlanOf}
 use Rattle.wgsl_layout.specs.declared.plan.Place.{«Place» as CodePlace}
 use Rattle.wgsl_layout.specs.declared.plan.Plan as code
 use Rattle.wgsl_layout.proofs.Plans.{with_place, place-is, view-members}
@@ -48,24 +47,11 @@ join-push : (xs : List CodePlace) (x : CodePlace) (qs : Places) → join (places
 join-push [] x qs = refl
 join-push (y ∷ xs) x qs = ap (λ (rest : Places). with_place (place_view y) rest) (join-push xs x qs)
 
--- ---- the tail
-
--- that of the last of the members, as the code keeps it
-abbrev pub last_kept : Option CodeTail → Option ℕ → Fields → Option CodeTail
-last_kept found from no_fields = found
-last_kept found from (field name t s a fs) =
-    last_kept (option_map kept (tail_at (amount (offset_after from (extent_in t s a))) t)) (end_after from (extent_in t s a)) fs
-
-pub last-kept : (found : Option Tail) (from : Option ℕ) (fs : Fields) → last_kept (option_map kept found) from fs ≡ option_map kept (last_tail found from fs)
-last-kept found from no_fields = refl
-last-kept found from (field name t s a fs) = last-kept (tail_at (amount (offset_after from (extent_in t s a))) t) (end_after from (extent_in t s a)) fs
-
 -- ---- the members so far
 
 -- what the loop keeps: of the members so far and the rest together it is known what is known of all
-pub record AreMade (ms : List StructMemberType) (i : ℕ) (xs : List CodePlace) (last : Option CodeTail) (so_far : MemberMeasures) : Type 0 where
+pub record AreMade (ms : List StructMemberType) (i : ℕ) (xs : List CodePlace) (so_far : MemberMeasures) : Type 0 where
   pub places : join (places_view xs) (places_of so_far.end (members_view (drop i ms))) ≡ places_of (Some 0) (members_view ms)
-  pub tail : last_kept last so_far.end (members_view (drop i ms)) ≡ last_kept None (Some 0) (members_view ms)
   pub end : end_of_members so_far.end (extents (members_view (drop i ms))) ≡ end_of_members (Some 0) (extents (members_view ms))
   pub align : greatest_align so_far.align (extents (members_view (drop i ms))) ≡ greatest_align (Some 0) (extents (members_view ms))
   pub fixed : (so_far.are_fixed && have_fixed_layouts (members_view (drop i ms))) ≡ have_fixed_layouts (members_view ms)
@@ -115,12 +101,11 @@ pub type-is : (m : StructMemberType) → type_view m.ty ≡ (member_view m).ty
 type-is m = ap (λ (f : Field). f.ty) (sym (member_view-is m))
 
 -- one more member
-pub step : (ms : List StructMemberType) (i : ℕ) (m : StructMemberType) (xs : List CodePlace) (x : CodePlace) (tail new_tail : Option CodeTail) (old new : MemberMeasures)
+pub step : (ms : List StructMemberType) (i : ℕ) (m : StructMemberType) (xs : List CodePlace) (x : CodePlace) (old new : MemberMeasures)
     → i < length ms → m ≡ get_or ms i m → AreWith (member_view m) old new
     → x.offset ≡ amount (offset_after old.end (extent_of (member_view m))) → plan_view x.plan ≡ plan_of (member_view m).ty
-    → new_tail ≡ option_map kept (tail_at x.offset (member_view m).ty)
-    → AreMade ms i xs tail old → AreMade ms (i + 1) (xs ++ (x ∷ [])) new_tail new
-step ms i m xs x tail new_tail old new h e with at plan tailed made =
+    → AreMade ms i xs old → AreMade ms (i + 1) (xs ++ (x ∷ [])) new
+step ms i m xs x old new h e with at plan made =
     let f = member_view m in
     let fs = members_view (drop (i + 1) ms) in
     let is = fields-from ms i m h e in
@@ -131,10 +116,6 @@ step ms i m xs x tail new_tail old new h e with at plan tailed made =
           join-push xs x (places_of new.end fs) ∙ ap (λ (p : Placed). join (places_view xs) (with_place p (places_of new.end fs))) placed
           ∙ ap (λ (o : Option ℕ). join (places_view xs) (place (amount (offset_after old.end (extent_of f))) (plan_of f.ty) (places_of o fs))) with.end
           ∙ ap (λ (gs : Fields). join (places_view xs) (places_of old.end gs)) (sym is) ∙ made.places;
-      tail =
-          ap (λ (o : Option CodeTail). last_kept o new.end fs) (tailed ∙ ap (λ (o : ℕ). option_map kept (tail_at o f.ty)) at)
-          ∙ ap (λ (o : Option ℕ). last_kept (option_map kept (tail_at (amount (offset_after old.end (extent_of f))) f.ty)) o fs) with.end
-          ∙ ap (last_kept tail old.end) (sym is) ∙ made.tail;
       end = ap (λ (o : Option ℕ). end_of_members o (extents fs)) with.end ∙ n.end old.end ∙ made.end;
       align = ap (λ (o : Option ℕ). greatest_align o (extents fs)) with.align ∙ n.align old.align ∙ made.align;
       fixed = ap (λ (b : Bool). b && have_fixed_layouts fs) with.fixed ∙ n.fixed old.are_fixed ∙ made.fixed;
@@ -150,41 +131,40 @@ and-true true = refl
 and-true false = refl
 
 -- all members
-pub record AreAllMade (ms : List StructMemberType) (xs : List CodePlace) (last : Option CodeTail) (so_far : MemberMeasures) : Type 0 where
+pub record AreAllMade (ms : List StructMemberType) (xs : List CodePlace) (so_far : MemberMeasures) : Type 0 where
   pub places : places_view xs ≡ places_of (Some 0) (members_view ms)
-  pub tail : last ≡ option_map kept (last_tail None (Some 0) (members_view ms))
   pub end : so_far.end ≡ end_of_members (Some 0) (extents (members_view ms))
   pub align : so_far.align ≡ greatest_align (Some 0) (extents (members_view ms))
   pub fixed : so_far.are_fixed ≡ have_fixed_layouts (members_view ms)
   pub runtime : so_far.end_in_runtime_array ≡ end_in_runtime_array (Some 0) (members_view ms)
 
-pub past : (ms : List StructMemberType) (i : ℕ) (xs : List CodePlace) (tail : Option CodeTail) (so_far : MemberMeasures) → length ms ≤ i → AreMade ms i xs tail so_far → AreAllMade ms xs tail so_far
-past ms i xs tail so_far le made =
+pub past : (ms : List StructMemberType) (i : ℕ) (xs : List CodePlace) (so_far : MemberMeasures) → length ms ≤ i → AreMade ms i xs so_far → AreAllMade ms xs so_far
+past ms i xs so_far le made =
     let none : members_view (drop i ms) ≡ no_fields = ap members_view (drop_of_length-le ms {i = i} le) in
     record {
       places = sym (join-none (places_view xs)) ∙ ap (λ (fs : Fields). join (places_view xs) (places_of so_far.end fs)) (sym none) ∙ made.places;
-      tail = ap (last_kept tail so_far.end) (sym none) ∙ made.tail ∙ last-kept None (Some 0) (members_view ms);
       end = ap (λ (fs : Fields). end_of_members so_far.end (extents fs)) (sym none) ∙ made.end;
       align = ap (λ (fs : Fields). greatest_align so_far.align (extents fs)) (sym none) ∙ made.align;
       fixed = sym (and-true so_far.are_fixed) ∙ ap (λ (fs : Fields). so_far.are_fixed && have_fixed_layouts fs) (sym none) ∙ made.fixed;
       runtime = ap (ends so_far.end_in_runtime_array so_far.are_fixed so_far.end) (sym none) ∙ made.runtime;
     }
 
-pub all-made : (name : List ℕ) (ms : List StructMemberType) (ps : Vec CodePlace Global) (last : Option CodeTail) (so_far : MemberMeasures) (m : Measures) (laid : Bool)
-    → AreAllMade ms ps.items last so_far → m.size ≡ with_both round_up so_far.align so_far.end → m.align ≡ so_far.align
+pub all-made : (name : List ℕ) (ms : List StructMemberType) (ps : Vec CodePlace Global) (so_far : MemberMeasures) (m : Measures) (laid : Bool) (long : ℕ)
+    → AreAllMade ms ps.items so_far → m.size ≡ with_both round_up so_far.align so_far.end → m.align ≡ so_far.align
     → m.is_fixed ≡ (so_far.are_fixed && is_some (with_both round_up so_far.align so_far.end)) → m.is_runtime_array ≡ false
     → laid ≡ ((so_far.are_fixed && is_some (with_both round_up so_far.align so_far.end)) || so_far.end_in_runtime_array)
-    → IsPlanOf (struct name (members_view ms)) (record { plan = code.Members ps; measures = m; tail = last; has_layout = laid })
-all-made name ms ps last so_far m laid all size align fixed runtime layout =
+    → ((t : Ty) → AreMeasuresOf t m → long ≡ fixed_size t)
+    → IsPlanOf (struct name (members_view ms)) (record { plan = code.Members long ps; measures = m; has_layout = laid })
+all-made name ms ps so_far m laid long all size align fixed runtime layout told =
     let fs = members_view ms in
     let size_is : with_both round_up so_far.align so_far.end ≡ struct_size (extents fs) =
     ap (λ (a : Option ℕ). with_both round_up a so_far.end) all.align ∙ ap (with_both round_up (struct_align (extents fs))) all.end in
     let fixed_is : (so_far.are_fixed && is_some (with_both round_up so_far.align so_far.end)) ≡ has_fixed_layout (struct name fs) =
     ap (λ (b : Bool). b && is_some (with_both round_up so_far.align so_far.end)) all.fixed ∙ ap (λ (o : Option ℕ). have_fixed_layouts fs && is_some o) size_is in
+    let measured : AreMeasuresOf (struct name fs) m = record { size = size ∙ size_is; align = align ∙ all.align; fixed = fixed ∙ fixed_is; runtime = runtime } in
     record {
-      plan = view-members ps ∙ ap members all.places;
-      measures = record { size = size ∙ size_is; align = align ∙ all.align; fixed = fixed ∙ fixed_is; runtime = runtime };
-      tail = all.tail;
+      plan = view-members long ps ∙ ap (members long) all.places ∙ ap (λ (n : ℕ). members n (places_of (Some 0) fs)) (told (struct name fs) measured);
+      measures = measured;
       layout = layout ∙ ap (λ (b : Bool). b || so_far.end_in_runtime_array) fixed_is ∙ ap (λ (b : Bool). has_fixed_layout (struct name fs) || b) all.runtime;
     }
 

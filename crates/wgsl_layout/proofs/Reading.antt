@@ -248,8 +248,8 @@ at-parts : (fs : Fields) (n : ℕ) (from : Option ℕ) (o : ℕ) (b : List ℕ) 
 at-parts no_fields n from o b = refl
 at-parts (field name t s a fs) n from o b = ap (val (decoded b (o + amount (offset_after from (extent_in t s a))) (layout n t))) (at-parts fs n (end_after from (extent_in t s a)) o b)
 
-members-there : (name : List ℕ) (fs : Fields) (n : ℕ) (ps : Places) (o len : ℕ) → IsThere n (struct name fs) (members ps) o len → AreThere n fs ps o len
-members-there name fs n ps o len h =
+members-there : (name : List ℕ) (fs : Fields) (n : ℕ) (ps : Places) (o len : ℕ) {long : ℕ} → IsThere n (struct name fs) (members long ps) o len → AreThere n fs ps o len
+members-there name fs n ps o len {long} h =
     let same : ps ≡ places_of (Some 0) fs = cc (h.planned) in
     subst (λ (x : Places). AreThere n fs x o len) (sym same)
     (there-from fs n (Some 0) 0 (length_in (layout n (struct name fs))) o len (are-laid name fs n h.laid h.counted) (tidy (struct name fs) n h.laid).0 h.inside)
@@ -258,18 +258,18 @@ members-there name fs n ps o len h =
 pub struct-of : (s : StructType) (ms : List StructMemberType) → ms ≡ (out-StructType s).members.items → struct_type_view s ≡ struct (string_bytes (out-StructType s).name) (members_view ms)
 struct-of s ms e = struct_view-is s ∙ ap (λ (xs : List StructMemberType). struct (string_bytes (out-StructType s).name) (members_view xs)) (sym e)
 
-pub struct-there : (s : StructType) (ms : List StructMemberType) (n : ℕ) (ps : Places) (o len : ℕ) → IsThere n (struct_type_view s) (members ps) o len → ms ≡ (out-StructType s).members.items → AreThere n (members_view ms) ps o len
-struct-there s ms n ps o len there e =
-    members-there (string_bytes (out-StructType s).name) (members_view ms) n ps o len (subst (λ (t : Ty). IsThere n t (members ps) o len) (struct-of s ms e) there)
+pub struct-there : (s : StructType) (ms : List StructMemberType) (n : ℕ) (ps : Places) (o len : ℕ) {long : ℕ} → IsThere n (struct_type_view s) (members long ps) o len → ms ≡ (out-StructType s).members.items → AreThere n (members_view ms) ps o len
+struct-there s ms n ps o len {long} there e =
+    members-there (string_bytes (out-StructType s).name) (members_view ms) n ps o len (subst (λ (t : Ty). IsThere n t (members long ps) o len) (struct-of s ms e) there)
 
-pub struct-made : (s : StructType) (shared : Ty) (ms : List StructMemberType) (n : ℕ) (ps : Places) (o len : ℕ) (b : List ℕ) (xs : Vals) → IsThere n (struct_type_view s) (members ps) o len → ms ≡ (out-StructType s).members.items
+pub struct-made : (s : StructType) (shared : Ty) (ms : List StructMemberType) (n : ℕ) (ps : Places) (o len : ℕ) (b : List ℕ) (xs : Vals) {long : ℕ} → IsThere n (struct_type_view s) (members long ps) o len → ms ≡ (out-StructType s).members.items
     → shared ≡ struct_type_view s → xs ≡ members_at b o n (members_view ms) ps → IsMade (record_of shared xs) (decoded b o (layout n (struct_type_view s)))
-struct-made s shared ms n ps o len b xs there e copied is =
+struct-made s shared ms n ps o len b xs {long} there e copied is =
     let t = struct-of s ms e in
     let fs = members_view ms in
-    let here = subst (λ (u : Ty). IsThere n u (members ps) o len) t there in
+    let here = subst (λ (u : Ty). IsThere n u (members long ps) o len) t there in
     let same : ps ≡ places_of (Some 0) fs = cc (here.planned) in
-    made n (struct_type_view s) (members ps) o len b (record_of shared xs) there
+    made n (struct_type_view s) (members long ps) o len b (record_of shared xs) there
     (ap (record_of shared) (is ∙ ap (λ (x : Places). members_at b o n fs x) same ∙ at-parts fs n (Some 0) o b)
     ∙ ap (λ (u : Ty). record_of u (decoded_parts b o (member_parts n (Some 0) fs))) (copied ∙ t)
     ∙ ap (λ (u : Ty). decoded b o (layout n u)) (sym t))

@@ -1,18 +1,12 @@
 -- How many bytes a value takes, and what they are.
 use Rattle.std.proofs.Common.{◌≡◌, ℕ, suc, ◌-◌, List, [], ◌∷◌, length, Option, Some, None, Bool, true, refl, sym, ap, arith}
-use Rattle.std.specs.Prelude.{slice_get, option_map, if◌then◌else◌}
-use Rattle.wgsl_rules.specs.Layout.{Tail, elements, last_elements, has_layout, length_in, layout_len, layout_of, runtime_count}
+use Rattle.std.specs.Prelude.{slice_get, if◌then◌else◌}
+use Rattle.wgsl_rules.specs.Layout.{elements, last_elements, has_layout, length_in, layout_len, layout_of, runtime_count}
 use Rattle.wgsl_rules.specs.Values.{Val, deferred, type_of, IsStorable}
 use Rattle.wgsl_values.specs.View.{value_of, vals_view}
 use Rattle.wgsl_values.specs.declared.inst.Instance.{Instance}
 use Rattle.wgsl_layout.specs.Buffers.{buffer, buffer_of}
-use Rattle.wgsl_layout.specs.TypePlan.{kept}
 use Rattle.wgsl_layout.proofs.lemmas.Tidy.{tidy}
-
--- a tail that is not kept is none
-pub no-tail : (o : Option Tail) → None ≡ option_map kept o → o ≡ None
-no-tail None e = refl
-no-tail (Some r) e = absurd (cc)
 
 -- ---- the elements of the last member
 

@@ -39,10 +39,10 @@ from-past (suc i) (val v vs) h = from-past i vs (omega arith)
 
 -- ---- they are smaller than the whole
 
-pub item-smaller : (i : ℕ) (vs : Vals) (v : Val) → item i vs ≡ Some v → 2 * nodes v < 2 * all_nodes vs + 1
+pub item-smaller : (i : ℕ) (vs : Vals) (v : Val) → item i vs ≡ Some v → nodes v ≤ all_nodes vs
 item-smaller i vs v e = let h = part-smaller i (vector vs) v e in omega arith
 
-pub value-smaller : (vs : List Instance) (i : ℕ) (v : Instance) → i < length vs → v ≡ get_or vs i v → 2 * nodes (value_of v) < 2 * all_nodes (vals_view vs) + 1
+pub value-smaller : (vs : List Instance) (i : ℕ) (v : Instance) → i < length vs → v ≡ get_or vs i v → nodes (value_of v) ≤ all_nodes (vals_view vs)
 value-smaller vs i v h e = item-smaller i (vals_view vs) (value_of v) (sym (item_within vs i v h) ∙ ap (λ (x : Instance). Some (value_of x)) (sym e))
 
 -- ---- a row

@@ -4,6 +4,7 @@ pub mod Back
 pub mod Compose
 pub mod Counts
 pub mod Decoded
+pub mod Extents
 pub mod Fixed
 pub mod Flat
 pub mod Follows
@@ -13,7 +14,6 @@ pub mod Leaves
 pub mod LikeViews
 pub mod Made
 pub mod Numbers
-pub mod OpenLengths
 pub mod Overwritten
 pub mod Padding
 pub mod Parts

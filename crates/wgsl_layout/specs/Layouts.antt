@@ -7,8 +7,8 @@ use Rattle.wgsl_rules.specs.Types.{Ty}
 use Rattle.wgsl_rules.specs.Values.{Step, Val, type_of}
 use Rattle.wgsl_rules.specs.View.{type_view}
 use Rattle.wgsl_layout.specs.Buffers.{buffer}
+use Rattle.wgsl_layout.specs.Plan.{plan_of, plan_view}
 use Rattle.wgsl_layout.specs.Ranges.{Range, overwritten, view_range}
-use Rattle.wgsl_layout.specs.TypePlan.{IsPlanOf}
 use Rattle.wgsl_layout.specs.declared.layout.Layout.TheInside.{Inside}
 use Rattle.wgsl_layout.specs.declared.layout.LayoutRefusal.{LayoutRefusal}
 use Rattle.wgsl_layout.specs.declared.layout.LayoutRefusal.TheVariants.{TooFewBytes, NoPart, OtherType, OtherLength}
@@ -21,7 +21,7 @@ type_inside l = type_view l.ty
 -- the type has a layout, and the plan is that of the type
 pub record IsLayout (l : Inside) : Type 0 where
   pub laid : HasLayout (type_view l.ty)
-  pub planned : IsPlanOf (type_view l.ty) l.of_type
+  pub planned : plan_view l.plan ≡ plan_of (type_view l.ty)
 
 -- ---- room
 

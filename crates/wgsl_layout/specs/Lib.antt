@@ -4,6 +4,7 @@ pub mod Buffers
 pub mod Components
 pub mod Copies
 pub mod Exchanges
+pub mod Extents
 pub mod Fitting
 pub mod FlatCells
 pub mod LaidOut
@@ -11,9 +12,9 @@ pub mod Laws
 pub mod Layouts
 pub mod Located
 pub mod NumbersIn
-pub mod OpenLengths
 pub mod Plan
 pub mod Ranges
 pub mod Reading
+pub mod Sharing
 pub mod TypePlan
 pub mod Walk

@@ -1,9 +1,9 @@
--- Where the parts of the values of a type stand, as the code keeps it: the layout of the type without lengths,
--- counts and types (WGSL: internal layout of values; structure member layout).
-use Rattle.std.specs.Prelude.{ℕ, List, [], ◌∷◌, map, Option, Some}
+-- Where the parts of the values of a type stand, as the code keeps it: the layout of the type without counts and
+-- types, and with the lengths of structures alone (WGSL: internal layout of values; structure member layout).
+use Rattle.std.specs.Prelude.{ℕ, List, [], ◌∷◌, map, Option, Some, if◌then◌else◌}
 use Rattle.wgsl_rules.specs.Types.{Ty, struct, array, vec, mat, Fields, no_fields, field}
 use Rattle.wgsl_rules.specs.Size.{offset_after, end_after, extent_in}
-use Rattle.wgsl_rules.specs.Layout.{amount, size, align, stride}
+use Rattle.wgsl_rules.specs.Layout.{amount, size, align, stride, has_fixed_layout}
 use Rattle.wgsl_layout.specs.declared.plan.Plan.{«Plan» as CodePlan}
 use Rattle.wgsl_layout.specs.declared.plan.Place.{«Place» as CodePlace}
 use Rattle.wgsl_layout.specs.declared.plan.Plan.TheOpen.{Plan-F, Place-F}
@@ -16,19 +16,24 @@ mutual
     components : ℕ → Plan
     -- parts alike, so far apart
     row : ℕ → Plan → Plan
-    members : Places → Plan
+    -- of a structure: how many bytes it takes where its type tells that, else 0
+    members : ℕ → Places → Plan
 
   -- each where it stands
   pub data Places : Type 0 where
     no_places : Places
     place : ℕ → Plan → Places → Places
 
+-- how many bytes the values of a type take, where it tells that, else 0
+abbrev pub fixed_size : Ty → ℕ
+fixed_size t = if has_fixed_layout t then size t else 0
+
 abbrev mutual
   pub plan_of : Ty → Plan
   plan_of (vec n t) = components (size t)
   plan_of (mat c r t) = row (align (vec r t)) (components (size t))
   plan_of (array t n) = row (stride t) (plan_of t)
-  plan_of (struct name fs) = members (places_of (Some 0) fs)
+  plan_of (struct name fs) = members (fixed_size (struct name fs)) (places_of (Some 0) fs)
   plan_of t = scalar
 
   -- of the members, of which the first stands after `from`
@@ -50,7 +55,7 @@ abbrev pub plan_step : Plan-F Plan Placed → Plan
 plan_step Plan-F.Scalar = scalar
 plan_step (Plan-F.Components far) = components far
 plan_step (Plan-F.Row far part) = row far part.value
-plan_step (Plan-F.Members ps) = members (places_from ps.items)
+plan_step (Plan-F.Members len ps) = members len (places_from ps.items)
 
 abbrev pub place_step : Place-F Plan Placed → Placed
 place_step p = record { offset = p.offset; plan = p.plan }

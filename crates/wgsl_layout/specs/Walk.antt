@@ -27,7 +27,7 @@ abbrev mutual
   put (vector vs) (components far) o b = put_row vs far scalar o b
   put (matrix vs) (row far p) o b = put_row vs far p o b
   put (array_of runtime vs) (row far p) o b = put_row vs far p o b
-  put (record_of t vs) (members ps) o b = put_members vs ps o b
+  put (record_of t vs) (members size ps) o b = put_members vs ps o b
   put v p o b = b
 
   -- of values so far apart, the first at o
@@ -51,7 +51,7 @@ abbrev mutual
   Stands (vector vs) (components far) o len = StandInRow vs far scalar o len
   Stands (matrix vs) (row far p) o len = StandInRow vs far p o len
   Stands (array_of runtime vs) (row far p) o len = StandInRow vs far p o len
-  Stands (record_of t vs) (members ps) o len = StandAsMembers vs ps o len
+  Stands (record_of t vs) (members size ps) o len = StandAsMembers vs ps o len
   Stands v p o len = ⊥
 
   pub StandInRow : Vals → ℕ → Plan → ℕ → ℕ → Type 0

@@ -169,7 +169,7 @@ fn copy_struct(
     requires to { IsThere count (struct_type_view ty.now) (plan_view plan.now) base (length out.old) }
     ensures { out.new ≡ put (decoded bytes.now at (layout count (struct_type_view ty.now))) (plan_view plan.now) base out.old }
 {
-    let Plan::Members(places) = plan else {
+    let Plan::Members(_, places) = plan else {
         unreachable!()
     };
     copy_members(

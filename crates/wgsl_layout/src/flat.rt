@@ -129,7 +129,7 @@ impl FlatCell {
         if !of_type.has_layout {
             return Ok(None);
         }
-        let layout = Layout::from_plan(ty, of_type);
+        let layout = Layout::from_plan(ty, of_type.plan);
         let bytes = layout.write_whole(alloc, value)?;
         Ok(Some(FlatCell {
             owner: Owner::Own(layout),
@@ -164,11 +164,11 @@ impl FlatCell {
         if !of_type.has_layout {
             return Ok(None);
         }
-        if of_type.count_in(bytes.len()).is_none() {
+        if of_type.extent().count_in(bytes.len()).is_none() {
             return Ok(None);
         }
         let own_ty = ty.clone(alloc)?;
-        let layout = Layout::from_plan(own_ty, of_type);
+        let layout = Layout::from_plan(own_ty, of_type.plan);
         FlatCell::of_layout(alloc, Owner::Own(layout), bytes)
     }
 
@@ -214,6 +214,9 @@ impl FlatCell {
         ensures bytes { IsOkAnd (viewed (steps_of view.now) self.now) (λ x. result.now ≡ buffer x) }
         ensures laid { has_layout (type_of self.now) ≡ true }
     {
+        if let MemView::Whole = view {
+            return self.bytes.as_slice();
+        }
         self.part_at(view).slice(self.bytes.as_slice())
     }
 

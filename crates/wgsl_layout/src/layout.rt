@@ -34,8 +34,10 @@ ghost use Rattle.wgsl_layout.specs.Ranges.{bytes_in};
 ghost use Rattle.wgsl_values.specs.View.{steps_of, value_of};
 
 use crate::copier::copy_numbers;
+use crate::extent::Extent;
 use crate::located::Located;
 use crate::make::TypePlan;
+use crate::plan::Plan;
 use crate::writer::write_whole;
 use std::alloc::{AllocError, Global};
 use std::fmt;
@@ -50,7 +52,7 @@ use wgsl_values::{Instance, MemView};
 #[derive(Drop)]
 pub struct Layout {
     ty: Type,
-    of_type: TypePlan,
+    plan: Plan,
 }
 
 impl Model for Layout {
@@ -94,9 +96,9 @@ impl Layout {
     ghost use Rattle.wgsl_layout.specs.Buffers.{buffer, decoded};
     ghost use Rattle.wgsl_layout.specs.Layouts.{HasRoom};
     ghost use Rattle.wgsl_layout.specs.Located.{IsLocated, part_range};
-    ghost use Rattle.wgsl_layout.specs.Plan.{plan_of};
+    ghost use Rattle.wgsl_layout.specs.Extents.{IsExtentOf};
+    ghost use Rattle.wgsl_layout.specs.Plan.{plan_of, plan_view};
     ghost use Rattle.wgsl_layout.specs.Ranges.{view_range};
-    ghost use Rattle.wgsl_layout.specs.TypePlan.{IsPlanOf};
     ghost use Rattle.wgsl_layout.specs.Walk.{put};
 
     /// The layout of the type; `None` exactly where the type has none ([`Type::has_layout`]).
@@ -109,16 +111,19 @@ impl Layout {
             return Ok(None);
         }
         let ty = ty.clone(alloc)?;
-        Ok(Some(Layout { ty, of_type }))
+        Ok(Some(Layout {
+            ty,
+            plan: of_type.plan,
+        }))
     }
 
     /// The layout of the type, of which this is the plan. The condition: the type has a layout.
-    pub(crate) fn from_plan(ty: Type, of_type: TypePlan) -> Layout
+    pub(crate) fn from_plan(ty: Type, plan: Plan) -> Layout
         requires laid { HasLayout (type_view ty) }
-        requires planned { IsPlanOf (type_view ty) of_type }
+        requires planned { plan_view plan ≡ plan_of (type_view ty) }
         ensures { result ≡ type_view ty }
     {
-        Layout { ty, of_type }
+        Layout { ty, plan }
     }
 
     /// A copy of the layout, in memory of its own.
@@ -127,8 +132,8 @@ impl Layout {
         ensures { IfOk result (λ l. l ≡ self.now) }
     {
         let ty = self.ty.clone(alloc)?;
-        let of_type = self.of_type.clone(alloc)?;
-        Ok(Layout { ty, of_type })
+        let plan = self.plan.clone(alloc)?;
+        Ok(Layout { ty, plan })
     }
 
     /// The type, which has a layout.
@@ -144,12 +149,7 @@ impl Layout {
     pub fn size(&self) -> Option<usize>
         ensures { MatchOption result (has_fixed_layout self.now ≡ false) (λ n. (count : ℕ) → n ≡ layout_len count self.now) }
     {
-        let measures = self.of_type.measures;
-        if measures.is_fixed {
-            Some(measures.size.unwrap_or(0) as usize)
-        } else {
-            None
-        }
+        self.extent().size()
     }
 
     /// How many bytes a value takes with so many elements in the runtime-sized array that the type is or ends in,
@@ -157,7 +157,7 @@ impl Layout {
     pub fn size_with(&self, count: usize) -> Option<usize>
         ensures { MatchOption result (2 ^ 64 ≤ layout_len count self.now) (λ n. n ≡ layout_len count self.now) }
     {
-        self.of_type.length(count)
+        self.extent().len(count)
     }
 
     /// How many elements the runtime-sized array that the type is or ends in has in so many bytes, as many as find
@@ -166,7 +166,7 @@ impl Layout {
     pub fn count_in(&self, len: usize) -> Option<usize>
         ensures { result ≡ count_in len self.now }
     {
-        self.of_type.count_in(len)
+        self.extent().count_in(len)
     }
 
     /// The bytes of the part that the view leads to, in so many bytes: from its first byte to behind its last, with
@@ -249,6 +249,13 @@ impl Layout {
         let _ = &self.ty;
     }
 
+    // How many bytes a value takes.
+    fn extent(&self) -> Extent
+        ensures { IsExtentOf self.now result }
+    {
+        Extent::of(&self.ty, &self.plan)
+    }
+
     // Where the part stands that the view leads to, in so many bytes.
     fn part(&self, len: usize, view: &MemView) -> Result<Located<'_>, LayoutRefusal>
         ensures range { answer_map part_range result ≡ part_in len (steps_of view.now) self.now }
@@ -273,7 +280,7 @@ impl Layout {
         ensures there { IsLocated result }
         ensures len { result.len ≡ len }
     {
-        Located::of_whole(&self.ty, &self.of_type.plan, count, len)
+        Located::of_whole(&self.ty, &self.plan, count, len)
     }
 
     /// The part that the view leads to in such a whole; `None` where it leads nowhere.
@@ -291,7 +298,7 @@ impl Layout {
         requires typed { type_of (value_of value.now) ≡ self.now }
         ensures { IfOk result (λ b. b.items ≡ buffer (value_of value.now)) }
     {
-        write_whole(alloc, value, &self.of_type)
+        write_whole(alloc, value, &self.plan, self.extent())
     }
 
     /// Copies the numbers of the value that the bytes lay out, with so many elements, as [`Layout::count_in`] tells, to
@@ -301,7 +308,7 @@ impl Layout {
         requires to { HasRoom count self.now (length out.old) }
         ensures { out.new ≡ put (decoded bytes.now 0 (layout count self.now)) (plan_of self.now) 0 out.old }
     {
-        copy_numbers(out, 0, bytes, 0, count, &self.ty, &self.of_type.plan);
+        copy_numbers(out, 0, bytes, 0, count, &self.ty, &self.plan);
     }
 }
 

@@ -4,7 +4,7 @@
 
 mod buffers;
 mod copier;
-mod count;
+mod extent;
 mod flat;
 mod in_place;
 pub mod laws;

@@ -115,7 +115,7 @@ impl<'a> Located<'a> {
         ensures range { option_map part_range result ≡ range_behind (member_step name.now) self.entry.count (struct_view ty.now) self.entry.start }
         ensures there { IfSome result (IsInside self.entry) }
     {
-        let Plan::Members(places) = plan else {
+        let Plan::Members(_, places) = plan else {
             unreachable!()
         };
         let members = ty.members.as_slice();

@@ -8,6 +8,7 @@ ghost use Rattle.wgsl_rules.specs.View.{type_view};
 ghost use Rattle.wgsl_values.specs.View.{vec_view};
 
 use crate::copier::{copy_numbers, copy_vector};
+use crate::extent::Extent;
 use crate::located::{Located, Shape};
 use crate::plan::Plan;
 use crate::reader::{read_value, read_vector};
@@ -31,10 +32,11 @@ impl<'a> Located<'a> {
       length,
       option_map,
     };
-    ghost use Rattle.wgsl_rules.specs.Layout.{count_in, has_fixed_layout, layout_of, length_in};
+    ghost use Rattle.wgsl_rules.specs.Layout.{count_in, layout_of, length_in};
     ghost use Rattle.wgsl_rules.specs.Values.{IsStorable, atomic_of, type_of};
     ghost use Rattle.wgsl_scalar.specs.Literals.{literal_of};
     ghost use Rattle.wgsl_layout.specs.Buffers.{buffer, decoded};
+    ghost use Rattle.wgsl_layout.specs.Extents.{IsExtentOf};
     ghost use Rattle.wgsl_layout.specs.Located.{
       IsInside,
       IsLocated,
@@ -65,10 +67,20 @@ impl<'a> Located<'a> {
         ensures range { option_map part_range result ≡ option_map (further self.entry.start) (view_range (steps_of view.now) (part_range self.entry).layout) }
         ensures there { IfSome result (IsInside self.entry) }
     {
-        match view {
-            MemView::Whole => Some(self),
-            MemView::Member(name, rest) => self.member(name.as_str())?.viewed(rest),
-            MemView::Index(i, rest) => self.index(*i)?.viewed(rest),
+        let mut part = self;
+        let mut rest = view;
+        loop {
+            match rest {
+                MemView::Whole => return Some(part),
+                MemView::Member(name, behind) => {
+                    part = part.member(name.as_str())?;
+                    rest = behind;
+                }
+                MemView::Index(i, behind) => {
+                    part = part.index(*i)?;
+                    rest = behind;
+                }
+            }
         }
     }
 
@@ -77,19 +89,24 @@ impl<'a> Located<'a> {
         requires { IsLocated self }
         ensures { result ≡ length_in (part_range self.entry).layout }
     {
+        match self.extent().len(self.count) {
+            Some(size) => size,
+            // It stands in bytes, which are counted.
+            None => unreachable!(),
+        }
+    }
+
+    // How many bytes the values of the part's type take.
+    fn extent(self) -> Extent
+        requires { IsLocated self }
+        ensures { IsExtentOf (shape_ty self.entry.shape) result }
+    {
         match self.shape {
-            Shape::Whole(ty, plan) => {
-                let measures = ty.measures();
-                if measures.is_fixed {
-                    measures.size.unwrap_or(0) as usize
-                } else {
-                    plan.open_len(self.count)
-                }
-            }
+            Shape::Whole(ty, plan) => Extent::of(ty, plan),
             Shape::Column(n, component, _) => {
-                usize::from(n) * component.measures().size.unwrap_or(0) as usize
+                Extent::Fixed(usize::from(n) * component.measures().size.unwrap_or(0) as usize)
             }
-            Shape::Component(ty) => ty.measures().size.unwrap_or(0) as usize,
+            Shape::Component(ty) => Extent::Fixed(ty.measures().size.unwrap_or(0) as usize),
         }
     }
 
@@ -111,7 +128,10 @@ impl<'a> Located<'a> {
         requires other { IsLocated other }
         ensures { IsTrue result ↔ ((part_range other.entry).layout ≡ (part_range self.entry).layout) }
     {
-        self.has_ty_of(other) && self.size() == other.size()
+        if !self.has_ty_of(other) {
+            return false;
+        }
+        self.count == other.count || self.size() == other.size()
     }
 
     /// Overwrites the bytes of the part with these. The conditions: the part stands in the bytes, and these are as
@@ -266,26 +286,7 @@ impl<'a> Located<'a> {
         requires { IsLocated self }
         ensures { result ≡ count_in len (shape_ty self.entry.shape) }
     {
-        match self.shape {
-            Shape::Whole(ty, plan) => {
-                if ty.measures().is_fixed {
-                    self.fixed_count_in(len)
-                } else {
-                    plan.count_in(len)
-                }
-            }
-            Shape::Column(_, _, _) => self.fixed_count_in(len),
-            Shape::Component(_) => self.fixed_count_in(len),
-        }
-    }
-
-    // As `Located::count_in`, of a part whose type tells its size.
-    fn fixed_count_in(self, len: usize) -> Option<usize>
-        requires located { IsLocated self }
-        requires fixed { has_fixed_layout (shape_ty self.shape) ≡ true }
-        ensures { result ≡ count_in len (shape_ty self.entry.shape) }
-    {
-        if self.size() <= len { Some(0) } else { None }
+        self.extent().count_in(len)
     }
 
     /// Whether a value of the part's type with so many elements, as [`Located::count_in`] counts them, has the layout

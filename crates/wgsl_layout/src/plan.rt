@@ -1,18 +1,12 @@
 //! Where the parts of the values of a type stand, found once for the type (WGSL: internal layout of
 //! values; structure member layout).
 
-ghost use Rattle.std.specs.Prelude.{◌≡◌, ◌<◌, ◌^◌, IfOk, None};
-ghost use Rattle.wgsl_layout.specs.OpenLengths.{
-  last_count,
-  last_end,
-  open_count,
-  open_len,
-  row_count,
-  row_len,
-};
+ghost use Rattle.std.specs.Prelude.{◌≡◌, IfOk, None};
+ghost use Rattle.std.specs.Option.{unwrap_or};
+ghost use Rattle.wgsl_layout.specs.Extents.{last_tail, no_tail, plan_tail, row_tail};
 ghost use Rattle.wgsl_layout.specs.Plan.{place_view, places_view, plan_view};
 
-use crate::make::Tail;
+use crate::extent::Tail;
 use std::alloc::{AllocError, Global};
 
 /// Where the parts of a value stand, in bytes from its start.
@@ -25,8 +19,8 @@ pub(crate) enum Plan {
     Components(u32),
     /// The elements of an array or the columns of a matrix, so far apart, and the plan of each.
     Row(u32, Box<Plan>),
-    /// The members of a structure, in its order.
-    Members(Vec<Place>),
+    /// The members of a structure, in its order, and how many bytes a value takes where the type tells that, else 0.
+    Members(u32, Vec<Place>),
 }
 
 /// Where a member stands, and its own plan.
@@ -47,7 +41,7 @@ impl Plan {
             Plan::Scalar => Ok(Plan::Scalar),
             Plan::Components(far) => Ok(Plan::Components(*far)),
             Plan::Row(far, part) => Ok(Plan::Row(*far, part.boxed_clone(alloc)?)),
-            Plan::Members(places) => Ok(Plan::Members(clone_places(alloc, places)?)),
+            Plan::Members(size, places) => Ok(Plan::Members(*size, clone_places(alloc, places)?)),
         }
     }
 
@@ -59,53 +53,31 @@ impl Plan {
         Ok(Box::new(alloc, copy)?)
     }
 
-    /// How many bytes a value takes whose end so many elements tell: a runtime-sized array, or a structure that
-    /// ends in one.
-    pub(crate) fn open_len(&self, count: usize) -> usize
-        requires { open_len (plan_view self.now) count < 2 ^ 64 }
-        ensures { result ≡ open_len (plan_view self.now) count }
+    /// The runtime-sized array that the type is or ends in, of which this is the plan; it does not count where there is
+    /// none.
+    pub(crate) fn tail(&self) -> Tail
+        ensures { result ≡ unwrap_or (plan_tail (plan_view self.now)) no_tail }
     {
-        match self {
-            Plan::Row(far, _) => count * *far as usize,
-            Plan::Scalar | Plan::Components(_) => 0,
-            Plan::Members(places) => last_end(places.as_slice(), count),
-        }
+        let tail = match self {
+            Plan::Members(_, places) => last_tail(places.as_slice()),
+            Plan::Row(_, _) | Plan::Scalar | Plan::Components(_) => self.row_tail(0),
+        };
+        tail.unwrap_or(Tail {
+            start: 0,
+            stride: 0,
+        })
     }
 
-    // How many bytes so many elements take of the array that this is the plan of.
-    fn row_len(&self, count: usize) -> usize
-        requires { row_len (plan_view self.now) count < 2 ^ 64 }
-        ensures { result ≡ row_len (plan_view self.now) count }
+    // The array that this is the plan of, which begins at `start`.
+    fn row_tail(&self, start: u32) -> Option<Tail>
+        ensures { result ≡ row_tail start (plan_view self.now) }
     {
         match self {
-            Plan::Row(far, _) => count * *far as usize,
-            Plan::Scalar | Plan::Components(_) | Plan::Members(_) => 0,
-        }
-    }
-
-    /// How many elements so many bytes tell of what has an end that its elements tell: a runtime-sized array, or a
-    /// structure that ends in one. As many as find room, one at least; `None` where the bytes are too few.
-    pub(crate) fn count_in(&self, len: usize) -> Option<usize>
-        ensures { result ≡ open_count (plan_view self.now) len }
-    {
-        match self {
-            Plan::Row(_, _) | Plan::Scalar | Plan::Components(_) => self.row_count_in(0, len),
-            Plan::Members(places) => last_count_in(places.as_slice(), len),
-        }
-    }
-
-    // How many elements so many bytes of the whole tell of the array that this is the plan of, which begins at
-    // `start`.
-    fn row_count_in(&self, start: u32, len: usize) -> Option<usize>
-        ensures { result ≡ row_count start (plan_view self.now) len }
-    {
-        match self {
-            Plan::Row(far, _) => Tail {
+            Plan::Row(far, _) => Some(Tail {
                 start,
                 stride: *far,
-            }
-            .count_in(len),
-            Plan::Scalar | Plan::Components(_) | Plan::Members(_) => None,
+            }),
+            Plan::Scalar | Plan::Components(_) | Plan::Members(_, _) => None,
         }
     }
 }
@@ -134,27 +106,14 @@ fn clone_places(alloc: Global, places: &Vec<Place>) -> Result<Vec<Place>, AllocE
     Ok(copies)
 }
 
-// Where the last of the members ends, which is an array of so many elements.
-fn last_end(places: &[Place], count: usize) -> usize
-    requires { last_end 0 count (places_view places.now) < 2 ^ 64 }
-    ensures { result ≡ last_end 0 count (places_view places.now) }
-{
-    let n = places.len();
-    if n == 0 {
-        return 0;
-    }
-    let last = &places[n - 1];
-    last.offset as usize + last.plan.row_len(count)
-}
-
-// How many elements so many bytes tell of the last of the members, which is an array.
-fn last_count_in(places: &[Place], len: usize) -> Option<usize>
-    ensures { result ≡ last_count None len (places_view places.now) }
+// The last of the members, where that is an array.
+fn last_tail(places: &[Place]) -> Option<Tail>
+    ensures { result ≡ last_tail None (places_view places.now) }
 {
     let n = places.len();
     if n == 0 {
         return None;
     }
     let last = &places[n - 1];
-    last.plan.row_count_in(last.offset, len)
+    last.plan.row_tail(last.offset)
 }

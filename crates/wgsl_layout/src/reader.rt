@@ -1,8 +1,8 @@
 //! The value that bytes lay out (WGSL: internal layout of values).
 
-ghost use Rattle.std.specs.Prelude.{◌≡◌, ◌+◌, ◌≤◌, length, IfOk, IsTrue, is_some, option_map};
+ghost use Rattle.std.specs.Prelude.{◌≡◌, ◌+◌, ◌≤◌, ℕ, List, length, IfOk, IsTrue, is_some, option_map};
 ghost use Rattle.wgsl_rules.specs.Layout.{layout, leaf, scalar_kind, size};
-ghost use Rattle.wgsl_rules.specs.Types.{array, mat, vec};
+ghost use Rattle.wgsl_rules.specs.Types.{array, mat, struct, vec};
 ghost use Rattle.wgsl_rules.specs.View.{type_view, members_view, struct_view as struct_type_view};
 ghost use Rattle.wgsl_scalar.specs.Literals.{literal_of};
 ghost use Rattle.wgsl_values.specs.View.{
@@ -16,6 +16,7 @@ ghost use Rattle.wgsl_values.specs.View.{
 ghost use Rattle.wgsl_layout.specs.Buffers.{decode, decoded, number_from};
 ghost use Rattle.wgsl_layout.specs.Plan.{plan_view, places_view};
 ghost use Rattle.wgsl_layout.specs.Reading.{IsThere, AreThere, members_at};
+ghost use Rattle.wgsl_layout.specs.Sharing.{Suits};
 
 use crate::make::TypePlan;
 use crate::plan::{Place, Plan};
@@ -67,7 +68,7 @@ pub fn read_buffer(alloc: Global, bytes: &[u8], ty: &Type) -> Result<Option<Inst
     if !of_type.has_layout {
         return Ok(None);
     }
-    let Some(count) = of_type.count_in(bytes.len()) else {
+    let Some(count) = of_type.extent().count_in(bytes.len()) else {
         return Ok(None);
     };
     let value = read_value(alloc, bytes, 0, count, ty, &of_type.plan, Types::Own)?;
@@ -149,7 +150,8 @@ fn read_matrix(
 
 /// The value of the type that begins at `base`, by the plan of the type, with `count` elements in the
 /// runtime-sized array that the type is or ends in. The condition: the type has a layout, the bytes hold
-/// the value whole, and such an array has one element at least. Structures take their types as asked.
+/// the value whole, and such an array has one element at least. Structures take their types as asked: a value that shares
+/// its types is of the type.
 #[cycle(read)]
 pub(crate) fn read_value(
     alloc: Global,
@@ -160,7 +162,8 @@ pub(crate) fn read_value(
     plan: &Plan,
     types: Types<'_>,
 ) -> Result<Instance, AllocError>
-    requires { IsThere count (type_view ty.now) (plan_view plan.now) base (length bytes.now) }
+    requires there { IsThere count (type_view ty.now) (plan_view plan.now) base (length bytes.now) }
+    requires suits { Suits types count (type_view ty.now) }
     ensures { IfOk result (λ v. value_of v ≡ decoded bytes.now base (layout count (type_view ty.now))) }
 {
     match ty {
@@ -209,7 +212,8 @@ fn read_array(
     plan: &Plan,
     types: Types<'_>,
 ) -> Result<ArrayInstance, AllocError>
-    requires { IsThere count (array (type_view element.now) n) (plan_view plan.now) base (length bytes.now) }
+    requires there { IsThere count (array (type_view element.now) n) (plan_view plan.now) base (length bytes.now) }
+    requires suits { Suits types count (array (type_view element.now) n) }
     ensures { IfOk result (λ v. array_view v ≡ decoded bytes.now base (layout count (array (type_view element.now) n))) }
 {
     let Plan::Row(far, part) = plan else {
@@ -238,10 +242,11 @@ fn read_struct(
     plan: &Plan,
     types: Types<'_>,
 ) -> Result<StructInstance, AllocError>
-    requires { IsThere count (struct_type_view ty.now) (plan_view plan.now) base (length bytes.now) }
+    requires there { IsThere count (struct_type_view ty.now) (plan_view plan.now) base (length bytes.now) }
+    requires suits { Suits types count (struct_type_view ty.now) }
     ensures { IfOk result (λ v. struct_view v ≡ decoded bytes.now base (layout count (struct_type_view ty.now))) }
 {
-    let Plan::Members(places) = plan else {
+    let Plan::Members(_, places) = plan else {
         unreachable!()
     };
     let members = read_members(
@@ -267,22 +272,16 @@ fn read_members(
     places: &[Place],
     types: Types<'_>,
 ) -> Result<Vec<Instance>, AllocError>
-    requires { AreThere count (members_view members.now) (places_view places.now) base (length bytes.now) }
+    requires there { AreThere count (members_view members.now) (places_view places.now) base (length bytes.now) }
+    requires suits { (name : List ℕ) × Suits types count (struct name (members_view members.now)) }
     ensures { IfOk result (λ v. vals_view v.items ≡ members_at bytes.now base count (members_view members.now) (places_view places.now)) }
 {
     let mut values = Vec::with_capacity(alloc, members.len())?;
     for (i, member) in members.iter().enumerate() {
         let place = &places[i];
         let at = base + place.offset as usize;
-        let value = read_value(
-            alloc,
-            bytes,
-            at,
-            count,
-            &member.ty,
-            &place.plan,
-            types.part(i),
-        )?;
+        let types = types.part(i);
+        let value = read_value(alloc, bytes, at, count, &member.ty, &place.plan, types)?;
         values.push(value)?;
     }
     Ok(values)

@@ -6,11 +6,12 @@ ghost use Rattle.wgsl_rules.specs.Paths.{parts};
 ghost use Rattle.wgsl_rules.specs.Values.{IsStorable, type_of};
 ghost use Rattle.wgsl_scalar.specs.Literals.{literal_of};
 ghost use Rattle.wgsl_layout.specs.Buffers.{buffer, buffer_of};
-ghost use Rattle.wgsl_layout.specs.Plan.{plan_view, places_view, scalar};
-ghost use Rattle.wgsl_layout.specs.TypePlan.{IsPlanOf};
+ghost use Rattle.wgsl_layout.specs.Extents.{IsExtentOf};
+ghost use Rattle.wgsl_layout.specs.Plan.{plan_of, plan_view, places_view, scalar};
 ghost use Rattle.wgsl_layout.specs.Walk.{put, put_row, put_members, Stands, StandInRow, StandAsMembers};
 ghost use Rattle.wgsl_values.specs.View.{value_of, mat_view, vals_view};
 
+use crate::extent::Extent;
 use crate::make::TypePlan;
 use crate::plan::{Place, Plan};
 use std::alloc::{AllocError, Global};
@@ -27,27 +28,29 @@ pub(crate) fn write_buffer(alloc: Global, value: &Instance) -> Result<Option<Vec
     if !ty.has_layout {
         return Ok(None);
     }
-    Ok(Some(write_whole(alloc, value, &ty)?))
+    Ok(Some(write_whole(alloc, value, &ty.plan, ty.extent())?))
 }
 
 /// The bytes of a value, as many as its layout has, in memory of their own. The conditions: the value is
-/// storable, its type has a layout, and `ty` is the plan of that type.
+/// storable, its type has a layout, and the plan and the extent are those of that type.
 pub(crate) fn write_whole(
     alloc: Global,
     value: &Instance,
-    ty: &TypePlan,
+    plan: &Plan,
+    extent: Extent,
 ) -> Result<Vec<u8>, AllocError>
     requires storable { IsStorable (value_of value.now) }
-    requires planned { IsPlanOf (type_of (value_of value.now)) ty.now }
+    requires planned { plan_view plan.now ≡ plan_of (type_of (value_of value.now)) }
+    requires extent { IsExtentOf (type_of (value_of value.now)) extent }
     requires laid { HasLayout (type_of (value_of value.now)) }
     ensures { IfOk result (λ b. b.items ≡ buffer (value_of value.now)) }
 {
     // More bytes than can be counted are more than there is memory for.
-    let Some(len) = ty.length(runtime_count(value)) else {
+    let Some(len) = extent.len(runtime_count(value)) else {
         return Err(AllocError);
     };
     let mut out = vec![in alloc; 0u8; len]?;
-    write_value(out.as_mut_slice(), 0, value, &ty.plan);
+    write_value(out.as_mut_slice(), 0, value, plan);
     Ok(out)
 }
 
@@ -107,7 +110,7 @@ pub(crate) fn write_value(out: &mut [u8], base: usize, value: &Instance, plan: &
             write_row(out, base, *far as usize, a.as_slice(), element)
         }
         Instance::Struct(s) => {
-            let Plan::Members(places) = plan else {
+            let Plan::Members(_, places) = plan else {
                 unreachable!()
             };
             write_members(out, base, s.members(), places.as_slice())
@@ -137,7 +140,23 @@ fn write_row(out: &mut [u8], base: usize, far: usize, values: &[Instance], plan:
     ensures { out.new ≡ put_row (vals_view values.now) far (plan_view plan.now) base out.old }
 {
     for (i, value) in values.iter().enumerate() {
-        write_value(out, base + i * far, value, plan);
+        write_item(out, base + i * far, value, plan);
+    }
+}
+
+// As `write_value`, which is called for what is no number.
+#[inline(always)]
+#[cycle(write)]
+fn write_item(out: &mut [u8], base: usize, value: &Instance, plan: &Plan)
+    requires { Stands (value_of value.now) (plan_view plan.now) base (length out.old) }
+    ensures { out.new ≡ put (value_of value.now) (plan_view plan.now) base out.old }
+{
+    match value {
+        Instance::Literal(literal) => write_literal(out, base, *literal),
+        Instance::Struct(_) | Instance::Array(_) => write_value(out, base, value, plan),
+        Instance::Vec(_) | Instance::Mat(_) => write_value(out, base, value, plan),
+        Instance::Atomic(_) | Instance::Ptr(_) => write_value(out, base, value, plan),
+        Instance::Ref(_) | Instance::Deferred(_) => write_value(out, base, value, plan),
     }
 }
 

@@ -11,6 +11,7 @@ pub use Rattle.wgsl_layout.proofs.lemmas.Back
 pub use Rattle.wgsl_layout.proofs.lemmas.Compose
 pub use Rattle.wgsl_layout.proofs.lemmas.Counts
 pub use Rattle.wgsl_layout.proofs.lemmas.Decoded
+pub use Rattle.wgsl_layout.proofs.lemmas.Extents
 pub use Rattle.wgsl_layout.proofs.lemmas.Fixed
 pub use Rattle.wgsl_layout.proofs.lemmas.Flat
 pub use Rattle.wgsl_layout.proofs.lemmas.Follows
@@ -20,7 +21,6 @@ pub use Rattle.wgsl_layout.proofs.lemmas.Leaves
 pub use Rattle.wgsl_layout.proofs.lemmas.LikeViews
 pub use Rattle.wgsl_layout.proofs.lemmas.Made
 pub use Rattle.wgsl_layout.proofs.lemmas.Numbers
-pub use Rattle.wgsl_layout.proofs.lemmas.OpenLengths
 pub use Rattle.wgsl_layout.proofs.lemmas.Overwritten
 pub use Rattle.wgsl_layout.proofs.lemmas.Padding
 pub use Rattle.wgsl_layout.proofs.lemmas.Parts

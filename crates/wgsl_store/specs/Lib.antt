@@ -12,13 +12,13 @@ pub mod MemoryLaws
 pub mod ReferenceCalls
 pub mod Shown
 pub use Rattle.wgsl_layout.specs.Buffers
+pub use Rattle.wgsl_layout.specs.Extents
 pub use Rattle.wgsl_layout.specs.Fitting
 pub use Rattle.wgsl_layout.specs.FlatCells
 pub use Rattle.wgsl_layout.specs.Laws
 pub use Rattle.wgsl_layout.specs.Layouts
 pub use Rattle.wgsl_layout.specs.Located
 pub use Rattle.wgsl_layout.specs.NumbersIn
-pub use Rattle.wgsl_layout.specs.OpenLengths
 pub use Rattle.wgsl_layout.specs.Plan
 pub use Rattle.wgsl_layout.specs.Ranges
 pub use Rattle.wgsl_layout.specs.Reading

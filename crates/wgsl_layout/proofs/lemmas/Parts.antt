@@ -20,7 +20,7 @@ decoded_in b r = decoded b r.start r.layout
 
 -- ---- one step
 
-item-decoded : (i : ℕ) (b : List ℕ) (o : ℕ) (ps : Parts) → item i (decoded_parts b o ps) ≡ option_map (λ r. decoded b (o + r.start) r.layout) (part_at i ps)
+pub item-decoded : (i : ℕ) (b : List ℕ) (o : ℕ) (ps : Parts) → item i (decoded_parts b o ps) ≡ option_map (λ r. decoded b (o + r.start) r.layout) (part_at i ps)
 item-decoded i b o no_parts = refl
 item-decoded zero b o (part from l ps) = refl
 item-decoded (suc i) b o (part from l ps) = item-decoded i b o ps

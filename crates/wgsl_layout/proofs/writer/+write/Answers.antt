@@ -8,8 +8,8 @@ use Rattle.wgsl_layout.specs.Walk.{put_row}
 use Rattle.wgsl_layout.proofs.Writing.{vals-from, from-past, column-next, item-smaller, value-smaller, row-next, has-place, member-next, item-there, item-is}
 use Rattle.wgsl_layout.proofs.writer.+write.Goals as goal
 
-pub write_row-write_value-requires : goal.write_row-write_value-requires
-write_row-write_value-requires t c =
+pub write_row-write_item-requires : goal.write_row-write_item-requires
+write_row-write_item-requires t c =
     let vs = c.args.values.now in
     let v = c.index-values-i.result in
     let here = vals-from vs c.loop-i.i v c.loop-i-test.true c.index-values-i.is in

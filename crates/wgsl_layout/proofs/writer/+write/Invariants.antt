@@ -8,16 +8,19 @@ use Rattle.wgsl_layout.proofs.Writing.{from}
 use Rattle.wgsl_layout.proofs.writer.+write.Given as goal
 
 abbrev pub decreases-write_value : goal.decreases-write_value
-decreases-write_value l = 2 * nodes (value_of l.value.now)
+decreases-write_value l = 3 * nodes (value_of l.value.now)
+
+abbrev pub decreases-write_item : goal.decreases-write_item
+decreases-write_item l = 3 * nodes (value_of l.value.now) + 1
 
 abbrev pub decreases-write_row : goal.decreases-write_row
-decreases-write_row l = 2 * all_nodes (vals_view l.values.now) + 1
+decreases-write_row l = 3 * all_nodes (vals_view l.values.now) + 2
 
 abbrev pub decreases-write_columns : goal.decreases-write_columns
-decreases-write_columns l = 2 * all_nodes (parts (mat_view l.matrix.now)) + 1
+decreases-write_columns l = 3 * all_nodes (parts (mat_view l.matrix.now)) + 2
 
 abbrev pub decreases-write_members : goal.decreases-write_members
-decreases-write_members l = 2 * all_nodes (vals_view l.members.now) + 1
+decreases-write_members l = 3 * all_nodes (vals_view l.members.now) + 2
 
 abbrev pub invariant-write_row-loop-i : goal.invariant-write_row-loop-i
 invariant-write_row-loop-i l = record {

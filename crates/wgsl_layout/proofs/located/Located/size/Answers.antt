@@ -1,30 +1,20 @@
-use Rattle.std.proofs.Common.{◌≡◌, ◌∙◌, ℕ, Option, true, false, ap, sym, arith}
-use Rattle.std.specs.Option.{unwrap_or}
-use Rattle.wgsl_rules.specs.Layout.{has_fixed_layout}
-use Rattle.wgsl_rules.specs.View.{type_view}
-use Rattle.wgsl_layout.specs.Plan.{plan_view}
-use Rattle.wgsl_layout.proofs.lemmas.OpenLengths.{fixed-size, open-there}
+use Rattle.std.proofs.Common.{◌≡◌, ◌≤◌, ◌^◌, ◌∙◌, sym, arith}
+use Rattle.wgsl_rules.specs.Layout.{layout_len, layout, length_in}
+use Rattle.wgsl_layout.specs.Located.{shape_ty}
+use Rattle.wgsl_layout.proofs.lemmas.Tidy.{tidy}
 use Rattle.wgsl_layout.proofs.located.Located.size.Goals as goal
 
-pub open_len-requires : goal.open_len-requires
-open_len-requires c =
+pub unreachable-requires : goal.unreachable-requires
+unreachable-requires c =
     let l = c.args.self in
-    let t = type_view c.in-Whole.ty.now in
-    let there = rw c.in-Whole.is at c.requires in
-    let open_ended : has_fixed_layout t ≡ false = sym c.measures-measures.ensures.fixed ∙ c.if-measures.false in
-    let e = open-there l.count t (plan_view c.in-Whole.plan.now) l.start l.len there open_ended in
-    omega (arith, e, there.inside)
+    let t = shape_ty l.shape in
+    let too_long : 2 ^ 64 ≤ layout_len l.count t = c.in-None.ensures t c.extent.ensures in
+    let long : length_in (layout l.count t) ≡ layout_len l.count t = (tidy t l.count c.requires.laid).1 in
+    let inside = c.requires.inside in
+    omega (arith, too_long, long, inside)
 
-pub returns-then-measures : goal.returns-then-measures
-returns-then-measures c =
-    let t = type_view c.in-Whole.ty.now in
-    let fixed : has_fixed_layout t ≡ true = sym c.measures-measures.ensures.fixed ∙ c.if-measures.true in
-    rw c.in-Whole.is (c.unwrap_or.ensures ∙ ap (λ (o : Option ℕ). unwrap_or o 0) c.measures-measures.ensures.size ∙ fixed-size t c.args.self.count fixed)
-
-pub returns-else-measures : goal.returns-else-measures
-returns-else-measures c =
+pub returns : goal.returns
+returns c =
     let l = c.args.self in
-    let t = type_view c.in-Whole.ty.now in
-    let there = rw c.in-Whole.is at c.requires in
-    let open_ended : has_fixed_layout t ≡ false = sym c.measures-measures.ensures.fixed ∙ c.if-measures.false in
-    rw c.in-Whole.is (c.open_len.ensures ∙ open-there l.count t (plan_view c.in-Whole.plan.now) l.start l.len there open_ended)
+    let t = shape_ty l.shape in
+    c.in-Some.ensures t c.extent.ensures ∙ sym (tidy t l.count c.requires.laid).1

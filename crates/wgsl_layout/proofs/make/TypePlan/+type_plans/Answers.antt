@@ -1,12 +1,8 @@
 use Rattle.std.proofs.Common.{◌∙◌, ap, string_bytes}
-use Rattle.wgsl_rules.specs.Types.{Ty}
-use Rattle.wgsl_rules.specs.Layout.{tail_at}
 use Rattle.wgsl_rules.specs.View.{member_view}
 use Rattle.wgsl_rules.specs.declared.ty.StructType.{out-StructType}
 use Rattle.wgsl_rules.proofs.lemmas.Views.{struct_view-is}
-use Rattle.std.specs.Prelude.{option_map}
 use Rattle.wgsl_layout.specs.Plan.{plan_of}
-use Rattle.wgsl_layout.specs.TypePlan.{kept}
 use Rattle.wgsl_layout.proofs.Making.{of-member, with-member, offset-made, type-is, step, past, all-made}
 use Rattle.wgsl_layout.proofs.make.TypePlan.+type_plans.Goals as goal
 
@@ -23,14 +19,13 @@ of_members-loop-member-preserved t c =
     let is = of-member m c.in_ok-part.part.measures measures own.measures c.of_member-measures.ensures in
     let with = with-member (member_view m) l.so_far c.with-so_far.result measures is c.with-so_far.ensures.end c.with-so_far.ensures.align c.with-so_far.ensures.fixed c.with-so_far.ensures.runtime in
     let at = offset-made (member_view m) l.so_far.end measures c.offset_of.result c.unwrap_or-offset.result is c.offset_of.ensures c.unwrap_or-offset.ensures in
-    let tailed = c.tail_at-tail.ensures ∙ ap (λ (u : Ty). option_map kept (tail_at c.unwrap_or-offset.result u)) (type-is m) in
     rw c.in_ok-push.ensures.items
-    (step c.args.members.now l.member-index m l.places.items _ l.tail c.tail_at-tail.result l.so_far c.with-so_far.result c.loop-member-test.true c.member-item.is with
-    at (own.plan ∙ ap plan_of (type-is m)) tailed l.invariant)
+    (step c.args.members.now l.member-index m l.places.items _ l.so_far c.with-so_far.result c.loop-member-test.true c.member-item.is with
+    at (own.plan ∙ ap plan_of (type-is m)) l.invariant)
 
 pub of_members-returns : goal.of_members-returns
 of_members-returns t c name =
     let l = c.loop-member in
-    let all = past c.args.members.now l.member-index l.places.items l.tail l.so_far c.loop-member-test.false l.invariant in
-    let m = c.of_struct.ensures in
-    all-made name c.args.members.now l.places l.tail l.so_far c.of_struct.result c.have_layout.result all m.size m.align m.fixed m.runtime c.have_layout.ensures
+    let all = past c.args.members.now l.member-index l.places.items l.so_far c.loop-member-test.false l.invariant in
+    let m = c.of_struct-measures.ensures in
+    all-made name c.args.members.now l.places l.so_far c.of_struct-measures.result c.have_layout.result c.fixed_size.result all m.size m.align m.fixed m.runtime c.have_layout.ensures c.fixed_size.ensures
