@@ -208,7 +208,6 @@ impl FlatCell {
     /// The bytes of the part that the view leads to, lent: from its first byte to behind its last, with the padding
     /// inside it, as many as [`crate::Buffers::to_buffer`] makes of the value of the part: the tail padding of a
     /// structure is among them, and none behind a vector of three components. The condition: the view leads to a part.
-    /// It calls itself for each level of the type: keep to 4,095 within a stack of 8 MiB.
     pub fn bytes_at(&self, view: &MemView) -> &[u8]
         requires { IsOk (viewed (steps_of view.now) self.now) }
         ensures bytes { IsOkAnd (viewed (steps_of view.now) self.now) (λ x. result.now ≡ buffer x) }
@@ -223,7 +222,6 @@ impl FlatCell {
     /// The bytes of the cell from the first of the part on that the view leads to, lent: they begin with those that
     /// [`FlatCell::bytes_at`] lends and go on to the last of the cell, and the length of the part is not found. The
     /// condition: the view leads to a part.
-    /// It calls itself for each step of the view: keep to 4,095 within a stack of 8 MiB.
     pub fn bytes_from(&self, view: &MemView) -> &[u8]
         requires { IsOk (viewed (steps_of view.now) self.now) }
         ensures bytes { IsOkAnd (viewed (steps_of view.now) self.now) (λ x. take (length (buffer x)) result.now ≡ buffer x) }
@@ -363,7 +361,6 @@ impl FlatCell {
     /// Puts the number into the atomic that the view leads to, and changes nothing else (WGSL: atomic types). It takes
     /// no memory. The conditions: the view leads to an atomic of numbers of the kind, and an atomic of the number may
     /// be stored: of an `i32` or a `u32`.
-    /// It calls itself for each step of the view: keep to 4,095 within a stack of 8 MiB.
     pub fn put_atomic_number(&mut self, view: &MemView, number: LiteralInstance)
         requires there { IsOkAnd (viewed (steps_of view.now) self.old) (IsAtomicOf (type_of (literal_of number))) }
         requires storable { IsStorable (atomic_of (literal_of number)) }
@@ -376,7 +373,6 @@ impl FlatCell {
     /// Puts the number in the place of that of the scalar or the atomic which begins `at` bytes behind the first of the
     /// part that the view leads to, 0 of the part itself, and changes nothing else. It takes no memory. The condition:
     /// the view leads to a part, in which one of numbers of the kind begins there.
-    /// It calls itself for each step of the view: keep to 4,095 within a stack of 8 MiB.
     pub fn put_number(&mut self, view: &MemView, at: usize, number: LiteralInstance)
         requires { IsOkAnd (viewed (steps_of view.now) self.old) (λ x. HasNumberAt x at (literal_of number)) }
         ensures put { (path : List ℕ) → IsOkAnd (viewed (steps_of view.now) self.old) (λ x. IsNumberAt x path at (literal_of number) → self.new ≡ put_viewed (steps_of view.now) (number_put path (literal_of number) x) self.old) }
@@ -497,7 +493,6 @@ impl<'a> FlatPart<'a> {
 
     /// The part that the view leads to from this one on, by [`FlatPart::member`] and [`FlatPart::index`] for its steps,
     /// the outermost first; this part itself where it has none. `None` where a step leads nowhere.
-    /// It calls itself for each level of the type: keep to 4,095 within a stack of 8 MiB.
     pub fn viewed(self, view: &MemView) -> Option<FlatPart<'a>>
         requires { IsFlatPart self }
         ensures value { option_map part_value result ≡ result_ok (viewed (steps_of view.now) (part_value self.entry)) }

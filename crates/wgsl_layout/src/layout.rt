@@ -171,7 +171,6 @@ impl Layout {
 
     /// The bytes of the part that the view leads to, in so many bytes: from its first byte to behind its last, with
     /// the padding inside it. Refusals in order: `TooFewBytes`, `NoPart`. No memory is taken.
-    /// It calls itself for each level of the type: keep to 4,095 within a stack of 8 MiB.
     pub fn range(&self, len: usize, view: &MemView) -> Result<Range<usize>, LayoutRefusal>
         ensures range { answer_map (λ r. (r.start, r.end)) result ≡ answer_map span_of (part_in len (steps_of view.now) self.now) }
         ensures inside { IfOk result (λ r. (r.start ≤ r.end) × (r.end ≤ len)) }
