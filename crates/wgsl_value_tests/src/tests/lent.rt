@@ -15,10 +15,10 @@ ghost use Rattle.wgsl_values.specs.View.{
   vec_view,
 };
 
-use crate::tests::asserts::assert_is;
-use crate::tests::fixtures::{light, to_component, to_member, vector_of};
-use crate::tests::samples::storable;
+use crate::tests::asserts::{assert_is, assert_text};
+use crate::tests::samples::{light, storable, to_component, to_member, vector_of};
 use std::alloc::Global;
+use std::mem;
 use std::process::Abort;
 use wgsl_rules::{Ty, Type};
 use wgsl_scalar::Error;
@@ -34,9 +34,8 @@ fn set_component(v: &mut VecInstance, i: usize)
     ensures well_formed { IsWellFormed (vec_view v.new) }
     ensures ty { type_of (vec_view v.new) ≡ types.vec 3 types.u32 }
 {
-    let nine = Instance::from(9u32);
     if let Some(place) = v.get_mut(i) {
-        *place = nine;
+        drop(mem::replace(place, Instance::from(9u32)));
     }
 }
 
@@ -47,9 +46,8 @@ fn set_element(a: &mut ArrayInstance, i: usize)
     ensures well_formed { IsWellFormed (array_view a.new) }
     ensures ty { type_of (array_view a.new) ≡ types.array types.u32 (Some 2) }
 {
-    let nine = Instance::from(9u32);
     if let Some(place) = a.get_mut(i) {
-        *place = nine;
+        drop(mem::replace(place, Instance::from(9u32)));
     }
 }
 
@@ -61,10 +59,9 @@ fn set_member(s: &mut StructInstance, name: &str)
     ensures storable { IsStorable (struct_view s.new) }
     ensures ty { type_of (struct_view s.new) ≡ type_of (struct_view s.old) }
 {
-    let nine = Instance::from(9u32);
     if let Some(place) = s.member_mut(name) {
         if place.has_ty(&Type::U32) {
-            *place = nine;
+            drop(mem::replace(place, Instance::from(9u32)));
         }
     }
 }
@@ -78,8 +75,9 @@ fn set_column(m: &mut MatInstance, i: usize, column: Instance)
     ensures well_formed { IsWellFormed (mat_view m.new) }
     ensures ty { type_of (mat_view m.new) ≡ types.mat 2 3 types.u32 }
 {
-    if let Some(place) = m.col_mut(i) {
-        *place = column;
+    match m.col_mut(i) {
+        Some(place) => drop(mem::replace(place, column)),
+        None => drop(column),
     }
 }
 
@@ -90,9 +88,8 @@ fn set_in_column(m: &mut MatInstance, column: usize, row: usize)
     ensures well_formed { IsWellFormed (mat_view m.new) }
     ensures ty { type_of (mat_view m.new) ≡ types.mat 2 3 types.u32 }
 {
-    let nine = Instance::from(9u32);
     if let Some(place) = m.get_mut(column, row) {
-        *place = nine;
+        drop(mem::replace(place, Instance::from(9u32)));
     }
 }
 
@@ -103,8 +100,7 @@ fn set_inner(a: &mut AtomicInstance)
     ensures well_formed { IsWellFormed (atomic_view a.new) }
     ensures ty { type_of (atomic_view a.new) ≡ types.atomic types.u32 }
 {
-    let nine = Instance::from(9u32);
-    *a.inner_mut() = nine;
+    drop(mem::replace(a.inner_mut(), Instance::from(9u32)));
 }
 
 /// Writes 9 in the place of the number that the view leads to.
@@ -114,7 +110,8 @@ fn set_viewed(alloc: Global, whole: &mut Instance, view: &MemView) -> Result<(),
     ensures well_formed { IsWellFormed (value_of whole.new) }
     ensures ty { type_of (value_of whole.new) ≡ type_of (value_of whole.old) }
 {
-    *whole.view_mut(alloc, view)? = Instance::from(9u32);
+    let mut part = whole.view_mut(alloc, view)?;
+    drop(mem::replace(&mut *part, Instance::from(9u32)));
     Ok(())
 }
 
@@ -129,7 +126,7 @@ fn set_number(alloc: Global, whole: &mut Instance, view: &MemView) -> Result<(),
     if !part.has_ty(&Type::U32) {
         return Ok(());
     }
-    *part = Instance::from(9u32);
+    drop(mem::replace(&mut *part, Instance::from(9u32)));
     Ok(())
 }
 
@@ -156,11 +153,12 @@ fn a_component_that_was_lent_is_replaced(rt: HostRuntime) {
 fn what_a_view_leads_to_is_replaced_where_it_is_a_number(rt: HostRuntime) {
     let alloc = rt.alloc();
     let mut value = storable(&rt, light(&rt, alloc));
-    set_number(alloc, &mut value, &to_member(&rt, alloc)).expect(&rt, "memory");
+    let (member, component) = (to_member(&rt, alloc), to_component(&rt, alloc));
+    set_number(alloc, &mut value, &member).expect(&rt, "memory");
     assert_is(&rt, &value, light(&rt, alloc));
-    set_number(alloc, &mut value, &to_component(&rt, alloc)).expect(&rt, "memory");
+    set_number(alloc, &mut value, &component).expect(&rt, "memory");
     let text =
         "Light(mat2x3(vec3(1u, 2u, 3u), vec3(4u, 5u, 9u)), array(Pair(1u, vec3(2u, 3u, 4u))))";
-    assert_eq!(rt; value.to_string(alloc).expect(&rt, "memory").as_str(), text);
-    drop(value);
+    assert_text(&rt, alloc, &value, text);
+    drop((value, member, component));
 }

@@ -1,25 +1,23 @@
 //! The parts of values: each lent, each lent to be written, each in its turn.
 
-use crate::tests::asserts::{assert_gives, assert_has, assert_is, assert_same};
-use crate::tests::fixtures::{
-    array_of, atomic_from, mat2x3, mat3x2, member_then_index, numbers, pair_value, reference_of,
-    twins, vector_of,
+use crate::tests::asserts::{assert_gives, assert_has, assert_is, assert_same, assert_text};
+use crate::tests::samples::{
+    array_of, atomic_of, mat2x3, mat3x2, member_then_index, numbers, pair_type, pair_value,
+    reference_of, twins, vector_of,
 };
 use std::mem;
+use std::process::Abort;
 use wgsl_rules::{AccessMode, AddressSpace, Type};
-use wgsl_samples::types::pair_type;
+use wgsl_scalar::LiteralInstance::I32;
 use wgsl_values::{Instance, PtrInstance, RefInstance};
 
 #[test]
 fn members_of_a_structure(rt: HostRuntime) {
     let alloc = rt.alloc();
     let pair = pair_value(&rt, alloc);
-    assert_is(
-        &rt,
-        pair.struct_ty(),
-        pair_type(alloc).expect(&rt, "memory"),
-    );
-    assert_eq!(rt; pair.members().len(), 2);
+    let own = pair_type(&rt, alloc);
+    assert_is(&rt, pair.struct_ty(), own);
+    assert_same(&rt, pair.members().len(), 2);
     assert_has(&rt, pair.members().first(), Instance::from(1u32));
     assert_has(&rt, pair.member("a"), Instance::from(1u32));
     let b = Instance::from(vector_of(&rt, alloc, &[2, 3, 4]));
@@ -29,23 +27,29 @@ fn members_of_a_structure(rt: HostRuntime) {
     drop((pair, b));
 }
 
+/// Asserts that the parts are the wanted ones.
+fn assert_parts(rt: &impl Abort, parts: &[Instance], wanted: Vec<Instance>) {
+    assert_same(rt, parts, wanted.as_slice());
+    drop(wanted);
+}
+
 #[test]
 fn parts_of_a_value(rt: HostRuntime) {
     let alloc = rt.alloc();
     let pair = Instance::from(pair_value(&rt, alloc));
-    assert_eq!(rt; pair.parts().len(), 2);
+    assert_same(&rt, pair.parts().len(), 2);
     assert_has(&rt, pair.parts().first(), Instance::from(1u32));
     let array = Instance::from(array_of(&rt, alloc, &[1, 2, 3], false));
-    assert_eq!(rt; array.parts(), numbers(&rt, alloc, &[1, 2, 3]).as_slice());
+    assert_parts(&rt, array.parts(), numbers(&rt, alloc, &[1, 2, 3]));
     let vector = Instance::from(vector_of(&rt, alloc, &[1, 2]));
-    assert_eq!(rt; vector.parts(), numbers(&rt, alloc, &[1, 2]).as_slice());
+    assert_parts(&rt, vector.parts(), numbers(&rt, alloc, &[1, 2]));
     let matrix = Instance::from(mat2x3(&rt, alloc));
     let second = Instance::from(vector_of(&rt, alloc, &[4, 5, 6]));
-    assert_eq!(rt; matrix.parts().len(), 2);
+    assert_same(&rt, matrix.parts().len(), 2);
     assert_same(&rt, matrix.parts().get(1), Some(&second));
-    assert!(rt; Instance::from(1u32).parts().is_empty());
-    drop((pair, array));
-    drop((vector, matrix, second));
+    let one = Instance::from(1u32);
+    assert!(rt; one.parts().is_empty());
+    drop((pair, array, vector, matrix, second, one));
 }
 
 #[test]
@@ -69,13 +73,10 @@ fn elements_of_an_array(rt: HostRuntime) {
     let one = array_of(&rt, alloc, &[1], true);
     assert!(rt; one.runtime_sized());
     drop(one);
-    assert_eq!(rt; array.n(), 3);
-    assert_eq!(rt;
-        array.as_slice(),
-        numbers(&rt, alloc, &[1, 2, 3]).as_slice()
-    );
+    assert_same(&rt, array.n(), 3);
+    assert_parts(&rt, array.as_slice(), numbers(&rt, alloc, &[1, 2, 3]));
     assert_has(&rt, array.get(2), Instance::from(3u32));
-    assert_same(&rt, array.get(3), None);
+    assert!(rt; array.get(3).is_none());
     assert!(rt; array.get_mut(3).is_none());
     if let Some(second) = array.get_mut(1) {
         drop(mem::replace(second, Instance::from(9u32)));
@@ -98,14 +99,11 @@ fn elements_of_an_array(rt: HostRuntime) {
 fn components_of_a_vector(rt: HostRuntime) {
     let alloc = rt.alloc();
     let mut components = vector_of(&rt, alloc, &[1, 2]);
-    assert_eq!(rt; components.n(), 2);
+    assert_same(&rt, components.n(), 2);
     assert_is(&rt, &components[0], Instance::from(1u32));
-    assert_eq!(rt;
-        components.as_slice(),
-        numbers(&rt, alloc, &[1, 2]).as_slice()
-    );
+    assert_parts(&rt, components.as_slice(), numbers(&rt, alloc, &[1, 2]));
     assert_has(&rt, components.get(1), Instance::from(2u32));
-    assert_same(&rt, components.get(2), None);
+    assert!(rt; components.get(2).is_none());
     assert!(rt; components.get_mut(2).is_none());
     if let Some(second) = components.get_mut(1) {
         drop(mem::replace(second, Instance::from(9u32)));
@@ -119,14 +117,14 @@ fn components_of_a_vector(rt: HostRuntime) {
     assert_same(&rt, items.next(), Some(Instance::from(1u32)));
     assert_same(&rt, items.next(), Some(Instance::from(9u32)));
     assert_same(&rt, items.next(), None);
+    drop(items);
 }
 
 #[test]
 fn columns_of_a_matrix(rt: HostRuntime) {
     let alloc = rt.alloc();
     let matrix = mat2x3(&rt, alloc);
-    assert_eq!(rt; matrix.c(), 2);
-    assert_eq!(rt; matrix.r(), 3);
+    assert_same(&rt, (matrix.c(), matrix.r()), (2, 3));
     let first = Instance::from(vector_of(&rt, alloc, &[1, 2, 3]));
     let second = Instance::from(vector_of(&rt, alloc, &[4, 5, 6]));
     assert_same(&rt, matrix.col(0), Some(&first));
@@ -171,17 +169,11 @@ fn writes_to_parts_of_a_matrix(rt: HostRuntime) {
         drop(mem::replace(column, Instance::from(vector_of(&rt, alloc, &[8, 9]))));
     }
     let text = "mat3x2(vec2(1u, 7u), vec2(2u, 5u), vec2(8u, 9u))";
-    assert_eq!(rt;
-        matrix.to_string(alloc).expect(&rt, "memory").as_str(),
-        text
-    );
+    assert_text(&rt, alloc, &matrix, text);
     assert!(rt; matrix.get_mut(3, 0).is_none());
     assert!(rt; matrix.get_mut(0, 2).is_none());
     assert!(rt; matrix.col_mut(3).is_none());
-    assert_eq!(rt;
-        matrix.to_string(alloc).expect(&rt, "memory").as_str(),
-        text
-    );
+    assert_text(&rt, alloc, &matrix, text);
     drop(matrix);
 }
 
@@ -190,10 +182,8 @@ fn a_transposed_matrix_has_the_rows_for_columns(rt: HostRuntime) {
     let alloc = rt.alloc();
     let matrix = mat2x3(&rt, alloc);
     let transposed = matrix.transpose(alloc).expect(&rt, "memory");
-    assert_eq!(rt;
-        transposed.to_string(alloc).expect(&rt, "memory").as_str(),
-        "mat3x2(vec2(1u, 4u), vec2(2u, 5u), vec2(3u, 6u))"
-    );
+    let text = "mat3x2(vec2(1u, 4u), vec2(2u, 5u), vec2(3u, 6u))";
+    assert_text(&rt, alloc, &transposed, text);
     let wanted = mat3x2(&rt, alloc);
     assert_gives(&rt, wanted.transpose(alloc), matrix);
     assert_same(&rt, transposed, wanted);
@@ -201,7 +191,7 @@ fn a_transposed_matrix_has_the_rows_for_columns(rt: HostRuntime) {
 
 #[test]
 fn what_an_atomic_holds(rt: HostRuntime) {
-    let mut atomic = atomic_from(&rt, rt.alloc(), Instance::from(5i32));
+    let mut atomic = atomic_of(&rt, rt.alloc(), I32(5));
     assert_is(&rt, atomic.inner(), Instance::from(5i32));
     drop(mem::replace(atomic.inner_mut(), Instance::from(-6i32)));
     assert_is(&rt, atomic.inner(), Instance::from(-6i32));
@@ -212,12 +202,12 @@ fn what_an_atomic_holds(rt: HostRuntime) {
 fn what_references_and_pointers_name(rt: HostRuntime) {
     let alloc = rt.alloc();
     let reference = reference_of(&rt, alloc);
-    assert_eq!(rt; reference.cell(), 7);
+    assert_same(&rt, reference.cell(), 7);
     assert_is(&rt, reference.view(), member_then_index(&rt, alloc));
-    assert_eq!(rt; reference.target_ty(), &Type::U32);
-    assert_eq!(rt; reference.space(), AddressSpace::Storage);
-    assert_eq!(rt; reference.access(), AccessMode::ReadWrite);
+    assert_is(&rt, reference.target_ty(), Type::U32);
+    assert_same(&rt, reference.space(), AddressSpace::Storage);
+    assert_same(&rt, reference.access(), AccessMode::ReadWrite);
     let pointer = PtrInstance::from(reference_of(&rt, alloc));
-    assert_eq!(rt; pointer.ptr(), &reference);
+    assert_same(&rt, pointer.ptr(), &reference);
     assert_same(&rt, RefInstance::from(pointer), reference);
 }

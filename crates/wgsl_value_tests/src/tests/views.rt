@@ -3,12 +3,11 @@
 ghost use Rattle.wgsl_rules.specs.Values.{IsWellFormed};
 ghost use Rattle.wgsl_values.specs.View.{value_of};
 
-use crate::tests::asserts::{assert_is, assert_is_not, assert_same};
-use crate::tests::fixtures::{
-    array, array_of, integers, light, matrix, member_then_index, pair, pair_value, to_component,
-    to_member, vector, vector_of,
+use crate::tests::asserts::{assert_is, assert_is_not, assert_same, assert_text};
+use crate::tests::samples::{
+    array, array_of, integers, light, matrix, member_then_index, named, pair, pair_value, storable,
+    text, to_component, to_member, vector, vector_from, vector_of,
 };
-use crate::tests::samples::{self, storable, vector_from};
 use std::alloc::Global;
 use std::mem;
 use std::process::Abort;
@@ -24,50 +23,42 @@ fn index(rt: &impl Abort, alloc: Global, i: usize) -> MemView {
     MemView::Index(i, Box::new(alloc, MemView::Whole).expect(rt, "memory"))
 }
 
-/// The view by one step, to the member of the name.
-fn named(rt: &impl Abort, alloc: Global, name: &str) -> MemView {
-    samples::named(alloc, name).expect(rt, "memory")
-}
-
 #[test]
 fn steps_are_put_behind_the_others(rt: HostRuntime) {
     let alloc = rt.alloc();
     let mut view = MemView::Whole;
-    view.append_member(alloc, format!(in alloc; "m").expect(&rt, "memory"))
+    view.append_member(alloc, text(&rt, alloc, "m"))
         .expect(&rt, "memory");
     view.append_index(alloc, 2).expect(&rt, "memory");
     assert_is(&rt, &view, member_then_index(&rt, alloc));
     assert_is(&rt, &view, view.clone(alloc).expect(&rt, "memory"));
     assert_is_not(&rt, &view, to_component(&rt, alloc));
-    assert_ne!(rt; named(&rt, alloc, "2"), index(&rt, alloc, 2));
-    assert_eq!(rt;
-        to_member(&rt, alloc)
-            .to_string(alloc)
-            .expect(&rt, "memory")
-            .as_str(),
-        ":pairs:0:b"
-    );
-    drop(view);
+    let member = named(&rt, alloc, "2");
+    assert_is_not(&rt, &member, index(&rt, alloc, 2));
+    let longer = to_member(&rt, alloc);
+    assert_text(&rt, alloc, &longer, ":pairs:0:b");
+    drop((view, member, longer));
+}
+
+/// Asserts that the view leads to the part.
+fn assert_leads(rt: &impl Abort, alloc: Global, value: &Instance, view: MemView, part: Instance)
+    requires { IsWellFormed (value_of value.now) }
+{
+    let found = value.view(alloc, &view).ok();
+    assert!(rt; found == Some(&part), "{view}");
+    drop((view, part));
 }
 
 #[test]
 fn a_view_leads_to_a_part(rt: HostRuntime) {
     let alloc = rt.alloc();
     let value = storable(&rt, light(&rt, alloc));
-    assert_is(
-        &rt,
-        value.view(alloc, &MemView::Whole).expect(&rt, "memory"),
-        light(&rt, alloc),
-    );
-    let component = value
-        .view(alloc, &to_component(&rt, alloc))
-        .expect(&rt, "memory");
-    assert_is(&rt, component, Instance::from(6u32));
-    let b = value
-        .view(alloc, &to_member(&rt, alloc))
-        .expect(&rt, "memory");
-    assert_is(&rt, b, Instance::from(vector_of(&rt, alloc, &[2, 3, 4])));
-    drop((component, b));
+    assert_leads(&rt, alloc, &value, MemView::Whole, light(&rt, alloc));
+    let view = to_component(&rt, alloc);
+    assert_leads(&rt, alloc, &value, view, Instance::from(6u32));
+    let b = Instance::from(vector_of(&rt, alloc, &[2, 3, 4]));
+    assert_leads(&rt, alloc, &value, to_member(&rt, alloc), b);
+    drop(value);
 }
 
 /// Why what the view leads to can't be written; `None` where it can.
@@ -88,16 +79,15 @@ fn assert_refused(rt: &impl Abort, alloc: Global, value: Instance, view: MemView
     let mut whole = value.clone(alloc).expect(rt, "memory");
     assert!(rt; whole.is_well_formed());
     let refusal = value.view(alloc, &view).err();
-    assert_eq!(rt; refusal.as_ref(), Some(&error), "{view}");
+    assert!(rt; refusal.as_ref() == Some(&error), "{view}");
     let write_refusal = refusal_to_write(alloc, &mut whole, &view);
-    assert_eq!(rt; write_refusal.as_ref(), Some(&error), "{view}");
-    assert_eq!(rt; whole, value);
-    drop((refusal, write_refusal, whole));
-    drop((value, view, error));
+    assert!(rt; write_refusal.as_ref() == Some(&error), "{view}");
+    assert!(rt; whole == value, "{view}");
+    drop((refusal, write_refusal, whole, value, view, error));
 }
 
 fn component(rt: &impl Abort, alloc: Global, ty: Type, name: &str) -> Error {
-    Error::Component(ty, format!(in alloc; "{name}").expect(rt, "memory"))
+    Error::Component(ty, text(rt, alloc, name))
 }
 
 #[test]
@@ -127,7 +117,7 @@ fn steps_into_a_structure_are_refused(rt: HostRuntime) {
     let error = component(&rt, alloc, pair(&rt, alloc), "c");
     assert_refused(&rt, alloc, pair_of, named(&rt, alloc, "c"), error);
     let mut view = to_member(&rt, alloc);
-    view.append_member(alloc, format!(in alloc; "x").expect(&rt, "memory"))
+    view.append_member(alloc, text(&rt, alloc, "x"))
         .expect(&rt, "memory");
     let error = component(&rt, alloc, vector(&rt, alloc, 3, Type::U32), "x");
     let whole = storable(&rt, light(&rt, alloc));
@@ -164,35 +154,29 @@ fn a_part_is_written_through_a_view(rt: HostRuntime) {
     drop(component);
     let text =
         "Light(mat2x3(vec3(1u, 2u, 3u), vec3(4u, 5u, 9u)), array(Pair(1u, vec3(2u, 3u, 4u))))";
-    assert_eq!(rt; value.to_string(alloc).expect(&rt, "memory").as_str(), text);
-    drop(value);
+    assert_text(&rt, alloc, &value, text);
+    drop((value, view));
 }
 
 #[test]
 fn a_part_is_put_into_its_place(rt: HostRuntime) {
     let alloc = rt.alloc();
     let mut value = light(&rt, alloc);
+    let (member, first) = (to_member(&rt, alloc), index(&rt, alloc, 0));
     let b = Instance::from(vector_of(&rt, alloc, &[7, 8, 9]));
-    let old = value.put(&to_member(&rt, alloc), b);
-    assert_same(
-        &rt,
-        old,
-        Some(Instance::from(vector_of(&rt, alloc, &[2, 3, 4]))),
-    );
+    let wanted = Instance::from(vector_of(&rt, alloc, &[2, 3, 4]));
+    assert_same(&rt, value.put(&member, b), Some(wanted));
     let text =
         "Light(mat2x3(vec3(1u, 2u, 3u), vec3(4u, 5u, 6u)), array(Pair(1u, vec3(7u, 8u, 9u))))";
-    assert_eq!(rt; value.to_string(alloc).expect(&rt, "memory").as_str(), text);
-    assert_same(
-        &rt,
-        value.put(&index(&rt, alloc, 0), Instance::from(1u32)),
-        None,
-    );
-    assert_eq!(rt; value.to_string(alloc).expect(&rt, "memory").as_str(), text);
-    Instance::from(5u32).place(&mut value, &to_component(&rt, alloc));
+    assert_text(&rt, alloc, &value, text);
+    assert_same(&rt, value.put(&first, Instance::from(1u32)), None);
+    assert_text(&rt, alloc, &value, text);
+    let component = to_component(&rt, alloc);
+    Instance::from(5u32).place(&mut value, &component);
     let text =
         "Light(mat2x3(vec3(1u, 2u, 3u), vec3(4u, 5u, 5u)), array(Pair(1u, vec3(7u, 8u, 9u))))";
-    assert_eq!(rt; value.to_string(alloc).expect(&rt, "memory").as_str(), text);
-    drop(value);
+    assert_text(&rt, alloc, &value, text);
+    drop((value, member, first, component));
 }
 
 #[test]
@@ -255,8 +239,8 @@ fn a_view_has_any_number_of_steps(rt: HostRuntime) {
     copy.append_index(alloc, 7).expect(&rt, "memory");
     assert!(rt; copy != view);
     let text = copy.to_string(alloc).expect(&rt, "memory");
-    assert_eq!(rt; text.len(), 200_002);
+    assert!(rt; text.len() == 200_002);
     assert!(rt; text.as_str().starts_with(":9:8:7"));
     assert!(rt; text.as_str().ends_with(":1:0:7"));
-    drop((view, copy));
+    drop((view, copy, text));
 }

@@ -1,45 +1,46 @@
 //! Making, copies, types and texts of values.
 
-use crate::tests::asserts::{assert_is, assert_same};
+ghost use Rattle.wgsl_rules.specs.Values.{IsStorable, IsWellFormed};
+ghost use Rattle.wgsl_values.specs.View.{value_of};
+
+use crate::tests::asserts::{assert_is, assert_same, assert_told};
 use crate::tests::samples::{
-    array_of, atomic_from, mat2x3, mat3x2, one_of_each_kind, pair_value, storable, vector_of,
+    KINDS, array, array_of, atomic_of, mat2x3, mat3x2, of_kind, pair_type, pair_value,
+    reference_of, storable, text, vector_of,
 };
 use std::alloc::{AllocError, Global};
 use std::process::Abort;
 use wgsl_rules::{Ty, Type};
-use wgsl_samples::types::{array, pair_type};
-use wgsl_samples::values::reference_of;
 use wgsl_scalar::Error;
-use wgsl_scalar::LiteralInstance::U32;
-use wgsl_values::{Instance, PtrInstance, SharedStructType, VecInstance};
+use wgsl_scalar::LiteralInstance::{I32, U32};
+use wgsl_values::{AtomicInstance, Instance, PtrInstance, SharedStructType, VecInstance};
 
 #[test]
 fn vectors_of_literals_want_memory_or_are_made(rt: HostRuntime) {
     let alloc = rt.alloc();
-    let wanted = answer_of!(&rt; vector_of(&rt, alloc, &[1, 2]));
-    assert_same(
-        &rt,
-        answer_of!(&rt; VecInstance::from2(alloc, [U32(1), U32(2)])),
-        wanted,
-    );
-    let wanted = answer_of!(&rt; vector_of(&rt, alloc, &[1, 2, 3]));
-    assert_same(
-        &rt,
-        answer_of!(&rt; VecInstance::from3(alloc, [U32(1), U32(2), U32(3)])),
-        wanted,
-    );
-    let wanted = answer_of!(&rt; vector_of(&rt, alloc, &[1, 2, 3, 4]));
-    assert_same(
-        &rt,
-        answer_of!(&rt; VecInstance::from4(alloc, [U32(1), U32(2), U32(3), U32(4)])),
-        wanted,
-    );
+    let wanted = vector_of(&rt, alloc, &[1, 2]);
+    let found = answer_of!(&rt; VecInstance::from2(alloc, [U32(1), U32(2)]));
+    assert_same(&rt, found, wanted);
+    let wanted = vector_of(&rt, alloc, &[1, 2, 3]);
+    let found = answer_of!(&rt; VecInstance::from3(alloc, [U32(1), U32(2), U32(3)]));
+    assert_same(&rt, found, wanted);
+    let wanted = vector_of(&rt, alloc, &[1, 2, 3, 4]);
+    let four = [U32(1), U32(2), U32(3), U32(4)];
+    let found = answer_of!(&rt; VecInstance::from4(alloc, four));
+    assert_same(&rt, found, wanted);
+}
+
+/// atomic<i32>(5i)
+fn atomic_five(rt: &impl Abort, alloc: Global) -> Result<AtomicInstance, AllocError> {
+    let content = Instance::from(5i32);
+    assert!(rt; AtomicInstance::can_make(&content));
+    AtomicInstance::new(alloc, content)
 }
 
 #[test]
 fn an_atomic_wants_memory_or_is_made(rt: HostRuntime) {
     let alloc = rt.alloc();
-    let atomic = answer_of!(&rt; atomic_from(&rt, alloc, Instance::from(5i32)));
+    let atomic = answer_of!(&rt; atomic_five(&rt, alloc));
     assert_is(&rt, atomic.inner(), Instance::from(5i32));
     drop(atomic);
 }
@@ -47,45 +48,50 @@ fn an_atomic_wants_memory_or_is_made(rt: HostRuntime) {
 #[test]
 fn a_transposed_matrix_wants_memory_or_is_made(rt: HostRuntime) {
     let alloc = rt.alloc();
-    let matrix = answer_of!(&rt; mat2x3(&rt, alloc));
-    let wanted = answer_of!(&rt; mat3x2(&rt, alloc));
-    assert_is(&rt, &wanted, answer_of!(&rt; matrix.transpose(alloc)));
-    drop((matrix, wanted));
+    let matrix = mat2x3(&rt, alloc);
+    let wanted = mat3x2(&rt, alloc);
+    let found = answer_of!(&rt; matrix.transpose(alloc));
+    assert_same(&rt, found, wanted);
+    drop(matrix);
 }
 
 #[test]
 fn a_copy_of_a_value_wants_memory_or_is_equal(rt: HostRuntime) {
     let alloc = rt.alloc();
-    let values = answer_of!(&rt; one_of_each_kind(&rt, alloc));
-    for value in &values {
-        assert_is(&rt, value, answer_of!(&rt; value.clone(alloc)));
+    for kind in 0..KINDS {
+        let value = of_kind(&rt, alloc, kind);
+        let copy = answer_of!(&rt; value.clone(alloc));
+        assert_same(&rt, copy, value);
     }
 }
 
 #[test]
 fn a_copy_of_a_composite_wants_memory_or_is_equal(rt: HostRuntime) {
     let alloc = rt.alloc();
-    let pair = answer_of!(&rt; pair_value(&rt, alloc));
-    assert_is(&rt, &pair, answer_of!(&rt; pair.clone(alloc)));
-    let elements = answer_of!(&rt; array_of(&rt, alloc, &[1, 2], true));
-    assert_is(&rt, &elements, answer_of!(&rt; elements.clone(alloc)));
-    let components = answer_of!(&rt; vector_of(&rt, alloc, &[1, 2, 3]));
-    assert_is(&rt, &components, answer_of!(&rt; components.clone(alloc)));
-    let matrix = answer_of!(&rt; mat2x3(&rt, alloc));
-    assert_is(&rt, &matrix, answer_of!(&rt; matrix.clone(alloc)));
-    drop((pair, elements, components, matrix));
+    let pair = pair_value(&rt, alloc);
+    let copy = answer_of!(&rt; pair.clone(alloc));
+    assert_same(&rt, copy, pair);
+    let elements = array_of(&rt, alloc, &[1, 2], true);
+    let copy = answer_of!(&rt; elements.clone(alloc));
+    assert_same(&rt, copy, elements);
+    let components = vector_of(&rt, alloc, &[1, 2, 3]);
+    let copy = answer_of!(&rt; components.clone(alloc));
+    assert_same(&rt, copy, components);
+    let matrix = mat2x3(&rt, alloc);
+    let copy = answer_of!(&rt; matrix.clone(alloc));
+    assert_same(&rt, copy, matrix);
 }
 
 /// The type of pairs, to be shared.
-fn shared_pair_type(alloc: Global) -> Result<SharedStructType, AllocError> {
-    SharedStructType::new(alloc, pair_type(alloc)?)
+fn shared_pair_type(rt: &impl Abort, alloc: Global) -> Result<SharedStructType, AllocError> {
+    SharedStructType::new(alloc, pair_type(rt, alloc))
 }
 
 #[test]
 fn a_structure_type_to_share_wants_memory_or_is_made(rt: HostRuntime) {
     let alloc = rt.alloc();
-    let pair = answer_of!(&rt; pair_value(&rt, alloc));
-    let shared = answer_of!(&rt; shared_pair_type(alloc));
+    let pair = pair_value(&rt, alloc);
+    let shared = answer_of!(&rt; shared_pair_type(&rt, alloc));
     assert!(rt; shared.is_type(pair.struct_ty()));
     let copy = answer_of!(&rt; pair.shared_ty().clone(alloc));
     assert!(rt; copy.is_type(shared.get()));
@@ -95,96 +101,103 @@ fn a_structure_type_to_share_wants_memory_or_is_made(rt: HostRuntime) {
 #[test]
 fn a_copy_of_an_atomic_or_a_reference_wants_memory_or_is_equal(rt: HostRuntime) {
     let alloc = rt.alloc();
-    let atomic = answer_of!(&rt; atomic_from(&rt, alloc, Instance::from(5i32)));
-    assert_is(&rt, &atomic, answer_of!(&rt; atomic.clone(alloc)));
-    let reference = answer_of!(&rt; reference_of(alloc));
-    assert_is(&rt, &reference, answer_of!(&rt; reference.clone(alloc)));
-    let pointer = PtrInstance::from(reference);
-    assert_is(&rt, &pointer, answer_of!(&rt; pointer.clone(alloc)));
-    drop((atomic, pointer));
+    let atomic = atomic_of(&rt, alloc, I32(5));
+    let copy = answer_of!(&rt; atomic.clone(alloc));
+    assert_same(&rt, copy, atomic);
+    let reference = reference_of(&rt, alloc);
+    let copy = answer_of!(&rt; reference.clone(alloc));
+    assert_same(&rt, copy, reference);
+    let pointer = PtrInstance::from(reference_of(&rt, alloc));
+    let copy = answer_of!(&rt; pointer.clone(alloc));
+    assert_same(&rt, copy, pointer);
 }
 
 #[test]
 fn the_type_of_a_value_wants_memory_or_is_told(rt: HostRuntime) {
     let alloc = rt.alloc();
-    let values = answer_of!(&rt; one_of_each_kind(&rt, alloc));
-    for value in &values {
+    for kind in 0..KINDS {
+        let value = of_kind(&rt, alloc, kind);
         assert!(rt; value.is_well_formed());
         let ty = answer_of!(&rt; value.ty(alloc));
         assert!(rt; value.has_ty(&ty), "{ty}");
-        assert_is(&rt, ty.inner(), answer_of!(&rt; value.inner_ty(alloc)));
-        drop(ty);
+        let inner = answer_of!(&rt; value.inner_ty(alloc));
+        assert_is(&rt, ty.inner(), inner);
+        drop((value, ty));
     }
 }
+
+/// The texts of the values of each kind.
+const TEXTS: &str = "\
+    7u
+    Pair(1u, vec3(2u, 3u, 4u))
+    array(1u, 2u, 3u)
+    vec3(1u, 2u, 3u)
+    mat2x3(vec3(1u, 2u, 3u), vec3(4u, 5u, 6u))
+    ptr<storage, u32, read_write>
+    ref<storage, u32, read_write>
+    atomic<u32>(5u)
+    __deferred<u32>";
 
 #[test]
 fn the_text_of_a_value_wants_memory_or_is_whole(rt: HostRuntime) {
     let alloc = rt.alloc();
-    let values = answer_of!(&rt; one_of_each_kind(&rt, alloc));
-    let texts = [
-        "7u",
-        "Pair(1u, vec3(2u, 3u, 4u))",
-        "array(1u, 2u, 3u)",
-        "vec3(1u, 2u, 3u)",
-        "mat2x3(vec3(1u, 2u, 3u), vec3(4u, 5u, 6u))",
-        "ptr<storage, u32, read_write>",
-        "ref<storage, u32, read_write>",
-        "atomic<u32>(5u)",
-        "__deferred<u32>",
-    ];
-    for (value, text) in values.iter().zip(texts) {
-        assert_eq!(rt; answer_of!(&rt; value.to_string(alloc)).as_str(), text);
+    for (kind, line) in TEXTS.lines().enumerate() {
+        let value = of_kind(&rt, alloc, kind);
+        let wanted = text(&rt, alloc, line.trim());
+        let found = answer_of!(&rt; value.to_string(alloc));
+        assert_same(&rt, found, wanted);
+        drop(value);
     }
 }
 
 /// array(4u, 5u)
-fn two_numbers(rt: &impl Abort, alloc: Global) -> Result<Instance, AllocError> {
-    Ok(Instance::from(array_of(rt, alloc, &[4, 5], false)?))
+fn two_numbers(rt: &impl Abort, alloc: Global) -> Instance
+    ensures well_formed { IsWellFormed (value_of result) }
+    ensures storable { IsStorable (value_of result) }
+{
+    storable(rt, Instance::from(array_of(rt, alloc, &[4, 5], false)))
 }
 
-/// An array of the type `array<u32, 3>`, two of the type `array<u32, 2>`, and why one of these
-/// doesn't go into the place of the first.
-fn arrays(rt: &impl Abort, alloc: Global) -> (Instance, Instance, Instance, Error) {
-    let own = answer_of!(rt; array_of(rt, alloc, &[1, 2, 3], false));
-    let first = answer_of!(rt; two_numbers(rt, alloc));
-    let second = answer_of!(rt; two_numbers(rt, alloc));
-    let two = answer_of!(rt; array(alloc, Type::U32, Some(2)));
-    let three = answer_of!(rt; array(alloc, Type::U32, Some(3)));
-    (
-        Instance::from(own),
-        first,
-        second,
-        Error::WriteRefType(two, three),
-    )
+/// array(1u, 2u, 3u)
+fn three_numbers(rt: &impl Abort, alloc: Global) -> Instance
+    ensures well_formed { IsWellFormed (value_of result) }
+    ensures storable { IsStorable (value_of result) }
+{
+    storable(rt, Instance::from(array_of(rt, alloc, &[1, 2, 3], false)))
+}
+
+/// Why an array of two doesn't go into the place of one of three.
+fn two_for_three(rt: &impl Abort, alloc: Global) -> Error {
+    let two = array(rt, alloc, Type::U32, Some(2));
+    Error::WriteRefType(two, array(rt, alloc, Type::U32, Some(3)))
+}
+
+/// What a write of an array of two is refused with.
+fn refusal(rt: &impl Abort, alloc: Global, value: &mut Instance) -> Option<Error>
+    requires { IsWellFormed (value_of value.old) }
+{
+    value.write(alloc, two_numbers(rt, alloc)).err()
 }
 
 #[test]
 fn a_refused_write_wants_memory_or_is_told_and_changes_nothing(rt: HostRuntime) {
     let alloc = rt.alloc();
-    let (value, first, second, error) = arrays(&rt, alloc);
-    let copy = answer_of!(&rt; value.clone(alloc));
-    let mut value = storable(&rt, value);
-    let first = storable(&rt, first);
-    let second = storable(&rt, second);
-    let refusal = match value.write(alloc, first).err() {
-        Some(Error::Memory) => {
-            assert_eq!(rt; value, copy);
-            value.write(alloc, second).err()
-        }
-        refusal => {
-            drop(second);
-            refusal
-        }
-    };
-    assert_same(&rt, refusal, Some(error));
+    let error = two_for_three(&rt, alloc);
+    let copy = three_numbers(&rt, alloc);
+    let mut value = three_numbers(&rt, alloc);
+    let first = refusal(&rt, alloc, &mut value);
+    assert!(rt; value == copy);
+    assert!(rt; value.is_well_formed());
+    let second = refusal(&rt, alloc, &mut value);
+    assert_told(&rt, first, second, error);
     assert_same(&rt, value, copy);
 }
 
 #[test]
 fn an_accepted_write_takes_no_memory(rt: HostRuntime) {
     let alloc = rt.alloc();
-    let mut value = storable(&rt, answer_of!(&rt; two_numbers(&rt, alloc)));
-    let next = storable(&rt, answer_of!(&rt; two_numbers(&rt, alloc)));
-    drop(value.write(alloc, next).expect(&rt, "accepted"));
-    drop(value);
+    let mut value = two_numbers(&rt, alloc);
+    let next = two_numbers(&rt, alloc);
+    let old = value.write(alloc, next).expect(&rt, "accepted");
+    drop((value, old));
 }
