@@ -22,7 +22,7 @@ ghost use Rattle.wgsl_rules.specs.Layout.{
   layout_len,
   size,
 };
-ghost use Rattle.wgsl_rules.specs.Types.{Ty, array};
+ghost use Rattle.wgsl_rules.specs.Types.{Ty, array, vec};
 ghost use Rattle.wgsl_rules.specs.View.{struct_view, type_view};
 ghost use Rattle.wgsl_layout.specs.Extents.{IsExtentOf};
 ghost use Rattle.wgsl_layout.specs.Plan.{plan_of, plan_view};
@@ -57,11 +57,11 @@ impl Extent {
         match ty {
             Type::Struct(s) => Extent::of_struct(s, plan),
             Type::Array(element, n) => Extent::of_array(element, *n, plan),
+            Type::Vec(n, component) => Extent::of_vector(*n, component, plan),
             Type::Bool | Type::AbstractInt | Type::AbstractFloat => Extent::of_size(ty),
             Type::I32 | Type::U32 | Type::F32 | Type::F16 => Extent::of_size(ty),
             Type::I64 | Type::U64 | Type::F64 | Type::Atomic(_) => Extent::of_size(ty),
-            Type::Vec(_, _) | Type::Mat(_, _, _) => Extent::of_size(ty),
-            Type::Ptr(_, _, _) | Type::Ref(_, _, _) => Extent::of_size(ty),
+            Type::Mat(_, _, _) | Type::Ptr(_, _, _) | Type::Ref(_, _, _) => Extent::of_size(ty),
             Type::Texture(_) | Type::Sampler(_) => Extent::of_size(ty),
         }
     }
@@ -95,6 +95,18 @@ impl Extent {
             Some(n) => Extent::Fixed(n * *far as usize),
             None => Extent::Open(plan.tail()),
         }
+    }
+
+    /// Of the vectors of n components of the type. The condition: they have a layout.
+    pub(crate) fn of_vector(n: u8, component: &Type, plan: &Plan) -> Extent
+        requires planned { plan_view plan.now ≡ plan_of (vec n (type_view component.now)) }
+        requires laid { HasLayout (vec n (type_view component.now)) }
+        ensures { IsExtentOf (vec n (type_view component.now)) result }
+    {
+        let Plan::Components(far) = plan else {
+            unreachable!()
+        };
+        Extent::Fixed(usize::from(n) * *far as usize)
     }
 
     // Of the values of a type that is no structure and no array.

@@ -178,11 +178,12 @@ impl FlatCell {
     {
         let layout = owner.layout();
         layout.attest();
-        let Some(count) = layout.count_in(bytes.len()) else {
+        let extent = layout.extent();
+        let Some(count) = extent.count_in(bytes.len()) else {
             return Ok(None);
         };
         // They are no more than the bytes, which are counted.
-        let Some(len) = layout.size_with(count) else {
+        let Some(len) = extent.len(count) else {
             unreachable!()
         };
         let mut out = vec![in alloc; 0u8; len]?;

@@ -248,8 +248,8 @@ impl Layout {
         let _ = &self.ty;
     }
 
-    // How many bytes a value takes.
-    fn extent(&self) -> Extent
+    /// How many bytes a value takes.
+    pub(crate) fn extent(&self) -> Extent
         ensures { IsExtentOf self.now result }
     {
         Extent::of(&self.ty, &self.plan)

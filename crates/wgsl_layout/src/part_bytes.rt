@@ -103,9 +103,7 @@ impl<'a> Located<'a> {
     {
         match self.shape {
             Shape::Whole(ty, plan) => Extent::of(ty, plan),
-            Shape::Column(n, component, _) => {
-                Extent::Fixed(usize::from(n) * component.measures().size.unwrap_or(0) as usize)
-            }
+            Shape::Column(n, component, plan) => Extent::of_vector(n, component, plan),
             Shape::Component(ty) => Extent::Fixed(ty.measures().size.unwrap_or(0) as usize),
         }
     }
