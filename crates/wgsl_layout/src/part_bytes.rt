@@ -62,6 +62,7 @@ impl<'a> Located<'a> {
     }
 
     /// The part that the view leads to; `None` where it leads nowhere.
+    #[inline(never)]
     pub(crate) fn viewed(self, view: &MemView) -> Option<Located<'a>>
         requires { IsLocated self }
         ensures range { option_map part_range result ≡ option_map (further self.entry.start) (view_range (steps_of view.now) (part_range self.entry).layout) }
