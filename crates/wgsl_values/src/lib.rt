@@ -4,7 +4,6 @@
 
 mod call;
 mod clone;
-mod conv;
 mod convert;
 mod display;
 mod eq;
@@ -17,6 +16,7 @@ mod mem_mut;
 mod part_mut;
 mod parts;
 mod shared;
+mod ty;
 mod view;
 
 pub use call::{CallSignature, TpltParam};

@@ -1,7 +1,7 @@
 use Rattle.wgsl_rules.specs.View.{type_view, struct_view as struct_type_view}
 use Rattle.wgsl_values.proofs.Typed.{struct-has}
 use Rattle.wgsl_values.proofs.lemmas.Views.{struct_view-is}
-use Rattle.wgsl_values.proofs.conv.StructInstanceTy.has_ty.Goals as goal
+use Rattle.wgsl_values.proofs.ty.StructInstanceTy.has_ty.Goals as goal
 
 pub returns-in-Some : goal.returns-in-Some
 returns-in-Some c =

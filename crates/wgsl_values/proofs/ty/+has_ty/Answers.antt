@@ -1,6 +1,6 @@
 use Rattle.wgsl_values.proofs.Typed.{array-has}
 use Rattle.wgsl_values.proofs.lemmas.Views.{array_view-is}
-use Rattle.wgsl_values.proofs.conv.+has_ty.Goals as goal
+use Rattle.wgsl_values.proofs.ty.+has_ty.Goals as goal
 
 pub ArrayInstanceTy::has_ty-returns-then-eq : goal.ArrayInstanceTy::has_ty-returns-then-eq
 ArrayInstanceTy::has_ty-returns-then-eq t c =

@@ -95,10 +95,11 @@ impl Instance {
         }
     }
 
-    /// Whether the two have one type, without the memory that making it takes. The condition: both
-    /// are well-formed.
+    /// Whether the two have one type (WGSL: types). It takes no memory. The condition: both are
+    /// well-formed.
+    /// It calls itself for each level of the values and types: keep to 4,095 within a stack of 8 MiB.
     #[cycle(same_type)]
-    pub(crate) fn same_type(&self, other: &Instance) -> bool
+    pub fn same_type(&self, other: &Instance) -> bool
         requires own { IsWellFormed (value_of self.now) }
         requires others { IsWellFormed (value_of other.now) }
         ensures { IsTrue result ↔ (type_of (value_of self.now) ≡ type_of (value_of other.now)) }
