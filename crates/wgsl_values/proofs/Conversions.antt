@@ -17,9 +17,9 @@ use Rattle.wgsl_scalar.specs.declared.literal.LiteralInstance.{LiteralInstance}
 use Rattle.wgsl_values.proofs.Typed.{array_part-is}
 use Rattle.wgsl_values.proofs.lemmas.Views.{struct_view-is, value_of-Literal, value_of-Vec}
 use Rattle.wgsl_values.specs.View.{value_of, struct_view, vals_view, vec_view}
-use Rattle.wgsl_values.specs.declared.inst.Instance.{Instance, Literal, Vec}
-use Rattle.wgsl_values.specs.declared.inst.VecInstance.{VecInstance}
-use Rattle.wgsl_values.specs.declared.inst.StructInstance.{StructInstance}
+use Rattle.wgsl_values.specs.declared.instance.Instance.{Instance, Literal, Vec}
+use Rattle.wgsl_values.specs.declared.vector.VecInstance.{VecInstance}
+use Rattle.wgsl_values.specs.declared.structure.StructInstance.{StructInstance}
 
 -- ---- lists
 

@@ -10,8 +10,8 @@ use Rattle.wgsl_rules.specs.Values.{count, type_of, first_type}
 use Rattle.wgsl_rules.specs.declared.syntax.AddressSpace.{AddressSpace}
 use Rattle.wgsl_rules.specs.declared.syntax.AccessMode.{AccessMode}
 use Rattle.wgsl_values.specs.View.{value_of, vals_view, array_view}
-use Rattle.wgsl_values.specs.declared.inst.Instance.{Instance}
-use Rattle.wgsl_values.specs.declared.inst.ArrayInstance.{ArrayInstance}
+use Rattle.wgsl_values.specs.declared.instance.Instance.{Instance}
+use Rattle.wgsl_values.specs.declared.array.ArrayInstance.{ArrayInstance}
 use Rattle.wgsl_values.proofs.lemmas.Views.{array_view-is, count-vals_view}
 
 -- ---- tests one after the other
