@@ -9,7 +9,7 @@ use Rattle.wgsl_rules.specs.Equal.{same-Decides, number_decided}
 use Rattle.wgsl_rules.specs.Same.{same, same_number}
 use Rattle.wgsl_rules.specs.TypeParts.{array_part, vec_part}
 use Rattle.wgsl_rules.specs.Types.{Ty, bool, array, vec, ptr, ref}
-use Rattle.wgsl_rules.specs.Values.{Val, Vals, AreLiterals, AreStorable, AreVectors, IsLiteral, IsStorable, IsVector, IsWellFormed, deferred, type_of}
+use Rattle.wgsl_rules.specs.Values.{Val, Vals, AreLiterals, AreStorable, AreVectors, IsLiteral, IsStorable, IsVector, type_of}
 use Rattle.wgsl_rules.specs.declared.syntax.AddressSpace.{AddressSpace}
 use Rattle.wgsl_rules.specs.declared.syntax.AccessMode.{AccessMode}
 use Rattle.wgsl_scalar.specs.Literals.{literal_of}

@@ -11,7 +11,7 @@ use Rattle.wgsl_rules.specs.Values.{Step, Val, array_of, atomic_of, matrix, vect
 use Rattle.wgsl_values.specs.Parts.{component_at, components}
 use Rattle.wgsl_values.specs.Rows.{holding, lent_type}
 use Rattle.wgsl_values.specs.View.{value_of, array_view, atomic_view, mat_view, vec_view, vals_view}
-use Rattle.wgsl_values.specs.Written.{IsAsSound, IsKept, IsWritten, KeepsWhole, with_part, with_inner_part, with_placed, with_member}
+use Rattle.wgsl_values.specs.Written.{IsAsSound, IsKept, IsWritten, KeepsWhole, with_part, with_inner_part, with_member}
 use Rattle.wgsl_values.specs.declared.instance.Instance.{Instance}
 use Rattle.wgsl_values.specs.declared.array.ArrayInstance.{ArrayInstance}
 use Rattle.wgsl_values.specs.declared.atomic.AtomicInstance.{AtomicInstance}

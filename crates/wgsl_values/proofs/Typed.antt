@@ -3,7 +3,7 @@ use Rattle.std.proofs.Common.{◌≡◌, ◌↔◌, ℕ, ◌<◌, ◌≤◌, Lis
 use Rattle.wgsl_rules.proofs.lemmas.CommonTypes.{struct_part-is}
 use Rattle.wgsl_rules.specs.Equal.{same_is}
 use Rattle.wgsl_rules.specs.Same.{same, same_space, same_access, same_number}
-use Rattle.wgsl_rules.specs.Types.{Ty, bool, struct, array, vec, atomic, ref}
+use Rattle.wgsl_rules.specs.Types.{Ty, bool, array, vec, atomic, ref}
 use Rattle.wgsl_rules.specs.TypeParts.{struct_part, array_part}
 use Rattle.wgsl_rules.specs.Paths.{parts}
 use Rattle.wgsl_rules.specs.Values.{count, type_of, first_type}

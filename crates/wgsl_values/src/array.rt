@@ -127,7 +127,7 @@ impl ArrayInstance {
     }
 
     // The count that its type carries: none of a runtime-sized array.
-    pub(crate) fn count(&self) -> Option<usize>
+    fn count(&self) -> Option<usize>
         ensures { type_of (array_view self.now) ≡ types.array (first_type (parts (array_view self.now))) result }
     {
         if self.runtime_sized {

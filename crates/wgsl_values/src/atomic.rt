@@ -3,7 +3,6 @@
 ghost use Rattle.std.specs.Borrow.{Lends, sem};
 ghost use Rattle.std.specs.Cmp.{partial_equiv_from_equiv};
 ghost use Rattle.std.specs.Prelude.{◌≡◌, ◌↔◌, IfOk, IsTrue, Some};
-ghost use Rattle.wgsl_rules.specs.Converted.{kept};
 ghost use Rattle.wgsl_rules.specs.Types as types;
 ghost use Rattle.wgsl_rules.specs.Types.{Ty};
 ghost use Rattle.wgsl_rules.specs.Values.{IsStorable, atomic_of, type_of};

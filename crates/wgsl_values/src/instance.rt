@@ -4,7 +4,7 @@ ghost use Rattle.std.specs.Cmp.{partial_equiv_from_equiv};
 ghost use Rattle.std.specs.Fmt.{WritesOnOk};
 ghost use Rattle.std.specs.Prelude.{◌≡◌, ◌↔◌, IfOk, IsTrue, option_map, is_some, Some};
 ghost use Rattle.wgsl_rules.specs.Conversion.{rank};
-ghost use Rattle.wgsl_rules.specs.Converted.{converted, kept};
+ghost use Rattle.wgsl_rules.specs.Converted.{kept};
 ghost use Rattle.wgsl_rules.specs.Paths.{parts};
 ghost use Rattle.wgsl_rules.specs.Values.{IsLiteral, IsStorable, IsVector, IsWellFormed, type_of};
 ghost use Rattle.wgsl_rules.specs.View.{type_view};

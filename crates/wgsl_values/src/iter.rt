@@ -2,7 +2,6 @@
 
 ghost use Rattle.std.specs.Iterator.{YieldsFirstBy, item_count};
 ghost use Rattle.std.specs.Prelude.{◌≡◌};
-ghost use Rattle.wgsl_rules.specs.Values.{item};
 ghost use Rattle.wgsl_values.specs.Iterators.{into_items_left, items_left, listed, mat_items_left};
 ghost use Rattle.wgsl_values.specs.Parts.{components};
 ghost use Rattle.wgsl_values.specs.View.{value_of, vals_view};

@@ -150,7 +150,7 @@ impl MatInstance {
     }
 
     // How many columns there are.
-    pub(crate) fn width(&self) -> u8
+    fn width(&self) -> u8
         requires { IsStorable (mat_view self.now) }
         ensures { result ≡ count (parts (mat_view self.now)) }
     {
@@ -158,7 +158,7 @@ impl MatInstance {
     }
 
     // The first column, whose type is that of each.
-    pub(crate) fn first_column(&self) -> &VecInstance
+    fn first_column(&self) -> &VecInstance
         requires { IsStorable (mat_view self.now) }
         ensures ty { type_of (vec_view result.now) ≡ first_type (parts (mat_view self.now)) }
         ensures storable { IsStorable (vec_view result.now) }

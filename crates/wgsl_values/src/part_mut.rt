@@ -2,7 +2,6 @@
 
 ghost use Rattle.std.specs.Borrow.{Lends, sem, RestsIfErr};
 ghost use Rattle.std.specs.Prelude.{◌≡◌, IfOk, []};
-ghost use Rattle.wgsl_rules.specs.Converted.{kept};
 ghost use Rattle.wgsl_rules.specs.Paths.{viewed, put_viewed};
 ghost use Rattle.wgsl_rules.specs.Values.{IsWellFormed, type_of, Val};
 ghost use Rattle.wgsl_scalar.specs.Answers.{Gives};

@@ -4,7 +4,6 @@ ghost use Rattle.std.specs.Borrow.{LendsSo, sem};
 ghost use Rattle.std.specs.Cmp.{partial_equiv_from_equiv};
 ghost use Rattle.std.specs.Fmt.{WritesOnOk};
 ghost use Rattle.std.specs.Prelude.{◌≡◌, ◌↔◌, IfOk, IsTrue, option_map, IfSome, Some};
-ghost use Rattle.wgsl_rules.specs.Converted.{converted};
 ghost use Rattle.wgsl_rules.specs.Paths.{member_named, parts};
 ghost use Rattle.wgsl_rules.specs.Values.{IsStorable, record_of, type_of};
 ghost use Rattle.wgsl_rules.specs.View.{struct_view as struct_type_view};

@@ -10,7 +10,6 @@ ghost use Rattle.wgsl_values.specs.View.{steps_of};
 
 use std::alloc::{AllocError, Global};
 use std::fmt::Display;
-use std::ops::Index;
 use std::{fmt, mem};
 
 /// A way from a value to a part of it, the outermost step first.
@@ -77,7 +76,7 @@ impl MemView {
 
     // The steps of the view from the last to the first, and behind them those of the other.
     #[tactic(auto, using(crate::proofs::Turned::turned))]
-    pub(crate) fn turned_onto(mut self, mut done: MemView) -> MemView
+    fn turned_onto(mut self, mut done: MemView) -> MemView
         ensures { steps_of result ≡ reverse (steps_of self) ++ steps_of done }
     {
         loop {
@@ -104,7 +103,7 @@ impl MemView {
 
     // A copy of the steps, from the last to the first.
     #[tactic(auto, using(crate::proofs::Turned::turned))]
-    pub(crate) fn turned_copy(&self, alloc: Global) -> Result<MemView, AllocError>
+    fn turned_copy(&self, alloc: Global) -> Result<MemView, AllocError>
         ensures { IfOk result (λ view. steps_of view ≡ reverse (steps_of self.now)) }
     {
         let mut copy = MemView::Whole;

@@ -1,9 +1,6 @@
 //! What becomes a value.
 
-ghost use Rattle.std.specs.Prelude.{◌≡◌};
 ghost use Rattle.wgsl_rules.specs.Values.{IsStorable};
-ghost use Rattle.wgsl_scalar.specs.Literals.{literal_of};
-ghost use Rattle.wgsl_values.specs.View.{value_of, array_view, atomic_view, mat_view, struct_view, vec_view, ptr_view, ref_view};
 
 use crate::array::ArrayInstance;
 use crate::atomic::AtomicInstance;

@@ -1,8 +1,7 @@
 use Rattle.std.proofs.Common.{refl, ◌≡◌, ◌∙◌, ap, Ok}
 use Rattle.wgsl_rules.specs.Paths.{put_viewed, viewed}
-use Rattle.wgsl_rules.specs.Values.{Val, IsStorable, type_of}
+use Rattle.wgsl_rules.specs.Values.{Val, type_of}
 use Rattle.wgsl_values.specs.View.{value_of, steps_of}
-use Rattle.wgsl_values.specs.Written.{IsKept}
 use Rattle.wgsl_values.proofs.Lent.{keeps-whole, view-kept, view-sound}
 use Rattle.wgsl_values.proofs.lemmas.PutTwice.{put-twice, result_ok-is}
 use Rattle.wgsl_values.proofs.instance.Instance.view_mut.Goals as goal

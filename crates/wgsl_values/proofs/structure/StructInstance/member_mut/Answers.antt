@@ -4,7 +4,7 @@ use Rattle.wgsl_rules.specs.Values.{Val}
 use Rattle.wgsl_values.specs.View.{struct_view, value_of}
 use Rattle.wgsl_values.specs.Written.{IsAsSound, with_member}
 use Rattle.wgsl_values.specs.declared.instance.Instance.{the_lemmas}
-use Rattle.wgsl_values.proofs.Lent.{lent-has, lent_value, member-at, member-kept, none-written, written-is}
+use Rattle.wgsl_values.proofs.Lent.{lent-has, lent_value, member-at, member-kept, written-is}
 use Rattle.wgsl_values.proofs.Written.{named-value, struct_view-with}
 use Rattle.wgsl_values.proofs.lemmas.Replaced.{part-sound}
 use Rattle.wgsl_values.proofs.structure.StructInstance.member_mut.Goals as goal

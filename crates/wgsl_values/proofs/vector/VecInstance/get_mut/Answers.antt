@@ -1,4 +1,4 @@
-use Rattle.std.proofs.Common.{rules, refl, ◌≡◌, ℕ, [], ◌∷◌, Option}
+use Rattle.std.proofs.Common.{rules, refl, ◌≡◌, ℕ, [], ◌∷◌}
 use Rattle.wgsl_rules.specs.Paths.{parts}
 use Rattle.wgsl_rules.specs.Types as types
 use Rattle.wgsl_rules.specs.Types.{Ty}
