@@ -5,7 +5,7 @@ use Rattle.wgsl_rules.specs.Values.{type_of}
 use Rattle.wgsl_layout.specs.Buffers.{buffer_of}
 use Rattle.wgsl_values.specs.Texts.{text_of_value}
 use Rattle.wgsl_values.specs.View.{value_of}
-use Rattle.wgsl_values.specs.declared.inst.Instance.{Instance}
+use Rattle.wgsl_values.specs.declared.instance.Instance.{Instance}
 use Rattle.wgsl_c.specs.Expressions.{IsWorth, IsTypeText, IsValueText, AreBytes}
 
 module _ (source text : List ℕ) (stage flags : ℕ) where

@@ -5,7 +5,7 @@ use Rattle.wgsl_rules.specs.Values.{Val, type_of, IsWellFormed}
 use Rattle.wgsl_layout.specs.Buffers.{buffer_of}
 use Rattle.wgsl_values.specs.Texts.{text_of_value}
 use Rattle.wgsl_values.specs.View.{value_of}
-use Rattle.wgsl_values.specs.declared.inst.Instance.{Instance}
+use Rattle.wgsl_values.specs.declared.instance.Instance.{Instance}
 use Rattle.wgsl_eval.specs.declared.evaluation.Outcome.TheVariants as outcomes
 use Rattle.wgsl_eval.specs.declared.settings.Settings.{Settings}
 use Rattle.wgsl_report.specs.Scopes.{IsOutcomeOf}

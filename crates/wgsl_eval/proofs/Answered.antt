@@ -4,7 +4,7 @@ use Rattle.std.proofs.Common.{◌≡◌, ◌∙◌, Bool, true, false, Option, S
 use Rattle.std.specs.Option.{option_map}
 use Rattle.wgsl_rules.specs.Values.{Val}
 use Rattle.wgsl_values.specs.View.{value_of}
-use Rattle.wgsl_values.specs.declared.inst.Instance.{Instance}
+use Rattle.wgsl_values.specs.declared.instance.Instance.{Instance}
 use Rattle.wgsl_eval.specs.Answers.{IsAnswer, IsFault, IsMade, IsSkippedFor, IsSkippedOr, IsValueWith, value_in}
 use Rattle.wgsl_eval.specs.Constructors.{MayBe}
 use Rattle.wgsl_eval.specs.Given.{IsJudged}

@@ -5,7 +5,7 @@ use Rattle.wgsl_rules.specs.Values.{Val}
 use Rattle.wgsl_scalar.specs.Literals.{literal_of}
 use Rattle.wgsl_scalar.specs.declared.literal.LiteralInstance.{LiteralInstance}
 use Rattle.wgsl_values.specs.View.{value_of}
-use Rattle.wgsl_values.specs.declared.inst.Instance.{Instance}
+use Rattle.wgsl_values.specs.declared.instance.Instance.{Instance}
 use Rattle.wgsl_eval.specs.Constructors.{columns_of, vector_of}
 
 columns-step : (m rows : ℕ) (vs : List Val) → 0 < m → columns_of m rows vs ≡ vector_of (take rows vs) ∷ columns_of (m - 1) rows (drop rows vs)

@@ -10,7 +10,7 @@ use Rattle.wgsl_rules.specs.declared.ty.StructMemberType.{StructMemberType}
 use Rattle.wgsl_scalar.specs.Literals.{literal_of}
 use Rattle.wgsl_scalar.specs.declared.literal.LiteralInstance.{LiteralInstance}
 use Rattle.wgsl_values.specs.View.{value_of}
-use Rattle.wgsl_values.specs.declared.inst.Instance.{Instance}
+use Rattle.wgsl_values.specs.declared.instance.Instance.{Instance}
 use Rattle.wgsl_eval.proofs.Each.{each_of-push}
 use Rattle.wgsl_eval.proofs.StructureMembers.{members-push}
 use Rattle.wgsl_eval.specs.Answers.{AreSound}

@@ -8,11 +8,11 @@ use Rattle.wgsl_rules.specs.Values.{Step, Val, Vals, array_of, vector, matrix, i
 use Rattle.wgsl_values.proofs.lemmas.Steps.{viewed-member, viewed-storable}
 use Rattle.wgsl_values.proofs.lemmas.Views.{array_view-is, mat_view-is, steps_of-Index, steps_of-Member, value_of-Array, value_of-Mat, value_of-Struct, value_of-Vec, vec_view-is}
 use Rattle.wgsl_values.specs.View.{array_view, mat_view, steps_of, struct_view, vals_view, value_of, vec_view}
-use Rattle.wgsl_values.specs.declared.inst.ArrayInstance.{ArrayInstance}
-use Rattle.wgsl_values.specs.declared.inst.Instance.{Instance, Array, Mat, Struct, Vec}
-use Rattle.wgsl_values.specs.declared.inst.MatInstance.{MatInstance}
-use Rattle.wgsl_values.specs.declared.inst.StructInstance.{StructInstance}
-use Rattle.wgsl_values.specs.declared.inst.VecInstance.{VecInstance}
+use Rattle.wgsl_values.specs.declared.array.ArrayInstance.{ArrayInstance}
+use Rattle.wgsl_values.specs.declared.instance.Instance.{Instance, Array, Mat, Struct, Vec}
+use Rattle.wgsl_values.specs.declared.matrix.MatInstance.{MatInstance}
+use Rattle.wgsl_values.specs.declared.structure.StructInstance.{StructInstance}
+use Rattle.wgsl_values.specs.declared.vector.VecInstance.{VecInstance}
 use Rattle.wgsl_values.specs.declared.view.MemView.{MemView, Whole, Member, Index, the_lemmas as view_lemmas}
 use Rattle.wgsl_eval.proofs.Answered.{fault-with, faults-with, value-with, with-mapped}
 use Rattle.wgsl_eval.specs.Answers.{IsFault, IsSoundValue, IsValueWith, value_in}

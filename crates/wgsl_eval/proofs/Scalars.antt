@@ -9,8 +9,8 @@ use Rattle.wgsl_scalar.specs.declared.literal.LiteralInstance.{LiteralInstance}
 use Rattle.wgsl_scalar.specs.declared.literal.LiteralInstance.TheVariants as literals
 use Rattle.wgsl_values.proofs.lemmas.Views.{value_of-Literal, value_of-Vec, vec_view-is}
 use Rattle.wgsl_values.specs.View.{vals_of, vals_view, value_of, vec_view}
-use Rattle.wgsl_values.specs.declared.inst.Instance.{Instance, Literal, Vec}
-use Rattle.wgsl_values.specs.declared.inst.VecInstance.{VecInstance}
+use Rattle.wgsl_values.specs.declared.instance.Instance.{Instance, Literal, Vec}
+use Rattle.wgsl_values.specs.declared.vector.VecInstance.{VecInstance}
 use Rattle.wgsl_eval.specs.Constructors.{components_for, conversion_for, listed, scalars_in, scalars_of}
 use Rattle.wgsl_eval.specs.declared.literals.Conversion.TheVariants.{Automatic, Written}
 

@@ -7,7 +7,7 @@ use Rattle.wgsl_rules.specs.View.{member_view, members_view, type_view}
 use Rattle.wgsl_rules.specs.declared.ty.StructMemberType.{StructMemberType}
 use Rattle.wgsl_rules.specs.declared.ty.Type.{the_lemmas as type_lemmas}
 use Rattle.wgsl_values.specs.View.{value_of}
-use Rattle.wgsl_values.specs.declared.inst.Instance.{Instance}
+use Rattle.wgsl_values.specs.declared.instance.Instance.{Instance}
 use Rattle.wgsl_eval.proofs.Each.{prepended-step}
 use Rattle.wgsl_eval.specs.Constructors.{members_made}
 

@@ -5,7 +5,7 @@ use Rattle.std.specs.Option.{option_map}
 use Rattle.wgsl_scalar.specs.Literals.{literal_of}
 use Rattle.wgsl_scalar.specs.declared.literal.LiteralInstance.{LiteralInstance}
 use Rattle.wgsl_values.specs.View.{value_of}
-use Rattle.wgsl_values.specs.declared.inst.Instance.{Instance}
+use Rattle.wgsl_values.specs.declared.instance.Instance.{Instance}
 use Rattle.wgsl_rules.specs.Values.{Vals}
 use Rattle.wgsl_eval.proofs.Answered.{made-maybe, value-maybe, with-mapped}
 use Rattle.wgsl_eval.specs.Answers.{IsMade, IsValueWith, value_in}

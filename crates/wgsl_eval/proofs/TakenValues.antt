@@ -3,7 +3,7 @@ use Rattle.std.proofs.Common.{◌≡◌, ◌∙◌, List, [], ◌∷◌, ◌++�
 use Rattle.std.proofs.lemmas.List.Elements.{All-head, All-push, All-tail, All-same}
 use Rattle.wgsl_rules.specs.Values.{IsStorable}
 use Rattle.wgsl_values.specs.View.{value_of}
-use Rattle.wgsl_values.specs.declared.inst.Instance.{Instance}
+use Rattle.wgsl_values.specs.declared.instance.Instance.{Instance}
 use Rattle.wgsl_eval.proofs.Each.{each_of-appended}
 use Rattle.wgsl_eval.specs.Answers.{AreAnswers, AreSound, IsAnswer, value_in}
 use Rattle.wgsl_eval.specs.Calls.{values_of}

@@ -2,7 +2,7 @@
 use Rattle.std.specs.Prelude.{◌≡◌, ◌-◌, ◌^◌, ℕ, min, Bool, true, false, Option, Some, None, List, slice_get, unwrap_or, ⊤, All}
 use Rattle.wgsl_rules.specs.Values.{Val, IsStorable}
 use Rattle.wgsl_values.specs.View.{value_of}
-use Rattle.wgsl_values.specs.declared.inst.Instance.{Instance}
+use Rattle.wgsl_values.specs.declared.instance.Instance.{Instance}
 use Rattle.wgsl_eval.specs.declared.answer.Answer.{Answer}
 use Rattle.wgsl_eval.specs.declared.answer.Answer.TheVariants as answers
 use Rattle.wgsl_eval.specs.Messages.{IsFaultMessage}

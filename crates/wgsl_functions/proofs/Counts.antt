@@ -3,7 +3,7 @@ use Rattle.std.proofs.Common.{◌≡◌, ◌≢◌, List, [], ◌∷◌, map, le
 use Rattle.wgsl_rules.specs.Refusals.{builtin}
 use Rattle.wgsl_rules.specs.declared.syntax.ShaderStage.{ShaderStage}
 use Rattle.wgsl_values.specs.View.{value_of}
-use Rattle.wgsl_values.specs.declared.inst.Instance.{Instance}
+use Rattle.wgsl_values.specs.declared.instance.Instance.{Instance}
 use Rattle.wgsl_functions.specs.Functions.{of_values}
 use Rattle.wgsl_functions.specs.declared.builtin.Builtin.{Builtin}
 use Rattle.wgsl_functions.specs.declared.builtin.Builtin.TheVariants as functions

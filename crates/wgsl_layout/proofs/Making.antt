@@ -15,7 +15,7 @@ use Rattle.wgsl_rules.specs.declared.ty.StructMemberType.{StructMemberType}
 use Rattle.wgsl_rules.proofs.lemmas.Members.{next, ends}
 use Rattle.wgsl_rules.proofs.lemmas.Views.{member_view-is}
 use Rattle.wgsl_values.specs.View.{value_of, vals_view}
-use Rattle.wgsl_values.specs.declared.inst.Instance.{Instance}
+use Rattle.wgsl_values.specs.declared.instance.Instance.{Instance}
 use Rattle.wgsl_values.proofs.lemmas.Nodes.{nodes}
 use Rattle.wgsl_layout.specs.Plan.{members, fixed_size, Places, no_places, place, Placed, plan_of, places_of, plan_view, place_view, places_view}
 use Rattle.wgsl_layout.specs.TypePlan.{IsPlanOf}

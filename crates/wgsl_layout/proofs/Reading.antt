@@ -19,7 +19,7 @@ use Rattle.wgsl_rules.proofs.lemmas.Views.{struct_view-is}
 use Rattle.wgsl_rules.specs.declared.ty.StructMemberType.{StructMemberType}
 use Rattle.wgsl_rules.specs.declared.ty.StructType.{StructType, out-StructType}
 use Rattle.wgsl_values.specs.View.{value_of, vals_view}
-use Rattle.wgsl_values.specs.declared.inst.Instance.{Instance}
+use Rattle.wgsl_values.specs.declared.instance.Instance.{Instance}
 use Rattle.wgsl_layout.specs.Buffers.{decoded, decoded_parts}
 use Rattle.wgsl_layout.specs.Plan.{Plan, components, row, members, Places, no_places, plan_of, places_of, plan_view, places_view}
 use Rattle.wgsl_layout.specs.Reading.{IsThere, AreThere, members_at}

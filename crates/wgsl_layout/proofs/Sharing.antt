@@ -9,7 +9,7 @@ use Rattle.wgsl_rules.specs.Layout.{Layout, scalar, composite, amount, layout, m
 use Rattle.wgsl_rules.specs.View.{member_view, members_view, type_view}
 use Rattle.wgsl_rules.specs.declared.ty.StructMemberType.{StructMemberType}
 use Rattle.wgsl_values.specs.View.{vals_view}
-use Rattle.wgsl_values.specs.declared.inst.Instance.{Instance}
+use Rattle.wgsl_values.specs.declared.instance.Instance.{Instance}
 use Rattle.wgsl_layout.specs.Buffers.{decoded, decoded_parts, made_of_number, made_of_parts, read_number}
 use Rattle.wgsl_layout.specs.Ranges.{Range, part_at, parts_in}
 use Rattle.wgsl_layout.specs.Sharing.{WasRead, IsFirstRead}

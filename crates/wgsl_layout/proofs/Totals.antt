@@ -4,7 +4,7 @@ use Rattle.std.specs.Prelude.{slice_get, if◌then◌else◌}
 use Rattle.wgsl_rules.specs.Layout.{elements, last_elements, has_layout, length_in, layout_len, layout_of, runtime_count}
 use Rattle.wgsl_rules.specs.Values.{Val, deferred, type_of, IsStorable}
 use Rattle.wgsl_values.specs.View.{value_of, vals_view}
-use Rattle.wgsl_values.specs.declared.inst.Instance.{Instance}
+use Rattle.wgsl_values.specs.declared.instance.Instance.{Instance}
 use Rattle.wgsl_layout.specs.Buffers.{buffer, buffer_of}
 use Rattle.wgsl_layout.proofs.lemmas.Tidy.{tidy}
 

@@ -4,7 +4,7 @@ use Rattle.std.specs.Prelude.{IsSome, option_map}
 use Rattle.std.proofs.Math.Seq.{drop-nil}
 use Rattle.wgsl_rules.specs.Values.{Val, vector, Vals, no_vals, val, count, item}
 use Rattle.wgsl_values.specs.View.{value_of, vals_view}
-use Rattle.wgsl_values.specs.declared.inst.Instance.{Instance}
+use Rattle.wgsl_values.specs.declared.instance.Instance.{Instance}
 use Rattle.wgsl_values.proofs.lemmas.Nodes.{nodes, all_nodes, part-smaller}
 use Rattle.wgsl_values.proofs.lemmas.Views.{item_within}
 use Rattle.wgsl_layout.specs.Plan.{Plan, Places, no_places, plan_view, places_view}

@@ -5,7 +5,7 @@ use Rattle.wgsl_rules.specs.Types.{Ty}
 use Rattle.wgsl_rules.specs.Values.{Val}
 use Rattle.wgsl_rules.specs.Layout.{layout}
 use Rattle.wgsl_values.specs.View.{value_of}
-use Rattle.wgsl_values.specs.declared.inst.Instance.{Instance}
+use Rattle.wgsl_values.specs.declared.instance.Instance.{Instance}
 use Rattle.wgsl_layout.specs.Buffers.{decoded}
 use Rattle.wgsl_layout.specs.declared.types.Types.{Types}
 use Rattle.wgsl_layout.specs.declared.types.Types.TheVariants as types

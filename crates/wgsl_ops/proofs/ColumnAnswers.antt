@@ -18,9 +18,9 @@ use Rattle.wgsl_values.specs.Iterators.{listed, all_components}
 use Rattle.wgsl_values.specs.Matrices.{row_count}
 use Rattle.wgsl_values.specs.Parts.{components}
 use Rattle.wgsl_values.specs.View.{value_of, vals_of, vals_view, mat_view, vec_view}
-use Rattle.wgsl_values.specs.declared.inst.Instance.{Instance, Vec}
-use Rattle.wgsl_values.specs.declared.inst.MatInstance.{MatInstance}
-use Rattle.wgsl_values.specs.declared.inst.VecInstance.{VecInstance}
+use Rattle.wgsl_values.specs.declared.instance.Instance.{Instance, Vec}
+use Rattle.wgsl_values.specs.declared.matrix.MatInstance.{MatInstance}
+use Rattle.wgsl_values.specs.declared.vector.VecInstance.{VecInstance}
 use Rattle.wgsl_ops.specs.Closures.{Answered, Refused, AnswersEach, AnswersOneKind, AnswersPairs, IsCallableAt, IsCallableAtPairs, components_of, pairs_of}
 use Rattle.wgsl_ops.proofs.Answering.{GivesLiterals, answered-length, answered-one-type, answers-storable, both-true, count-of, length-pairs, length-values, listed-values, literals-paths, values-append}
 use Rattle.wgsl_ops.proofs.InPlace.{length-listed}

@@ -12,8 +12,8 @@ use Rattle.wgsl_values.proofs.lemmas.Views.{vec_view-is}
 use Rattle.wgsl_values.specs.Iterators.{listed}
 use Rattle.wgsl_values.specs.View.{value_of, vals_of, vals_view, vec_view}
 use Rattle.wgsl_values.specs.Written.{with_part}
-use Rattle.wgsl_values.specs.declared.inst.Instance.{Instance}
-use Rattle.wgsl_values.specs.declared.inst.VecInstance.{VecInstance}
+use Rattle.wgsl_values.specs.declared.instance.Instance.{Instance}
+use Rattle.wgsl_values.specs.declared.vector.VecInstance.{VecInstance}
 use Rattle.wgsl_ops.specs.Closures.{Answered, Refused, AnswersEach, AnswersOneKind, components_of}
 use Rattle.wgsl_ops.proofs.Answering.{GivesLiterals, IsSoFar, IsVectorOf, answered-length, answered-literals, answered-one-type, count-of, drop-pairs, drop-values, length-pairs, length-values, literals-paths, so_far_more}
 

@@ -16,8 +16,8 @@ use Rattle.wgsl_scalar.specs.declared.literal.LiteralInstance.{LiteralInstance}
 use Rattle.wgsl_scalar.specs.declared.literal.LiteralInstance.TheVariants as literals
 use Rattle.wgsl_values.proofs.lemmas.Views.{vec_view-is}
 use Rattle.wgsl_values.specs.View.{vals_view, vec_view}
-use Rattle.wgsl_values.specs.declared.inst.Instance.{Instance}
-use Rattle.wgsl_values.specs.declared.inst.VecInstance.{VecInstance}
+use Rattle.wgsl_values.specs.declared.instance.Instance.{Instance}
+use Rattle.wgsl_values.specs.declared.vector.VecInstance.{VecInstance}
 use Rattle.wgsl_ops.proofs.Lifting.{of-components-is}
 use Rattle.wgsl_ops.specs.Vectors.{of_converted, of_components, of_vector_scalar, of_scalar_vector, of_each_and_scalar, of_scalar_and_each}
 

@@ -3,9 +3,9 @@ use Rattle.std.proofs.Common.{◌≡◌, ℕ, zero, suc, ◌+◌, ◌<◌, ◌�
 use Rattle.wgsl_rules.specs.Values.{Reference, Val, truth, number, vector, matrix, Vals, no_vals, val, count, item, IsStorable, AreStorable, AreLiterals, AreVectors}
 use Rattle.wgsl_store.specs.Memory.{references, references_in}
 use Rattle.wgsl_values.specs.View.{value_of, vals_view}
-use Rattle.wgsl_values.specs.declared.inst.Instance.{Instance}
-use Rattle.wgsl_values.specs.declared.inst.Instance.TheVariants as instances
-use Rattle.wgsl_values.specs.declared.inst.MatInstance.{MatInstance}
+use Rattle.wgsl_values.specs.declared.instance.Instance.{Instance}
+use Rattle.wgsl_values.specs.declared.instance.Instance.TheVariants as instances
+use Rattle.wgsl_values.specs.declared.matrix.MatInstance.{MatInstance}
 use Rattle.wgsl_values.proofs.lemmas.Nodes.{nodes, all_nodes}
 use Rattle.wgsl_values.proofs.lemmas.Views.{item_within, mat_view-is, value_of-Mat}
 

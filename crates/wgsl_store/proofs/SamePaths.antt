@@ -3,7 +3,7 @@ use Rattle.std.proofs.Common.{◌≡◌, ℕ, zero, suc, ◌+◌, ◌≤◌, Lis
 use Rattle.wgsl_rules.specs.Values.{Val, record_of, array_of, vector, matrix, Vals, no_vals, val, count, item}
 use Rattle.wgsl_rules.specs.Paths.{parts, same_paths, all_same_paths}
 use Rattle.wgsl_values.specs.View.{vals_view}
-use Rattle.wgsl_values.specs.declared.inst.Instance.{Instance}
+use Rattle.wgsl_values.specs.declared.instance.Instance.{Instance}
 use Rattle.wgsl_values.proofs.lemmas.Views.{count-vals_view}
 
 -- ---- lists of values

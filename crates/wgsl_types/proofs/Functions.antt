@@ -26,7 +26,7 @@ use Rattle.wgsl_types.specs.declared.lifts.UnaryFunction.TheVariants as before
 use Rattle.wgsl_values.proofs.lemmas.Views.{vec_view-is}
 use Rattle.wgsl_values.specs.Iterators.{listed}
 use Rattle.wgsl_values.specs.View.{vals_view, vec_view}
-use Rattle.wgsl_values.specs.declared.inst.VecInstance.{VecInstance}
+use Rattle.wgsl_values.specs.declared.vector.VecInstance.{VecInstance}
 use Rattle.wgsl_layout.proofs.Locating.{vec-same as one-type}
 
 -- ---- a function of one literal keeps its type

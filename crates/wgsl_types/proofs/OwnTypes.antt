@@ -10,7 +10,7 @@ use Rattle.wgsl_rules.specs.Values.{Val, count, item, type_of, first_type, IsWel
 use Rattle.wgsl_scalar.specs.Operands.{ok_or}
 use Rattle.wgsl_values.proofs.lemmas.Views.{vec_view-is}
 use Rattle.wgsl_values.specs.View.{vals_view, vec_view}
-use Rattle.wgsl_values.specs.declared.inst.VecInstance.{VecInstance}
+use Rattle.wgsl_values.specs.declared.vector.VecInstance.{VecInstance}
 use Rattle.wgsl_types.specs.Lifts.{in_common_type}
 use Rattle.wgsl_types.specs.Logical.{is_known, selected_by, selected}
 use Rattle.wgsl_types.specs.Numeric.{between, clamped_in, clamped}

@@ -19,7 +19,7 @@ use Rattle.wgsl_types.specs.Components.{components_of}
 use Rattle.wgsl_types.specs.Packing.{four_bytes, limited_signed, signed_byte, unsigned_byte}
 use Rattle.wgsl_values.specs.Make.{literals_view}
 use Rattle.wgsl_values.specs.View.{value_of, vals_view}
-use Rattle.wgsl_values.specs.declared.inst.Instance.{Instance}
+use Rattle.wgsl_values.specs.declared.instance.Instance.{Instance}
 
 -- ---- bytes
 

@@ -9,7 +9,7 @@ use Rattle.wgsl_scalar.specs.Answers.{Gives}
 use Rattle.wgsl_scalar.specs.declared.error.Error.{Error}
 use Rattle.wgsl_types.specs.Logical.{truth_in, truths_joined, one_selected, each_selected}
 use Rattle.wgsl_values.specs.View.{value_of, vals_view}
-use Rattle.wgsl_values.specs.declared.inst.Instance.{Instance}
+use Rattle.wgsl_values.specs.declared.instance.Instance.{Instance}
 use Rattle.wgsl_layout.proofs.Writing.{vals-from as rest-is}
 
 -- ---- outcomes

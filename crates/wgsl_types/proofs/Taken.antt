@@ -19,7 +19,7 @@ use Rattle.wgsl_types.specs.Bitcast.{IsBitcastTarget, is_word_type, taken_as}
 use Rattle.wgsl_types.specs.Lifts.{on_components}
 use Rattle.wgsl_values.proofs.lemmas.Views.{vec_view-is}
 use Rattle.wgsl_values.specs.View.{vec_view}
-use Rattle.wgsl_values.specs.declared.inst.VecInstance.{VecInstance}
+use Rattle.wgsl_values.specs.declared.vector.VecInstance.{VecInstance}
 
 -- the type of a number of the type s that is taken as one of t
 abbrev pub taken_type : Ty → Ty → Ty

@@ -5,11 +5,11 @@ use Rattle.std.specs.Prelude.{decimal}
 use Rattle.wgsl_rules.specs.View.{struct_view as struct_type_view}
 use Rattle.wgsl_rules.specs.declared.ty.StructType.{StructType, out-StructType}
 use Rattle.wgsl_rules.proofs.lemmas.Views.{struct_view-is as struct_type_view-is}
-use Rattle.wgsl_values.specs.declared.inst.Instance.{Instance}
-use Rattle.wgsl_values.specs.declared.inst.ArrayInstance.{ArrayInstance}
-use Rattle.wgsl_values.specs.declared.inst.MatInstance.{MatInstance}
-use Rattle.wgsl_values.specs.declared.inst.StructInstance.{StructInstance}
-use Rattle.wgsl_values.specs.declared.inst.VecInstance.{VecInstance}
+use Rattle.wgsl_values.specs.declared.instance.Instance.{Instance}
+use Rattle.wgsl_values.specs.declared.array.ArrayInstance.{ArrayInstance}
+use Rattle.wgsl_values.specs.declared.matrix.MatInstance.{MatInstance}
+use Rattle.wgsl_values.specs.declared.structure.StructInstance.{StructInstance}
+use Rattle.wgsl_values.specs.declared.vector.VecInstance.{VecInstance}
 use Rattle.wgsl_rules.specs.Paths.{parts}
 use Rattle.wgsl_values.specs.Matrices.{row_count}
 use Rattle.wgsl_values.specs.Texts.{text_of_value, text_of_items, text_of_more_items, text_before_item}

@@ -9,7 +9,7 @@ use Rattle.wgsl_rules.specs.Equal.{same-Decides, number_decided}
 use Rattle.wgsl_rules.specs.Same.{same, same_number}
 use Rattle.wgsl_rules.specs.TypeParts.{array_part, vec_part}
 use Rattle.wgsl_rules.specs.Types.{Ty, bool, array, vec, ptr, ref}
-use Rattle.wgsl_rules.specs.Values.{Val, Vals, AreLiterals, AreStorable, AreVectors, IsLiteral, IsStorable, IsVector, IsWellFormed, deferred, type_of}
+use Rattle.wgsl_rules.specs.Values.{Val, Vals, AreLiterals, AreStorable, AreVectors, IsLiteral, IsStorable, IsVector, type_of}
 use Rattle.wgsl_rules.specs.declared.syntax.AddressSpace.{AddressSpace}
 use Rattle.wgsl_rules.specs.declared.syntax.AccessMode.{AccessMode}
 use Rattle.wgsl_scalar.specs.Literals.{literal_of}
@@ -17,9 +17,9 @@ use Rattle.wgsl_scalar.specs.declared.literal.LiteralInstance.{LiteralInstance}
 use Rattle.wgsl_values.proofs.Typed.{array_part-is}
 use Rattle.wgsl_values.proofs.lemmas.Views.{struct_view-is, value_of-Literal, value_of-Vec}
 use Rattle.wgsl_values.specs.View.{value_of, struct_view, vals_view, vec_view}
-use Rattle.wgsl_values.specs.declared.inst.Instance.{Instance, Literal, Vec}
-use Rattle.wgsl_values.specs.declared.inst.VecInstance.{VecInstance}
-use Rattle.wgsl_values.specs.declared.inst.StructInstance.{StructInstance}
+use Rattle.wgsl_values.specs.declared.instance.Instance.{Instance, Literal, Vec}
+use Rattle.wgsl_values.specs.declared.vector.VecInstance.{VecInstance}
+use Rattle.wgsl_values.specs.declared.structure.StructInstance.{StructInstance}
 
 -- ---- lists
 

@@ -11,12 +11,12 @@ use Rattle.wgsl_rules.specs.Values.{Step, Val, array_of, atomic_of, matrix, vect
 use Rattle.wgsl_values.specs.Parts.{component_at, components}
 use Rattle.wgsl_values.specs.Rows.{holding, lent_type}
 use Rattle.wgsl_values.specs.View.{value_of, array_view, atomic_view, mat_view, vec_view, vals_view}
-use Rattle.wgsl_values.specs.Written.{IsAsSound, IsKept, IsWritten, KeepsWhole, with_part, with_inner_part, with_placed, with_member}
-use Rattle.wgsl_values.specs.declared.inst.Instance.{Instance}
-use Rattle.wgsl_values.specs.declared.inst.ArrayInstance.{ArrayInstance}
-use Rattle.wgsl_values.specs.declared.inst.AtomicInstance.{AtomicInstance}
-use Rattle.wgsl_values.specs.declared.inst.MatInstance.{MatInstance}
-use Rattle.wgsl_values.specs.declared.inst.VecInstance.{VecInstance}
+use Rattle.wgsl_values.specs.Written.{IsAsSound, IsKept, IsWritten, KeepsWhole, with_part, with_inner_part, with_member}
+use Rattle.wgsl_values.specs.declared.instance.Instance.{Instance}
+use Rattle.wgsl_values.specs.declared.array.ArrayInstance.{ArrayInstance}
+use Rattle.wgsl_values.specs.declared.atomic.AtomicInstance.{AtomicInstance}
+use Rattle.wgsl_values.specs.declared.matrix.MatInstance.{MatInstance}
+use Rattle.wgsl_values.specs.declared.vector.VecInstance.{VecInstance}
 use Rattle.wgsl_values.proofs.lemmas.Replaced.{content-kept, part-kept, part-sound}
 use Rattle.wgsl_values.proofs.lemmas.Steps.{item-storable}
 use Rattle.wgsl_values.proofs.lemmas.Views.{array_view-is, mat_view-is, vec_view-is}

@@ -12,8 +12,8 @@ use Rattle.wgsl_rules.specs.declared.ty.Type.{the_lemmas as type_lemmas}
 use Rattle.wgsl_scalar.specs.declared.literal.LiteralInstance.{LiteralInstance}
 use Rattle.wgsl_values.specs.Make.{literals_view}
 use Rattle.wgsl_values.specs.View.{value_of, vals_view}
-use Rattle.wgsl_values.specs.declared.inst.Instance.{Instance}
-use Rattle.wgsl_values.specs.declared.inst.Instance.TheVariants as inst
+use Rattle.wgsl_values.specs.declared.instance.Instance.{Instance}
+use Rattle.wgsl_values.specs.declared.instance.Instance.TheVariants as inst
 use Rattle.wgsl_values.proofs.Typed.{first_type-at}
 use Rattle.wgsl_values.proofs.lemmas.Views.{value_of-Literal, count-vals_view}
 

@@ -8,9 +8,9 @@ use Rattle.wgsl_scalar.specs.Literals.{literal_of}
 use Rattle.wgsl_scalar.specs.declared.literal.LiteralInstance.{LiteralInstance}
 use Rattle.wgsl_values.specs.Matrices.{behind, row, tabulated}
 use Rattle.wgsl_values.specs.View.{value_of, mat_view, vec_view, vals_view}
-use Rattle.wgsl_values.specs.declared.inst.Instance.{Instance, Literal}
-use Rattle.wgsl_values.specs.declared.inst.MatInstance.{MatInstance}
-use Rattle.wgsl_values.specs.declared.inst.VecInstance.{VecInstance}
+use Rattle.wgsl_values.specs.declared.instance.Instance.{Instance, Literal}
+use Rattle.wgsl_values.specs.declared.matrix.MatInstance.{MatInstance}
+use Rattle.wgsl_values.specs.declared.vector.VecInstance.{VecInstance}
 use Rattle.wgsl_values.proofs.lemmas.Views.{value_of-Literal, mat_view-is, vec_view-is, item_within}
 
 -- ---- lists of values that grow at the end

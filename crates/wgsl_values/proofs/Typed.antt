@@ -3,15 +3,15 @@ use Rattle.std.proofs.Common.{◌≡◌, ◌↔◌, ℕ, ◌<◌, ◌≤◌, Lis
 use Rattle.wgsl_rules.proofs.lemmas.CommonTypes.{struct_part-is}
 use Rattle.wgsl_rules.specs.Equal.{same_is}
 use Rattle.wgsl_rules.specs.Same.{same, same_space, same_access, same_number}
-use Rattle.wgsl_rules.specs.Types.{Ty, bool, struct, array, vec, atomic, ref}
+use Rattle.wgsl_rules.specs.Types.{Ty, bool, array, vec, atomic, ref}
 use Rattle.wgsl_rules.specs.TypeParts.{struct_part, array_part}
 use Rattle.wgsl_rules.specs.Paths.{parts}
 use Rattle.wgsl_rules.specs.Values.{count, type_of, first_type}
 use Rattle.wgsl_rules.specs.declared.syntax.AddressSpace.{AddressSpace}
 use Rattle.wgsl_rules.specs.declared.syntax.AccessMode.{AccessMode}
 use Rattle.wgsl_values.specs.View.{value_of, vals_view, array_view}
-use Rattle.wgsl_values.specs.declared.inst.Instance.{Instance}
-use Rattle.wgsl_values.specs.declared.inst.ArrayInstance.{ArrayInstance}
+use Rattle.wgsl_values.specs.declared.instance.Instance.{Instance}
+use Rattle.wgsl_values.specs.declared.array.ArrayInstance.{ArrayInstance}
 use Rattle.wgsl_values.proofs.lemmas.Views.{array_view-is, count-vals_view}
 
 -- ---- tests one after the other

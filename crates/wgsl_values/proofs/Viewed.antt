@@ -5,7 +5,7 @@ use Rattle.wgsl_rules.proofs.lemmas.Converted.{storable-well_formed}
 use Rattle.wgsl_rules.specs.Paths.{placed, index_in, member_named, within, part_at, viewed}
 use Rattle.wgsl_rules.specs.Refusals.{not_indexable, out_of_bounds}
 use Rattle.wgsl_rules.specs.Types.{Ty}
-use Rattle.wgsl_rules.specs.Values.{Step, member, index, Val, record_of, array_of, vector, matrix, deferred, Vals, no_vals, val, item, count, type_of, IsStorable, AreStorable, IsWellFormed}
+use Rattle.wgsl_rules.specs.Values.{Step, member, index, Val, record_of, array_of, vector, matrix, Vals, no_vals, val, item, count, type_of, AreStorable, IsWellFormed}
 use Rattle.wgsl_values.specs.Parts.{indexed_parts}
 use Rattle.wgsl_values.proofs.lemmas.Steps.{viewed-member}
 

@@ -11,12 +11,12 @@ use Rattle.wgsl_rules.specs.Values.{Val, Vals, no_vals, val, item, record_of, ar
 use Rattle.wgsl_values.specs.Parts.{as_record, as_vector, component_at, components}
 use Rattle.wgsl_values.specs.View.{value_of, array_view, mat_view, struct_view, vec_view, vals_view}
 use Rattle.wgsl_values.specs.Written.{as_array, as_matrix, replaced, with_part, with_inner_part, with_placed, with_member}
-use Rattle.wgsl_values.specs.declared.inst.Instance.{Instance, Vec}
-use Rattle.wgsl_values.specs.declared.inst.Instance.TheViews.{roll-ArrayInstance, roll-MatInstance, roll-StructInstance, roll-VecInstance}
-use Rattle.wgsl_values.specs.declared.inst.ArrayInstance.{ArrayInstance}
-use Rattle.wgsl_values.specs.declared.inst.MatInstance.{MatInstance}
-use Rattle.wgsl_values.specs.declared.inst.StructInstance.{StructInstance}
-use Rattle.wgsl_values.specs.declared.inst.VecInstance.{VecInstance}
+use Rattle.wgsl_values.specs.declared.instance.Instance.{Instance, Vec}
+use Rattle.wgsl_values.specs.declared.instance.Instance.TheViews.{roll-ArrayInstance, roll-MatInstance, roll-StructInstance, roll-VecInstance}
+use Rattle.wgsl_values.specs.declared.array.ArrayInstance.{ArrayInstance}
+use Rattle.wgsl_values.specs.declared.matrix.MatInstance.{MatInstance}
+use Rattle.wgsl_values.specs.declared.structure.StructInstance.{StructInstance}
+use Rattle.wgsl_values.specs.declared.vector.VecInstance.{VecInstance}
 use Rattle.wgsl_values.proofs.lemmas.Views.{array_view-is, mat_view-is, struct_view-is, vec_view-is, value_of-Vec, vals_view-set}
 use Rattle.wgsl_values.proofs.lemmas.Steps.{part_at-array, part_at-vector, part_at-matrix, with_part-own, with_inner_part-is}
 

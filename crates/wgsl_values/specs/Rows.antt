@@ -8,10 +8,10 @@ use Rattle.std.specs.contracts.impls.GlobalAllocator.TheImpl.{ghosts}
 use Rattle.wgsl_rules.specs.Types.{Ty}
 use Rattle.wgsl_rules.specs.Values.{type_of}
 use Rattle.wgsl_values.specs.View.{value_of}
-use Rattle.wgsl_values.specs.contracts.inst.Instance.{the_row}
-use Rattle.wgsl_values.specs.declared.inst.Instance.{Instance}
-use Rattle.wgsl_values.specs.declared.inst.Instance.TheViews.{roll-AtomicInstance}
-use Rattle.wgsl_values.specs.declared.inst.AtomicInstance.{AtomicInstance}
+use Rattle.wgsl_values.specs.contracts.instance.Instance.{the_row}
+use Rattle.wgsl_values.specs.declared.instance.Instance.{Instance}
+use Rattle.wgsl_values.specs.declared.instance.Instance.TheViews.{roll-AtomicInstance}
+use Rattle.wgsl_values.specs.declared.atomic.AtomicInstance.{AtomicInstance}
 
 abbrev pub list_row : RattleType
 list_row = vec.the_row the_row global.the_row ghosts

@@ -3,16 +3,16 @@ use Rattle.std.specs.Prelude.{List, [], ◌∷◌, map, string_bytes}
 use Rattle.wgsl_rules.specs.Values.{Step, member, index, Reference, Val, record_of, array_of, vector, matrix, atomic_of, pointer, reference, deferred, Vals, no_vals, val}
 use Rattle.wgsl_rules.specs.View.{type_view}
 use Rattle.wgsl_scalar.specs.Literals.{literal_of}
-use Rattle.wgsl_values.specs.declared.inst.Instance.{Instance}
-use Rattle.wgsl_values.specs.declared.inst.ArrayInstance.{ArrayInstance}
-use Rattle.wgsl_values.specs.declared.inst.AtomicInstance.{AtomicInstance}
-use Rattle.wgsl_values.specs.declared.inst.MatInstance.{MatInstance}
-use Rattle.wgsl_values.specs.declared.inst.PtrInstance.{PtrInstance}
-use Rattle.wgsl_values.specs.declared.inst.RefInstance.{RefInstance}
-use Rattle.wgsl_values.specs.declared.inst.StructInstance.{StructInstance}
-use Rattle.wgsl_values.specs.declared.inst.VecInstance.{VecInstance}
-use Rattle.wgsl_values.specs.declared.inst.Instance.TheOpen.{Instance-F, ArrayInstance-F, AtomicInstance-F, MatInstance-F, StructInstance-F, VecInstance-F}
-use Rattle.wgsl_values.specs.declared.inst.Instance.TheFolds.{fold-Instance, fold-ArrayInstance, fold-AtomicInstance, fold-MatInstance, fold-StructInstance, fold-VecInstance}
+use Rattle.wgsl_values.specs.declared.instance.Instance.{Instance}
+use Rattle.wgsl_values.specs.declared.array.ArrayInstance.{ArrayInstance}
+use Rattle.wgsl_values.specs.declared.atomic.AtomicInstance.{AtomicInstance}
+use Rattle.wgsl_values.specs.declared.matrix.MatInstance.{MatInstance}
+use Rattle.wgsl_values.specs.declared.pointer.PtrInstance.{PtrInstance}
+use Rattle.wgsl_values.specs.declared.pointer.RefInstance.{RefInstance}
+use Rattle.wgsl_values.specs.declared.structure.StructInstance.{StructInstance}
+use Rattle.wgsl_values.specs.declared.vector.VecInstance.{VecInstance}
+use Rattle.wgsl_values.specs.declared.instance.Instance.TheOpen.{Instance-F, ArrayInstance-F, AtomicInstance-F, MatInstance-F, StructInstance-F, VecInstance-F}
+use Rattle.wgsl_values.specs.declared.instance.Instance.TheFolds.{fold-Instance, fold-ArrayInstance, fold-AtomicInstance, fold-MatInstance, fold-StructInstance, fold-VecInstance}
 use Rattle.wgsl_values.specs.declared.view.MemView.{MemView}
 use Rattle.wgsl_values.specs.declared.view.MemView.TheOpen.{MemView-F}
 use Rattle.wgsl_values.specs.declared.view.MemView.TheFolds.{fold-MemView}

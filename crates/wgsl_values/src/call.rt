@@ -21,8 +21,8 @@ ghost use Rattle.wgsl_values.specs.Signatures.{
   signature_text,
 };
 
-use crate::display::before_item;
-use crate::inst::Instance;
+use crate::instance::Instance;
+use crate::lists::before_item;
 use std::alloc::{AllocError, Global};
 use std::fmt;
 use std::fmt::Display;

@@ -1,19 +1,12 @@
 //! Iterators over the parts of values.
 
-ghost use Rattle.std.specs.Prelude.{◌≡◌};
 ghost use Rattle.std.specs.Iterator.{YieldsFirstBy, item_count};
-ghost use Rattle.wgsl_rules.specs.Paths.{parts};
-ghost use Rattle.wgsl_values.specs.Iterators.{
-  all_components,
-  into_items_left,
-  items_left,
-  listed,
-  mat_items_left,
-};
+ghost use Rattle.std.specs.Prelude.{◌≡◌};
+ghost use Rattle.wgsl_values.specs.Iterators.{into_items_left, items_left, listed, mat_items_left};
 ghost use Rattle.wgsl_values.specs.Parts.{components};
-ghost use Rattle.wgsl_values.specs.View.{value_of, array_view, mat_view, vec_view, vals_view};
+ghost use Rattle.wgsl_values.specs.View.{value_of, vals_view};
 
-use crate::inst::{ArrayInstance, Instance, MatInstance, VecInstance};
+use crate::instance::Instance;
 use std::vec;
 
 /// The items of a list of values, each lent.
@@ -31,13 +24,13 @@ pub struct IntoItems {
 /// The components of a matrix, each lent, column by column.
 #[derive(Drop)]
 pub struct MatItems<'a> {
-    column: Items<'a>,
-    columns: Items<'a>,
+    pub(crate) column: Items<'a>,
+    pub(crate) columns: Items<'a>,
 }
 
 impl<'a> Items<'a> {
     #[tactic(auto, using(crate::proofs::Listed::all_listed))]
-    fn new(rest: &'a [Instance]) -> Items<'a>
+    pub(crate) fn new(rest: &'a [Instance]) -> Items<'a>
         ensures { items_left result ≡ listed (vals_view rest.now) }
     {
         Items { rest }
@@ -60,7 +53,7 @@ impl<'a> Iterator for Items<'a> {
 
 impl IntoItems {
     #[tactic(auto, using(crate::proofs::Listed::all_listed))]
-    fn new(values: Vec<Instance>) -> IntoItems
+    pub(crate) fn new(values: Vec<Instance>) -> IntoItems
         ensures { into_items_left result ≡ listed (vals_view values.items) }
     {
         IntoItems {
@@ -106,81 +99,5 @@ fn column_items(column: &Instance) -> Items<'_>
     match column.as_vec() {
         Some(v) => v.iter(),
         None => Items::new(&[]),
-    }
-}
-
-impl ArrayInstance {
-    /// The elements, in order.
-    pub fn iter(&self) -> Items<'_>
-        ensures { items_left result ≡ listed (parts (array_view self.now)) }
-    {
-        Items::new(&self.components)
-    }
-}
-
-impl VecInstance {
-    /// The components, in order.
-    pub fn iter(&self) -> Items<'_>
-        ensures { items_left result ≡ listed (parts (vec_view self.now)) }
-    {
-        Items::new(&self.components)
-    }
-}
-
-impl MatInstance {
-    /// The columns, in order.
-    pub fn iter_cols(&self) -> Items<'_>
-        ensures { items_left result ≡ listed (parts (mat_view self.now)) }
-    {
-        Items::new(&self.columns)
-    }
-
-    /// The components, column by column.
-    pub fn iter(&self) -> MatItems<'_>
-        ensures { mat_items_left result ≡ all_components (listed (parts (mat_view self.now))) }
-    {
-        MatItems {
-            column: Items::new(&[]),
-            columns: self.iter_cols(),
-        }
-    }
-}
-
-/// The elements, in order.
-impl IntoIterator for ArrayInstance {
-    type Item = Instance;
-
-    type IntoIter = IntoItems;
-
-    ghost into_iter_gives = { λ a items. into_items_left items ≡ listed (parts (array_view a)) };
-
-    fn into_iter(self) -> IntoItems {
-        IntoItems::new(self.components)
-    }
-}
-
-/// The components, in order.
-impl IntoIterator for VecInstance {
-    type Item = Instance;
-
-    type IntoIter = IntoItems;
-
-    ghost into_iter_gives = { λ v items. into_items_left items ≡ listed (parts (vec_view v)) };
-
-    fn into_iter(self) -> IntoItems {
-        IntoItems::new(self.components)
-    }
-}
-
-/// The columns, in order.
-impl IntoIterator for MatInstance {
-    type Item = Instance;
-
-    type IntoIter = IntoItems;
-
-    ghost into_iter_gives = { λ m items. into_items_left items ≡ listed (parts (mat_view m)) };
-
-    fn into_iter(self) -> IntoItems {
-        IntoItems::new(self.columns)
     }
 }

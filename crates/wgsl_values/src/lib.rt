@@ -2,33 +2,34 @@
 //! and every way to look at their parts and to write them.
 #![tactic(auto)]
 
+mod array;
+mod atomic;
 mod call;
-mod clone;
-mod conv;
-mod convert;
-mod display;
-mod eq;
-mod inst;
+mod instance;
 mod iter;
 mod laws;
-mod make;
+mod lists;
 mod matrix;
-mod mem_mut;
 mod part_mut;
-mod parts;
+mod pointer;
 mod shared;
+mod structure;
+mod vector;
 mod view;
 
+pub use array::ArrayInstance;
+pub use atomic::AtomicInstance;
 pub use call::{CallSignature, TpltParam};
-pub use inst::{
-    ArrayInstance, AtomicInstance, Instance, MatInstance, PtrInstance, RefInstance, StructInstance,
-    VecInstance,
-};
+pub use instance::Instance;
 pub use iter::{IntoItems, Items, MatItems};
 pub use laws::{
     a_part_replaced_is_storable, texts_tell_values_apart, transposed_exchanges_rows_and_columns,
     transposed_twice_is_itself,
 };
+pub use matrix::MatInstance;
 pub use part_mut::{PartMut, Placed};
+pub use pointer::{PtrInstance, RefInstance};
 pub use shared::SharedStructType;
+pub use structure::StructInstance;
+pub use vector::VecInstance;
 pub use view::MemView;

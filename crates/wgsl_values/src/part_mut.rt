@@ -1,22 +1,20 @@
 //! Parts of values that are lent to be written (WGSL: memory views; assignment statement).
 
-ghost use Rattle.std.specs.Prelude.{◌≡◌, [], IfOk, OnErr, OnOk};
-ghost use Rattle.std.specs.Borrow.{Lends, RestsIfErr, sem};
-ghost use mir.Syntax.{named};
-ghost use Rattle.wgsl_rules.specs.Paths.{put_viewed, viewed};
-ghost use Rattle.wgsl_rules.specs.Values.{Val, IsStorable, IsWellFormed, type_of};
+ghost use Rattle.std.specs.Borrow.{Lends, sem, RestsIfErr};
+ghost use Rattle.std.specs.Prelude.{◌≡◌, IfOk, []};
+ghost use Rattle.wgsl_rules.specs.Paths.{viewed, put_viewed};
+ghost use Rattle.wgsl_rules.specs.Values.{IsWellFormed, type_of, Val};
 ghost use Rattle.wgsl_scalar.specs.Answers.{Gives};
 ghost use Rattle.wgsl_values.specs.View.{value_of, steps_of};
-ghost use Rattle.wgsl_values.specs.Written.{IsAsSound, KeepsWhole, replaced};
-ghost use Rattle.wgsl_values.specs.contracts.inst.Instance.{the_row};
+ghost use Rattle.wgsl_values.specs.Written.{IsAsSound, KeepsWhole};
+ghost use Rattle.wgsl_values.specs.contracts.instance.Instance.{the_row};
 ghost use Rattle.wgsl_values.specs.contracts.part_mut.PartMut.{the_row as part_row};
+ghost use mir.Syntax.{named};
 
-use crate::inst::Instance;
+use crate::instance::Instance;
 use crate::view::MemView;
 use std::alloc::Global;
-use std::mem;
 use std::ops::{Deref, DerefMut};
-use wgsl_rules::Ty;
 use wgsl_scalar::{Error, LiteralInstance};
 
 /// What can stand in the place of a part of a value: an [`Instance`].
@@ -114,28 +112,6 @@ impl Instance {
                 part,
             }),
             None => unreachable!(),
-        }
-    }
-
-    /// Replaces the value by another of its type, and answers the old one (WGSL: assignment
-    /// statement). Types alone are compared: a runtime-sized array goes in the place of one of
-    /// another length.
-    ///
-    /// A value of another type is refused with `WriteRefType`, the type of the new value first, and
-    /// nothing is then changed; nor is it where memory for that answer is wanting. The conditions:
-    /// the value is well-formed, and the new one may be stored.
-    /// It calls itself for each level of a value or type: keep to 4,095 within a stack of 8 MiB.
-    pub fn write(&mut self, alloc: Global, value: Instance) -> Result<Instance, Error>
-        requires own { IsWellFormed (value_of self.old) }
-        requires new { IsStorable (value_of value) }
-        ensures answer { Gives value_of result (replaced (value_of value) (value_of self.old)) }
-        ensures ok { OnOk result (value_of self.new ≡ value_of value) }
-        ensures err { OnErr result (self.new ≡ self.old) }
-    {
-        if self.same_type(&value) {
-            Ok(mem::replace(self, value))
-        } else {
-            Err(Error::WriteRefType(value.ty(alloc)?, self.ty(alloc)?))
         }
     }
 }

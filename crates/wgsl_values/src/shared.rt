@@ -1,6 +1,9 @@
 //! Structure types that values share (WGSL: structure types).
 
-use crate::parts::position;
+ghost use Rattle.std.specs.Prelude.{◌≡◌};
+ghost use Rattle.wgsl_rules.specs.Paths.{index_in};
+ghost use Rattle.wgsl_rules.specs.View.{struct_view as struct_type_view};
+
 use std::alloc::{AllocError, Global};
 use std::fmt;
 use std::marker::Model;
@@ -161,4 +164,16 @@ impl fmt::Debug for SharedStructType {
     fn fmt<W: fmt::Write>(&self, f: &mut fmt::Formatter<W>) -> fmt::Result {
         fmt::Debug::fmt(self.get(), f)
     }
+}
+
+/// The position of the first member of the name.
+fn position(ty: &StructType, name: &str) -> Option<usize>
+    ensures { result ≡ index_in name.now (struct_type_view ty.now) }
+{
+    for (i, member) in ty.members.iter().enumerate() {
+        if member.name.as_str() == name {
+            return Some(i);
+        }
+    }
+    None
 }

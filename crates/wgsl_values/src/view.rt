@@ -1,36 +1,16 @@
 //! Views into values (WGSL: memory views).
 
-ghost use Rattle.std.specs.Prelude.{
-  ◌≡◌,
-  [],
-  ◌∷◌,
-  ◌++◌,
-  Err,
-  IfOk,
-  IsSomeAnd,
-  None,
-  OnErr,
-  OnOk,
-  option_map,
-  reverse,
-  string_bytes,
-};
-ghost use Rattle.std.specs.Result.{result_ok};
-ghost use Rattle.wgsl_rules.specs.Paths.{member_named, viewed};
-ghost use Rattle.wgsl_rules.specs.Values.{
-  IsWellFormed,
-  index as index_step,
-  member as member_step,
-};
-ghost use Rattle.wgsl_scalar.specs.Answers.{Gives, refusal_of};
-ghost use Rattle.wgsl_values.specs.View.{value_of, steps_of};
+ghost use Rattle.std.specs.Cmp.{partial_equiv_from_equiv};
+ghost use Rattle.std.specs.Prelude.{◌≡◌, IfOk, [], ◌∷◌, ◌++◌, OnErr, OnOk, reverse, string_bytes, Some};
+ghost use Rattle.wgsl_rules.specs.Values.{index as index_step, member as member_step};
+ghost use Rattle.wgsl_values.specs.Equal.{views_equiv};
+ghost use Rattle.wgsl_values.specs.Same.{same_steps};
+ghost use Rattle.wgsl_values.specs.Texts.{text_of_steps};
+ghost use Rattle.wgsl_values.specs.View.{steps_of};
 
-use crate::inst::Instance;
-use crate::parts::nth;
 use std::alloc::{AllocError, Global};
-use std::mem;
-use wgsl_rules::Ty;
-use wgsl_scalar::Error;
+use std::fmt::Display;
+use std::{fmt, mem};
 
 /// A way from a value to a part of it, the outermost step first.
 ///
@@ -96,7 +76,7 @@ impl MemView {
 
     // The steps of the view from the last to the first, and behind them those of the other.
     #[tactic(auto, using(crate::proofs::Turned::turned))]
-    pub(crate) fn turned_onto(mut self, mut done: MemView) -> MemView
+    fn turned_onto(mut self, mut done: MemView) -> MemView
         ensures { steps_of result ≡ reverse (steps_of self) ++ steps_of done }
     {
         loop {
@@ -109,6 +89,35 @@ impl MemView {
                 MemView::Index(i, mut rest) => {
                     self = mem::replace(&mut *rest, done);
                     done = MemView::Index(i, rest);
+                }
+            }
+        }
+    }
+
+    /// A copy of the view, in memory of its own.
+    pub fn clone(&self, alloc: Global) -> Result<MemView, AllocError>
+        ensures { IfOk result (λ view. steps_of view ≡ steps_of self.now) }
+    {
+        Ok(self.turned_copy(alloc)?.turned_onto(MemView::Whole))
+    }
+
+    // A copy of the steps, from the last to the first.
+    #[tactic(auto, using(crate::proofs::Turned::turned))]
+    fn turned_copy(&self, alloc: Global) -> Result<MemView, AllocError>
+        ensures { IfOk result (λ view. steps_of view ≡ reverse (steps_of self.now)) }
+    {
+        let mut copy = MemView::Whole;
+        let mut rest = self;
+        loop {
+            match rest {
+                MemView::Whole => return Ok(copy),
+                MemView::Member(name, next) => {
+                    copy = MemView::Member(name.clone()?, Box::new(alloc, copy)?);
+                    rest = next;
+                }
+                MemView::Index(i, next) => {
+                    copy = MemView::Index(*i, Box::new(alloc, copy)?);
+                    rest = next;
                 }
             }
         }
@@ -128,60 +137,58 @@ impl Drop for MemView {
     }
 }
 
-impl Instance {
-    fn member(&self, name: &str) -> Option<&Instance>
-        ensures { option_map (λ v. value_of v.now) result ≡ option_map (λ p. p.1) (member_named name.now (value_of self.now)) }
-    {
-        self.as_struct()?.member(name)
-    }
+/// A colon before each step, and nothing for the value itself.
+impl Display for MemView {
+    ghost output = { λ view. Some (text_of_steps (steps_of view)) };
 
-    // The part that the view leads to; `None` where it leads nowhere.
-    fn part_viewed(&self, view: &MemView) -> Option<&Instance>
-        ensures { option_map (λ v. value_of v.now) result ≡ result_ok (viewed (steps_of view.now) (value_of self.now)) }
-    {
-        match view {
-            MemView::Whole => Some(self),
-            MemView::Member(name, rest) => self.member(name.as_str())?.part_viewed(rest),
-            MemView::Index(i, rest) => nth(self.indexed()?, *i)?.part_viewed(rest),
+    fn fmt<W: fmt::Write>(&self, f: &mut fmt::Formatter<W>) -> fmt::Result {
+        let mut steps = self;
+        loop {
+            match steps {
+                MemView::Whole => return Ok(()),
+                MemView::Member(name, rest) => {
+                    write!(f, ":{name}")?;
+                    steps = rest;
+                }
+                MemView::Index(i, rest) => {
+                    write!(f, ":{i}")?;
+                    steps = rest;
+                }
+            }
         }
     }
+}
 
-    // Why the first step that leads nowhere does. The conditions: there is one, and the value is
-    // well-formed.
-    fn refusal(&self, alloc: Global, view: &MemView) -> Result<Error, AllocError>
-        requires well_formed { IsWellFormed (value_of self.now) }
-        requires nowhere { result_ok (viewed (steps_of view.now) (value_of self.now)) ≡ None }
-        ensures { IfOk result (λ e. IsSomeAnd (refusal_of e) (λ f. viewed (steps_of view.now) (value_of self.now) ≡ Err f)) }
-    {
-        match view {
-            MemView::Whole => unreachable!(),
-            MemView::Member(name, rest) => match self.member(name.as_str()) {
-                Some(member) => member.refusal(alloc, rest),
-                None => Ok(Error::Component(self.ty(alloc)?, name.clone()?)),
-            },
-            MemView::Index(i, rest) => match self.indexed() {
-                Some(parts) => match nth(parts, *i) {
-                    Some(part) => part.refusal(alloc, rest),
-                    None => Ok(Error::OutOfBounds(*i, self.ty(alloc)?, parts.len())),
-                },
-                None => Ok(Error::NotIndexable(self.ty(alloc)?)),
-            },
+impl PartialEq for MemView {
+    ghost eq = { λ v w. same_steps (steps_of v) (steps_of w) };
+
+    ghost laws = { partial_equiv_from_equiv views_equiv };
+
+    fn eq(&self, other: &MemView) -> bool {
+        let (mut own, mut others) = (self, other);
+        loop {
+            match (own, others) {
+                (MemView::Whole, MemView::Whole) => return true,
+                (MemView::Member(a, rest), MemView::Member(b, next)) => {
+                    if a.as_str() != b.as_str() {
+                        return false;
+                    }
+                    own = rest;
+                    others = next;
+                }
+                (MemView::Index(i, rest), MemView::Index(j, next)) => {
+                    if *i != *j {
+                        return false;
+                    }
+                    own = rest;
+                    others = next;
+                }
+                _ => return false,
+            }
         }
     }
+}
 
-    /// The part that the view leads to (WGSL: memory views).
-    ///
-    /// The first step that leads nowhere is refused, with the type of the value that it was taken
-    /// from: `Component` for a name, `NotIndexable` or `OutOfBounds` for an index. Memory is taken
-    /// for the type and the name of a refusal alone. The condition: the value is well-formed.
-    /// It calls itself for each step that the value has: keep to 4,095 within a stack of 8 MiB.
-    pub fn view(&self, alloc: Global, view: &MemView) -> Result<&Instance, Error>
-        requires { IsWellFormed (value_of self.now) }
-        ensures { Gives (λ v. value_of v.now) result (viewed (steps_of view.now) (value_of self.now)) }
-    {
-        match self.part_viewed(view) {
-            Some(part) => Ok(part),
-            None => Err(self.refusal(alloc, view)?),
-        }
-    }
+impl Eq for MemView {
+    ghost laws = { views_equiv };
 }

@@ -1,9 +1,9 @@
 -- Steps into values, and what is put behind them.
-use Rattle.std.proofs.Common.{◌≡◌, ℕ, zero, suc, Bool, List, [], ◌∷◌, Option, Some, None, option_map, option_and_then, Ok, Err, refl, sym, ap, ◌∙◌, subst}
-use Rattle.wgsl_rules.specs.Values.{Step, member, index, Val, record_of, vector, array_of, matrix, Vals, no_vals, val, item, count, type_of, IsStorable, AreStorable}
-use Rattle.wgsl_rules.specs.Refusals.{Refusal, component, out_of_bounds, Outcome, and_then}
+use Rattle.std.proofs.Common.{◌≡◌, ℕ, zero, suc, Bool, List, [], ◌∷◌, Option, Some, None, option_map, Ok, Err, refl, sym, ap, ◌∙◌, subst}
+use Rattle.wgsl_rules.specs.Values.{Step, member, index, Val, record_of, vector, array_of, matrix, Vals, no_vals, val, item, type_of, IsStorable, AreStorable}
+use Rattle.wgsl_rules.specs.Refusals.{component, Outcome, and_then}
 use Rattle.wgsl_rules.proofs.lemmas.Paths.{member_named-item, part_at-item, stepped-item}
-use Rattle.wgsl_rules.specs.Paths.{parts, placed, index_in, member_named, or_refused, part_at, stepped, viewed, path_of, replace_item, with_parts, put_tree, put_viewed}
+use Rattle.wgsl_rules.specs.Paths.{parts, member_named, or_refused, part_at, stepped, viewed, path_of, replace_item, with_parts, put_tree, put_viewed}
 use Rattle.wgsl_values.specs.Written.{with_part, with_inner_part, with_placed, with_member}
 
 -- ---- parts that are there

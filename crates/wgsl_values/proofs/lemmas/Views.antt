@@ -7,15 +7,15 @@ use Rattle.wgsl_rules.specs.declared.ty.Type.{«Type» as RType}
 use Rattle.wgsl_scalar.specs.Literals.{literal_of}
 use Rattle.wgsl_scalar.specs.declared.literal.LiteralInstance.{LiteralInstance}
 use Rattle.wgsl_values.specs.View.{value_of, array_view, atomic_view, mat_view, struct_view, vec_view, ptr_view, ref_view, vals_view, steps_of}
-use Rattle.wgsl_values.specs.declared.inst.Instance.{Instance, the_lemmas}
-use Rattle.wgsl_values.specs.declared.inst.Instance.TheVariants as inst
-use Rattle.wgsl_values.specs.declared.inst.ArrayInstance.{ArrayInstance}
-use Rattle.wgsl_values.specs.declared.inst.AtomicInstance.{AtomicInstance}
-use Rattle.wgsl_values.specs.declared.inst.MatInstance.{MatInstance}
-use Rattle.wgsl_values.specs.declared.inst.PtrInstance.{PtrInstance}
-use Rattle.wgsl_values.specs.declared.inst.RefInstance.{RefInstance}
-use Rattle.wgsl_values.specs.declared.inst.StructInstance.{StructInstance}
-use Rattle.wgsl_values.specs.declared.inst.VecInstance.{VecInstance}
+use Rattle.wgsl_values.specs.declared.instance.Instance.{Instance, the_lemmas}
+use Rattle.wgsl_values.specs.declared.instance.Instance.TheVariants as inst
+use Rattle.wgsl_values.specs.declared.array.ArrayInstance.{ArrayInstance}
+use Rattle.wgsl_values.specs.declared.atomic.AtomicInstance.{AtomicInstance}
+use Rattle.wgsl_values.specs.declared.matrix.MatInstance.{MatInstance}
+use Rattle.wgsl_values.specs.declared.pointer.PtrInstance.{PtrInstance}
+use Rattle.wgsl_values.specs.declared.pointer.RefInstance.{RefInstance}
+use Rattle.wgsl_values.specs.declared.structure.StructInstance.{StructInstance}
+use Rattle.wgsl_values.specs.declared.vector.VecInstance.{VecInstance}
 use Rattle.wgsl_values.specs.declared.view.MemView.{MemView, Member, Index, the_lemmas as view_lemmas}
 
 -- ---- values

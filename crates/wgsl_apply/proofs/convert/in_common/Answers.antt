@@ -1,6 +1,6 @@
 use Rattle.std.proofs.Common.{refl, Vec, Global}
 use Rattle.wgsl_values.specs.View.{value_of}
-use Rattle.wgsl_values.specs.declared.inst.Instance.{Instance}
+use Rattle.wgsl_values.specs.declared.instance.Instance.{Instance}
 use Rattle.wgsl_apply.proofs.Conversions.{ok-storable, ok-many}
 use Rattle.wgsl_apply.proofs.convert.in_common.Goals as goal
 

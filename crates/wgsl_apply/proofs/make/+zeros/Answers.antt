@@ -7,7 +7,7 @@ use Rattle.wgsl_rules.specs.declared.ty.StructType.{out-StructType}
 use Rattle.wgsl_rules.specs.declared.ty.Type.{the_lemmas as type_lemmas}
 use Rattle.wgsl_rules.proofs.lemmas.Views.{struct_view-is}
 use Rattle.wgsl_values.specs.View.{vals_view, value_of}
-use Rattle.wgsl_values.specs.declared.inst.Instance.{Instance}
+use Rattle.wgsl_values.specs.declared.instance.Instance.{Instance}
 use Rattle.wgsl_apply.proofs.Parts.{members-none, members-push, ok-zero}
 use Rattle.wgsl_apply.proofs.Zeros.{record-made}
 use Rattle.wgsl_apply.proofs.make.+zeros.Goals as goal

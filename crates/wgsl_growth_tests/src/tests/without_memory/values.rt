@@ -151,6 +151,7 @@ fn values_are_tested(rt: HostRuntime) {
         assert_that(&rt, value.has_ty(ty));
         assert_that(&rt, !value.has_ty(&target));
         assert_same(&rt, value.is_convertible_to(&target), *converts);
+        assert_that(&rt, value.same_type(value));
     }
     assert!(rt; deferred.is_well_formed());
     assert!(rt; !deferred.is_storable());

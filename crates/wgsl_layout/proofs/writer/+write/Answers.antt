@@ -2,7 +2,7 @@ use Rattle.std.proofs.Common.{◌<◌, ◌*◌, ◌+◌, ◌∙◌, ap, sym, ari
 use Rattle.wgsl_rules.specs.Paths.{parts}
 use Rattle.wgsl_rules.specs.Values.{Vals, count}
 use Rattle.wgsl_values.specs.View.{value_of, mat_view}
-use Rattle.wgsl_values.specs.declared.inst.Instance.{Instance}
+use Rattle.wgsl_values.specs.declared.instance.Instance.{Instance}
 use Rattle.wgsl_layout.specs.Plan.{plan_view}
 use Rattle.wgsl_layout.specs.Walk.{put_row}
 use Rattle.wgsl_layout.proofs.Writing.{vals-from, from-past, column-next, item-smaller, value-smaller, row-next, has-place, member-next, item-there, item-is}

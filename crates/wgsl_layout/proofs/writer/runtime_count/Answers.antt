@@ -2,9 +2,9 @@ use Rattle.std.proofs.Common.{◌≡◌, ◌∙◌, ap, sym}
 use Rattle.wgsl_rules.specs.Layout.{runtime_count, last_elements}
 use Rattle.wgsl_rules.specs.Paths.{parts}
 use Rattle.wgsl_values.specs.View.{value_of, struct_view}
-use Rattle.wgsl_values.specs.declared.inst.Instance.{Instance}
-use Rattle.wgsl_values.specs.declared.inst.StructInstance.{StructInstance}
-use Rattle.wgsl_values.specs.declared.inst.Instance.TheVariants as inst
+use Rattle.wgsl_values.specs.declared.instance.Instance.{Instance}
+use Rattle.wgsl_values.specs.declared.structure.StructInstance.{StructInstance}
+use Rattle.wgsl_values.specs.declared.instance.Instance.TheVariants as inst
 use Rattle.wgsl_values.proofs.lemmas.Views.{value_of-Struct, struct_view-is}
 use Rattle.wgsl_layout.proofs.Totals.{last-elements, no-last}
 use Rattle.wgsl_layout.proofs.writer.runtime_count.Goals as goal

@@ -3,7 +3,7 @@ use Rattle.wgsl_ops.proofs.InPlace.{place_there}
 use Rattle.wgsl_rules.specs.Paths.{parts}
 use Rattle.wgsl_values.specs.View.{value_of, vec_view}
 use Rattle.wgsl_values.specs.Written.{with_part}
-use Rattle.wgsl_values.specs.declared.inst.Instance.{Instance}
+use Rattle.wgsl_values.specs.declared.instance.Instance.{Instance}
 use Rattle.wgsl_ops.proofs.in_place.replace_component.Goals as goal
 
 pub returns-in-Some-clause-replaced : goal.returns-in-Some-clause-replaced

@@ -10,7 +10,7 @@ use Rattle.wgsl_types.proofs.SoFar.{HasMade, made-start, made-more, made-refused
 use Rattle.wgsl_types.specs.Bitcast.{taken_as}
 use Rattle.wgsl_values.proofs.lemmas.Views.{value_of-Literal}
 use Rattle.wgsl_values.specs.View.{value_of, vals_view}
-use Rattle.wgsl_values.specs.declared.inst.Instance.TheVariants as inst
+use Rattle.wgsl_values.specs.declared.instance.Instance.TheVariants as inst
 use Rattle.wgsl_types.proofs.bitcast.each_taken_as.Goals as goal
 
 pub unwrap_literal_ref-requires : goal.unwrap_literal_ref-requires

@@ -9,7 +9,7 @@ use Rattle.wgsl_types.proofs.Picked.{common-storable-pair}
 use Rattle.wgsl_types.proofs.SoFar.{gives-storable}
 use Rattle.wgsl_types.specs.Logical.{is_known, selected, selected_by}
 use Rattle.wgsl_values.specs.View.{value_of}
-use Rattle.wgsl_values.specs.declared.inst.Instance.{Instance}
+use Rattle.wgsl_values.specs.declared.instance.Instance.{Instance}
 use Rattle.wgsl_types.proofs.logical.select.Goals as goal
 
 pub selected_by-requires-clause-first : goal.selected_by-requires-clause-first

@@ -4,7 +4,7 @@ use Rattle.wgsl_rules.specs.Types.{Ty}
 use Rattle.wgsl_rules.specs.Layout.{layout_of}
 use Rattle.wgsl_rules.specs.View.{type_view}
 use Rattle.wgsl_values.specs.View.{value_of}
-use Rattle.wgsl_values.specs.declared.inst.Instance.{Instance}
+use Rattle.wgsl_values.specs.declared.instance.Instance.{Instance}
 use Rattle.wgsl_layout.specs.Buffers.{buffer, without_padding, IsReadOf, decode}
 use Rattle.wgsl_layout.specs.Laws.{AreBytes}
 use Rattle.wgsl_layout.proofs.lemmas.Decoded.{decoding-is-reading}

@@ -6,8 +6,8 @@ use Rattle.wgsl_rules.specs.Values.{type_of, first_type, count, array_type}
 use Rattle.wgsl_layout.specs.TypePlan.{IsPlanOf}
 use Rattle.wgsl_values.specs.View.{value_of, array_view, vals_view}
 use Rattle.wgsl_values.specs.Parts.{is_runtime_sized}
-use Rattle.wgsl_values.specs.declared.inst.ArrayInstance.{ArrayInstance}
-use Rattle.wgsl_values.specs.declared.inst.Instance.{Instance}
+use Rattle.wgsl_values.specs.declared.array.ArrayInstance.{ArrayInstance}
+use Rattle.wgsl_values.specs.declared.instance.Instance.{Instance}
 use Rattle.wgsl_values.proofs.lemmas.Views.{value_of-Array, array_view-is}
 use Rattle.wgsl_values.proofs.lemmas.Nodes.{nodes}
 use Rattle.wgsl_layout.proofs.Making.{first-element}

@@ -2,7 +2,7 @@ use Rattle.std.proofs.Common.{◌≡◌, ◌∙◌, Some, subst, sym, ap}
 use Rattle.wgsl_rules.specs.Paths.{parts}
 use Rattle.wgsl_rules.specs.Values.{Vals, item}
 use Rattle.wgsl_values.specs.View.{value_of}
-use Rattle.wgsl_values.specs.declared.inst.Instance.{Instance}
+use Rattle.wgsl_values.specs.declared.instance.Instance.{Instance}
 use Rattle.wgsl_values.proofs.lemmas.Views.{item_within}
 use Rattle.wgsl_layout.proofs.Sharing.{read-part}
 use Rattle.wgsl_layout.proofs.types.Types.part.Goals as goal

@@ -3,7 +3,7 @@ use Rattle.std.specs.List.{zip}
 use Rattle.wgsl_rules.specs.Paths.{parts}
 use Rattle.wgsl_rules.specs.Values.{count}
 use Rattle.wgsl_values.specs.View.{value_of, mat_view}
-use Rattle.wgsl_values.specs.declared.inst.Instance.{Vec}
+use Rattle.wgsl_values.specs.declared.instance.Instance.{Vec}
 use Rattle.wgsl_ops.specs.Closures.{AnswersAtPair, pairs_of}
 use Rattle.wgsl_ops.proofs.Answering.{pair-literals}
 use Rattle.wgsl_ops.proofs.ColumnAnswers.{as_many_columns, callable_pairs-here, callable_pairs-later, column-known, column-pair-known, column-storable, column_refused, columns_push, matrices-answered, matrix-answered, matrix-known, matrix-paths, matrix-storable, no_pairs_left, pairs_from}

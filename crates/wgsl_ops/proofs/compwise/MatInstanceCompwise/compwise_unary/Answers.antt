@@ -3,7 +3,7 @@ use Rattle.wgsl_rules.specs.Paths.{parts}
 use Rattle.wgsl_rules.specs.Values.{count}
 use Rattle.wgsl_values.specs.Iterators.{all_components}
 use Rattle.wgsl_values.specs.View.{value_of, mat_view}
-use Rattle.wgsl_values.specs.declared.inst.Instance.{Vec}
+use Rattle.wgsl_values.specs.declared.instance.Instance.{Vec}
 use Rattle.wgsl_ops.specs.Closures.{AnswersAt, components_of}
 use Rattle.wgsl_ops.proofs.Answering.{length-values, unary-literals}
 use Rattle.wgsl_ops.proofs.ColumnAnswers.{callable-here, callable-later, column-known, column-storable, column_refused, columns_from, columns_push, matrix-answered, matrix-known, matrix-paths, matrix-storable, no_columns_left}

@@ -1,5 +1,0 @@
-use Rattle.wgsl_values.specs.declared.view.MemView.{size-MemView}
-use Rattle.wgsl_values.proofs.inst.Instance.+put.Given as goal
-
-abbrev pub decreases-put : goal.decreases-put
-decreases-put l = size-MemView l.view.now

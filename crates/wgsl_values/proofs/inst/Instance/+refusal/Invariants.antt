@@ -1,5 +1,0 @@
-use Rattle.wgsl_values.specs.declared.view.MemView.{size-MemView}
-use Rattle.wgsl_values.proofs.inst.Instance.+refusal.Given as goal
-
-abbrev pub decreases-refusal : goal.decreases-refusal
-decreases-refusal l = size-MemView l.view.now

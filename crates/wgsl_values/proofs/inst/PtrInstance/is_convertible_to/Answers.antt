@@ -1,5 +1,0 @@
-use Rattle.wgsl_values.proofs.Conversions.{ptr-converts}
-use Rattle.wgsl_values.proofs.inst.PtrInstance.is_convertible_to.Goals as goal
-
-pub returns : goal.returns
-returns c = ptr-converts _ _ _ _ c.has_ty.result c.has_ty.ensures
