@@ -1,65 +1,19 @@
 -- What a value that may be stored converts to may be stored.
-use Rattle.std.proofs.Common.{◌≡◌, ◌∙◌, suc, ℤ, List, [], ◌∷◌, map, length, All, Bool, true, false, ◌==◌, Option, Some, None, option_map, if◌then◌else◌, refl, sym, ap}
+use Rattle.std.proofs.Common.{◌≡◌, suc, List, [], ◌∷◌, map, length, All, Option, Some, None, option_map, refl, sym, ap}
 use Rattle.std.specs.Prelude.{IfOk, IfSome, Result, Ok, Err, option_and_then}
-use Rattle.std.proofs.lemmas.Bool.{false≢true}
 use Rattle.std.proofs.lemmas.List.Elements.{All-nil, All-cons, All-head, All-tail}
 use Rattle.wgsl_rules.specs.Conversion.{common_type_of}
-use Rattle.wgsl_rules.specs.Converted.{converted, all_converted, abstract_converted, type_count}
+use Rattle.wgsl_rules.specs.Converted.{converted}
 use Rattle.wgsl_rules.specs.InCommon.{all_in, all_in_common, prepended}
-use Rattle.wgsl_rules.specs.Kinds as kinds
-use Rattle.wgsl_rules.specs.Kinds.{in_kind}
-use Rattle.wgsl_rules.specs.Same.{same_number}
-use Rattle.wgsl_rules.specs.Types as types
 use Rattle.wgsl_rules.specs.Types.{Ty}
-use Rattle.wgsl_rules.specs.Values.{Val, number, array_of, vector, matrix, deferred, count, type_of, IsStorable, IsWellFormed}
-use Rattle.wgsl_rules.proofs.lemmas.Converted.{mapped, keeps, converted-type, converted-well_formed}
-
-pub well_formed : (v : Val) → IsStorable v → IsWellFormed v
-well_formed (deferred t) h = absurd h
-well_formed v h = h
-
--- ---- no value but a deferred one becomes one
-
-is_deferred : Val → Bool
-is_deferred (deferred t) = true
-is_deferred v = false
-
-in-range : (b : Bool) (x w : Val) → (if b then Some x else None) ≡ Some w → w ≡ x
-in-range true x w e = cc
-in-range false x w e = absurd (cc)
-
-number-stays : (z : ℤ) (w : Val) (t : Ty) → abstract_converted z t ≡ Some w → is_deferred w ≡ false
-unfolding is_deferred
-number-stays z w types.abstract_int e = let same : w ≡ number kinds.abstract_int z = cc in ap is_deferred same
-number-stays z w types.i32 e = ap is_deferred (in-range (in_kind kinds.i32 z) (number kinds.i32 z) w e)
-number-stays z w types.u32 e = ap is_deferred (in-range (in_kind kinds.u32 z) (number kinds.u32 z) w e)
-number-stays z w t e = absurd (cc)
-
-same-deferred : (v w : Val) (t : Ty) → converted v t ≡ Some w → is_deferred w ≡ is_deferred v
-unfolding is_deferred
-same-deferred (number kinds.abstract_int z) w t e = number-stays z w t e
-same-deferred (array_of runtime vs) w (types.array t n) e = ap is_deferred ((mapped (same_number (type_count runtime (count vs)) n) (array_of runtime) (all_converted vs t) w e).is)
-same-deferred (vector vs) w (types.vec n t) e = ap is_deferred ((mapped (count vs == n) vector (all_converted vs t) w e).is)
-same-deferred (matrix vs) w (types.mat n r t) e = ap is_deferred ((mapped (count vs == n) matrix (all_converted vs (types.vec r t)) w e).is)
-same-deferred v w t e = ap is_deferred ((keeps v w t e).1)
-
-not-deferred : (v : Val) → IsStorable v → is_deferred v ≡ false
-unfolding is_deferred
-not-deferred (deferred t) h = absurd h
-not-deferred v h = refl
-
-storable : (w : Val) → is_deferred w ≡ false → IsWellFormed w → IsStorable w
-unfolding is_deferred
-storable (deferred t) e h = absurd (false≢true (sym e))
-storable w e h = h
-
-pub converted-storable : (v w : Val) (t : Ty) → IsStorable v → converted v t ≡ Some w → IsStorable w
-converted-storable v w t h e = storable w (same-deferred v w t e ∙ not-deferred v h) (converted-well_formed v w t (well_formed v h) e)
+use Rattle.wgsl_rules.specs.Values.{Val, type_of, IsStorable}
+use Rattle.wgsl_rules.proofs.lemmas.Converted.{converted-type, storable-well_formed}
+use Rattle.wgsl_store.proofs.ConvertedParts.{converted-storable}
 
 -- what was converted, if it was
 pub some-converted : {X : Type 0} (view : X → Val) (o : Option X) (v : Val) (t : Ty) → option_map view o ≡ converted v t → IsStorable v → IfSome o (λ x. IsStorable (view x) × (type_of (view x) ≡ t))
 some-converted view None v t e h = tt
-some-converted view (Some x) v t e h = (converted-storable v (view x) t h (sym e), converted-type v (view x) t (well_formed v h) (sym e))
+some-converted view (Some x) v t e h = (converted-storable v (view x) t h (sym e), converted-type v (view x) t (storable-well_formed v h) (sym e))
 
 -- ---- several values
 

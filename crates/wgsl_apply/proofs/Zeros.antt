@@ -3,11 +3,11 @@ use Rattle.std.proofs.Common.{◌≡◌, ℕ, List, zero, suc, ◌<◌, ◌≤�
 use Rattle.std.specs.Prelude.{option_map, MatchOption, IfSome, nat_le, if◌then◌else◌}
 use Rattle.std.proofs.lemmas.Bool.{false≢true}
 use Rattle.std.proofs.lemmas.Bool.Decides.{nat_tests}
-use Rattle.wgsl_rules.specs.Converted.{joined}
 use Rattle.wgsl_rules.specs.Layout.{is_from_2_to_4}
 use Rattle.wgsl_rules.specs.Types as types
 use Rattle.wgsl_rules.specs.Types.{Ty, Fields, no_fields, field}
-use Rattle.wgsl_rules.specs.Values.{Val, truth, record_of, array_of, vector, matrix, Vals, no_vals, val, count, type_of, first_type, AllOfType, HaveTypes, IsLiteral, AreLiterals, IsVector, AreVectors, IsStorable, AreStorable}
+use Rattle.wgsl_rules.specs.Values.{Val, truth, record_of, array_of, vector, matrix, Vals, no_vals, count, type_of, first_type, AllOfType, HaveTypes, IsLiteral, AreLiterals, IsVector, AreVectors, IsStorable, AreStorable}
+use Rattle.wgsl_rules.proofs.lemmas.Converted.{joins}
 use Rattle.wgsl_apply.specs.Zeros.{zero_scalar, copies, zero_vector, zero_matrix, zero_array, zero_of, zeros_of}
 
 -- ---- copies of a value
@@ -174,18 +174,6 @@ array-zero t (Some n) o v e =
       typed = λ h. subst (λ x. type_of x ≡ types.array t (Some n)) m.is (rw (count-copies n m.own, first-copies n m.own many, h) refl);
     }
 
-pub record IsJoined (o : Option Val) (os : Option Vals) (vs : Vals) : Type 0 where
-  pub first : Val
-  pub rest : Vals
-  pub first_was : o ≡ Some first
-  pub rest_was : os ≡ Some rest
-  pub is : val first rest ≡ vs
-
-split : (o : Option Val) (os : Option Vals) (vs : Vals) → joined o os ≡ Some vs → IsJoined o os vs
-split None os vs e = absurd (cc)
-split (Some v) None vs e = absurd (cc)
-split (Some v) (Some ws) vs e = record { first = v; rest = ws; first_was = refl; rest_was = refl; is = cc }
-
 pub record IsMappedMembers (f : Vals → Val) (o : Option Vals) (v : Val) : Type 0 where
   pub own : Vals
   pub was : o ≡ Some own
@@ -215,10 +203,10 @@ mutual
   pub zeros-are : (fs : Fields) (vs : Vals) → zeros_of fs ≡ Some vs → IsZeros fs vs
   zeros-are no_fields vs e = let same : no_vals ≡ vs = cc in subst (IsZeros no_fields) same (record { typed = tt; storable = tt })
   zeros-are (field n t s a fs) vs e =
-      let j = split (zero_of t) (zeros_of fs) vs e in
-      let first = zero-is t j.first j.first_was in
-      let rest = zeros-are fs j.rest j.rest_was in
-      subst (IsZeros (field n t s a fs)) j.is (record { typed = (first.typed, rest.typed); storable = (first.storable, rest.storable) })
+      let j = joins (zero_of t) (zeros_of fs) vs e in
+      let first = zero-is t j.first j.first_is in
+      let rest = zeros-are fs j.rest j.rest_is in
+      subst (IsZeros (field n t s a fs)) (sym j.is) (record { typed = (first.typed, rest.typed); storable = (first.storable, rest.storable) })
 
 -- ---- what is made where it may be stored
 

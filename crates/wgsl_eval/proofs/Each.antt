@@ -1,19 +1,9 @@
 -- Steps of loops over what is given for each of a list.
 use Rattle.std.proofs.Common.{◌≡◌, ℕ, zero, suc, ◌+◌, ◌<◌, List, [], ◌∷◌, ◌++◌, length, get_or, take, map, Option, Some, None, refl, arith, add-one}
 use Rattle.std.proofs.lemmas.List.{map-append}
-use Rattle.wgsl_rules.specs.InCommon.{prepended}
 use Rattle.wgsl_rules.specs.Values.{Val}
+use Rattle.wgsl_rules.proofs.Lists.{prepended-step, prepended-none}
 use Rattle.wgsl_eval.specs.Lists.{each_of}
-
-pub prepended-step : (o : Option Val) (p q : Option (List Val)) (ws : List Val) (w : Val) → prepended o p ≡ Some ws
-    → ((rest : List Val) → p ≡ Some rest → q ≡ Some (rest ++ (w ∷ []))) → prepended o q ≡ Some (ws ++ (w ∷ []))
-prepended-step None p q ws w h k = cc
-prepended-step (Some x) None q ws w h k = cc
-prepended-step (Some x) (Some xs) q ws w h k = let e : x ∷ xs ≡ ws = cc in rw (k xs refl, ← e) refl
-
-pub prepended-none : (o : Option Val) → prepended o None ≡ None
-prepended-none None = refl
-prepended-none (Some x) = refl
 
 pub each_of-step : {A : Type 0} (f : A → Option Val) (xs : List A) (i : ℕ) (d : A) (ws : List Val) (w : Val)
     → i < length xs → each_of f (take i xs) ≡ Some ws → f (get_or xs i d) ≡ Some w → each_of f (take (i + 1) xs) ≡ Some (ws ++ (w ∷ []))

@@ -14,6 +14,7 @@ use Rattle.wgsl_rules.specs.View.{type_view}
 use Rattle.wgsl_rules.specs.declared.syntax.BinaryOperator.{BinaryOperator}
 use Rattle.wgsl_rules.specs.declared.syntax.ShaderStage.{ShaderStage}
 use Rattle.wgsl_rules.specs.declared.syntax.UnaryOperator.{UnaryOperator}
+use Rattle.wgsl_rules.proofs.lemmas.Known.{and-both as both}
 use Rattle.wgsl_apply.specs.Calls.{operated, prefixed}
 use Rattle.wgsl_apply.specs.Standard.{is_against}
 use Rattle.wgsl_scalar.specs.Literals.{literal_of}
@@ -45,7 +46,6 @@ use Rattle.wgsl_eval.specs.declared.answer.Guard.TheVariants as guards
 use Rattle.wgsl_eval.specs.declared.answer.Value.{Value}
 use Rattle.wgsl_eval.specs.declared.answer.Need.TheVariants as needs
 use Rattle.wgsl_eval.proofs.FaultyAnswers.{Tells, TellsValue, fault-tells, fault_of-tells, is-tells, no_type-tells, of_bool, of_option, of_result, one-tells, same-tells, skipped-tells, skipped_or-tells, some_and, unready-tells, value-tells, with-tells}
-use Rattle.wgsl_layout.proofs.lemmas.Known.{and-both as both}
 
 -- ---- the answers that a step takes
 

@@ -8,15 +8,12 @@ use Rattle.wgsl_scalar.specs.Literals.{literal_of}
 use Rattle.wgsl_scalar.specs.declared.literal.LiteralInstance.{LiteralInstance}
 use Rattle.wgsl_scalar.specs.declared.literal.LiteralInstance.TheVariants as literals
 use Rattle.wgsl_values.proofs.lemmas.Views.{value_of-Literal, value_of-Vec, vec_view-is}
-use Rattle.wgsl_values.specs.View.{vals_of, vals_view, value_of, vec_view}
+use Rattle.wgsl_values.specs.View.{vals_view, value_of, vec_view}
 use Rattle.wgsl_values.specs.declared.instance.Instance.{Instance, Literal, Vec}
 use Rattle.wgsl_values.specs.declared.vector.VecInstance.{VecInstance}
 use Rattle.wgsl_eval.specs.Constructors.{components_for, conversion_for, listed, scalars_in, scalars_of}
 use Rattle.wgsl_eval.specs.declared.literals.Conversion.TheVariants.{Automatic, Written}
-
-pub listed-vals_of : (vs : List Val) → listed (vals_of vs) ≡ vs
-listed-vals_of [] = refl
-listed-vals_of (v ∷ vs) = ap (λ ws. v ∷ ws) (listed-vals_of vs)
+use Rattle.wgsl_ops.proofs.InPlace.{listed-vals}
 
 -- ---- scalars and vectors
 
@@ -34,7 +31,7 @@ scalars_in-Literal l = rw (value_of-Literal l) (scalars_in-literal l)
 pub scalars_in-Vec : (v : VecInstance) (cs : List Instance) → vals_view cs ≡ parts (vec_view v) → scalars_in (value_of (Vec v)) ≡ map value_of cs
 scalars_in-Vec v cs h =
     let e : vals_view cs ≡ vals_view v.components.items = h ∙ ap parts (vec_view-is v) in
-    rw (value_of-Vec v, vec_view-is v) (ap listed (sym e) ∙ listed-vals_of (map value_of cs))
+    rw (value_of-Vec v, vec_view-is v) (ap listed (sym e) ∙ listed-vals (map value_of cs))
 
 pub literal-pushed : (ls : List LiteralInstance) (l : LiteralInstance) → map literal_of (ls ++ l ∷ []) ≡ map literal_of ls ++ scalars_in (value_of (Literal l))
 literal-pushed ls l = rw (scalars_in-Literal l) (map-append literal_of ls (l ∷ []))

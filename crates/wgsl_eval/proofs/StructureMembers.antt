@@ -6,9 +6,9 @@ use Rattle.wgsl_rules.specs.Values.{Val}
 use Rattle.wgsl_rules.specs.View.{member_view, members_view, type_view}
 use Rattle.wgsl_rules.specs.declared.ty.StructMemberType.{StructMemberType}
 use Rattle.wgsl_rules.specs.declared.ty.Type.{the_lemmas as type_lemmas}
+use Rattle.wgsl_rules.proofs.Lists.{prepended-step}
 use Rattle.wgsl_values.specs.View.{value_of}
 use Rattle.wgsl_values.specs.declared.instance.Instance.{Instance}
-use Rattle.wgsl_eval.proofs.Each.{prepended-step}
 use Rattle.wgsl_eval.specs.Constructors.{members_made}
 
 member-type : (m : StructMemberType) → (member_view m).ty ≡ type_view m.ty

@@ -1,5 +1,5 @@
 -- Marks of declarations, and numbers that rise.
-use Rattle.std.proofs.Common.{◌≡◌, ◌≢◌, ◌≤◌, ℕ, ◌+◌, ◌<◌, Bool, true, false, not, cond, Some, List, [], ◌∷◌, ◌++◌, length, length-append, set, slice_get, get_or, zero, suc, inl, inr, ◌⊎◌, refl, ◌∙◌, ap, sym, subst, arith}
+use Rattle.std.proofs.Common.{◌≡◌, ◌≤◌, ℕ, ◌+◌, ◌<◌, Bool, true, false, not, cond, List, [], ◌∷◌, ◌++◌, length, length-append, set, slice_get, get_or, zero, suc, inl, inr, ◌⊎◌, refl, ◌∙◌, ap, sym, subst, arith}
 use Rattle.std.specs.Prelude.{count_by, ◌↔◌}
 use Rattle.std.proofs.Math.Seq.{get_or-append_seam}
 use Rattle.std.specs.List.{Contains}
@@ -10,18 +10,7 @@ use Rattle.std.proofs.lemmas.List.Elements.{Contains-get_or, Contains-push, Cont
 use Rattle.std.proofs.lemmas.List.Sums.{sum_by-set}
 use Rattle.std.proofs.lemmas.Option.{slice_get_within}
 use Rattle.wgsl_interface.specs.Marks.{IsMarked, is_unmarked}
-
-pub slice_get-set_same : {X : Type 0} (xs : List X) (i : ℕ) (x : X) → i < length xs → slice_get (set xs i x) i ≡ Some x
-slice_get-set_same [] i x h = absurd (omega arith)
-slice_get-set_same (y ∷ ys) zero x h = refl
-slice_get-set_same (y ∷ ys) (suc i) x h = slice_get-set_same ys i x (omega arith)
-
-pub slice_get-set_other : {X : Type 0} (xs : List X) (i j : ℕ) (x : X) → j ≢ i → slice_get (set xs i x) j ≡ slice_get xs j
-slice_get-set_other [] i j x h = refl
-slice_get-set_other (y ∷ ys) zero zero x h = absurd (h refl)
-slice_get-set_other (y ∷ ys) zero (suc j) x h = refl
-slice_get-set_other (y ∷ ys) (suc i) zero x h = refl
-slice_get-set_other (y ∷ ys) (suc i) (suc j) x h = slice_get-set_other ys i j x (λ e. h (ap suc e))
+use Rattle.wgsl_rules.proofs.lemmas.Slices.{slice_get-set_same, slice_get-set_other}
 
 -- what is marked stays so
 pub marked_kept : (marks : List Bool) (d n : ℕ) → IsMarked marks n → IsMarked (set marks d true) n

@@ -2,28 +2,17 @@
 use Rattle.std.proofs.Common.{◌≡◌, ◌+◌, ◌-◌, ◌<◌, ℕ, zero, suc, List, [], ◌∷◌, length, get_or, drop, Bool, true, false, refl, sym, ap, ◌∙◌, add-one, arith}
 use Rattle.std.specs.Prelude.{◌&&◌, ◌||◌, ◌==◌}
 use Rattle.std.proofs.Math.Dec.{eqb, eqb-suc-suc, eqb-zero-suc, eqb-suc-zero}
-use Rattle.wgsl_rules.specs.Types.{Fields, no_fields, field}
+use Rattle.wgsl_rules.specs.Types.{Fields, no_fields}
 use Rattle.wgsl_rules.specs.Layout.{have_none}
 use Rattle.wgsl_rules.specs.View.{Field, type_view, member_view, members_view}
 use Rattle.wgsl_rules.specs.declared.ty.StructMemberType.{StructMemberType}
 use Rattle.wgsl_rules.proofs.lemmas.Views.{member_view-is}
+use Rattle.wgsl_rules.proofs.lemmas.Members.{first}
 use Rattle.wgsl_interface.specs.Faults.{is_last_runtime_sized}
 use Rattle.wgsl_interface.specs.Natures.{IsNatureOf}
 use Rattle.wgsl_interface.specs.Plain.{is_runtime_sized, may_stand_before, is_plain, are_plain, is_sized, are_sized, is_concrete, are_concrete}
 use Rattle.wgsl_interface.specs.Shared.{is_constructible, are_constructible, is_host_shareable, are_host_shareable, has_atomic, have_atomic}
 use Rattle.wgsl_interface.specs.declared.nature.Nature.{Nature}
-
-abbrev pub first : Field → Fields → Fields
-first f fs = field f.name f.ty f.size f.align fs
-
--- the members from one on
-members-after : (ms : List StructMemberType) (i : ℕ) (m : StructMemberType) → i < length ms → m ≡ get_or ms i m → members_view (drop i ms) ≡ first (member_view m) (members_view (drop (suc i) ms))
-members-after [] i m h e = absurd (omega arith)
-members-after (x ∷ ms) zero m h e = ap (λ (y : StructMemberType). first (member_view y) (members_view ms)) (sym e)
-members-after (x ∷ ms) (suc i) m h e = members-after ms i m (omega arith) e
-
-pub members-from : (ms : List StructMemberType) (i : ℕ) (m : StructMemberType) → i < length ms → m ≡ get_or ms i m → members_view (drop i ms) ≡ first (member_view m) (members_view (drop (i + 1) ms))
-members-from ms i m h e = rw add-one (members-after ms i m h e)
 
 -- whether there are none behind one
 none-after : (ms : List StructMemberType) (i : ℕ) → i < length ms → have_none (members_view (drop (suc i) ms)) ≡ eqb (suc i) (length ms)

@@ -8,7 +8,8 @@ use Rattle.std.proofs.lemmas.List.Elements.{Contains-push, Contains-push_cases, 
 use Rattle.std.proofs.lemmas.Option.{slice_get_within}
 use Rattle.wgsl_interface.specs.Marks.{IsMarked, is_unmarked, marked, pending_after}
 use Rattle.wgsl_interface.specs.Reach.{Names, Reaches, itself, named}
-use Rattle.wgsl_interface.proofs.Marks.{slice_get-set_same, marked_kept, marked_cases, set-marked, unmarked_within, count-marked}
+use Rattle.wgsl_interface.proofs.Marks.{marked_kept, marked_cases, set-marked, unmarked_within, count-marked}
+use Rattle.wgsl_rules.proofs.lemmas.Slices.{slice_get-set_same}
 
 -- what is known while a search goes on
 pub record Searches (uses : List (List ℕ)) (from : ℕ) (marks : List Bool) (pending : List ℕ) : Type 0 where

@@ -1,6 +1,6 @@
 -- Atomics: what fits them, and their numbers in bytes.
 use Rattle.std.proofs.Common.{◌≡◌, ℕ, List, Some, None, is_some, Ok, Err, Bool, true, refl, sym, ap, subst}
-use Rattle.std.specs.Prelude.{◌&&◌, IsOk, IsOkAnd, IsTrue}
+use Rattle.std.specs.Prelude.{◌&&◌, IsOkAnd, IsTrue}
 use Rattle.std.specs.Result.{result_ok}
 use Rattle.std.proofs.lemmas.Bool.{false≢true}
 use Rattle.wgsl_rules.specs.Kinds as kinds
@@ -37,10 +37,6 @@ fits-led w (Ok v) h = fits-atomic w v h
 fits-led w (Err e) h = absurd h
 
 -- ---- what a view leads to
-
-pub is-led : (P : Val → Type 0) (o : Outcome Val) → IsOkAnd o P → IsOk o
-is-led P (Ok v) h = refl
-is-led P (Err e) h = absurd h
 
 pub none-led : (P : Val → Type 0) (o : Outcome Val) → None ≡ result_ok o → IsOkAnd o P → ⊥
 none-led P (Ok v) e h = cc

@@ -6,12 +6,13 @@ use Rattle.wgsl_rules.specs.View.{type_view, struct_view as struct_type_view, me
 use Rattle.wgsl_rules.specs.Layout.{size, scalar_kind, leaf, Layout, layout, repeated}
 use Rattle.wgsl_rules.specs.declared.ty.StructMemberType.{StructMemberType}
 use Rattle.wgsl_rules.specs.declared.ty.StructType.{StructType, out-StructType}
+use Rattle.wgsl_rules.proofs.lemmas.Members.{first, fields-from}
 use Rattle.wgsl_layout.specs.Buffers.{decoded, decoded_parts}
 use Rattle.wgsl_layout.specs.Plan.{Plan, scalar, components, row, members, Places, plan_view, places_view}
 use Rattle.wgsl_layout.specs.Reading.{IsThere, members_at}
 use Rattle.wgsl_layout.specs.Walk.{put, put_row, put_members}
 use Rattle.wgsl_layout.specs.declared.plan.Place.{«Place» as CodePlace}
-use Rattle.wgsl_layout.proofs.Making.{first, fields-from, type-is}
+use Rattle.wgsl_layout.proofs.Making.{type-is}
 use Rattle.wgsl_layout.proofs.Plans.{places-from}
 use Rattle.wgsl_layout.proofs.Reading.{scalar-leaf, vector-there, matrix-there, struct-made}
 

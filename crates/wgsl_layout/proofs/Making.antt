@@ -1,9 +1,9 @@
 -- One step of the walk that makes the plan of a type.
 use Rattle.std.specs.Option.{unwrap_or}
 use Rattle.std.specs.Prelude.{◌&&◌, ◌||◌}
-use Rattle.std.proofs.Common.{◌≡◌, ℕ, ◌+◌, ◌<◌, ◌≤◌, List, [], ◌∷◌, ◌++◌, length, get_or, drop, Option, Some, None, Bool, true, false, is_some, Vec, Global, string_bytes, refl, sym, ap, subst, ◌∙◌, add-one, drop-cons, arith}
+use Rattle.std.proofs.Common.{◌≡◌, ℕ, ◌+◌, ◌<◌, ◌≤◌, List, [], ◌∷◌, ◌++◌, length, get_or, drop, Option, Some, None, Bool, true, false, is_some, Vec, Global, string_bytes, refl, sym, ap, subst, ◌∙◌, arith}
 use Rattle.std.proofs.Math.ListN.{drop_of_length-le}
-use Rattle.wgsl_rules.specs.Types.{Ty, struct, Fields, no_fields, field}
+use Rattle.wgsl_rules.specs.Types.{Ty, struct, Fields, no_fields}
 use Rattle.wgsl_rules.specs.Size.{Extent, extent_of, extents, with_both, round_up, struct_size, struct_align, offset_after, end_after, end_of_members, align_after, greatest_align}
 use Rattle.wgsl_rules.specs.Layout.{amount, has_fixed_layout, is_fixed_member, is_runtime_member, have_fixed_layouts, end_in_runtime_array}
 use Rattle.wgsl_rules.specs.Measures.{AreMeasuresOf, AreMeasuresOfMember}
@@ -12,7 +12,7 @@ use Rattle.wgsl_rules.specs.View.{Field, type_view, member_view, members_view}
 use Rattle.wgsl_rules.specs.declared.measures.Measures.{Measures}
 use Rattle.wgsl_rules.specs.declared.measures.MemberMeasures.{MemberMeasures}
 use Rattle.wgsl_rules.specs.declared.ty.StructMemberType.{StructMemberType}
-use Rattle.wgsl_rules.proofs.lemmas.Members.{next, ends}
+use Rattle.wgsl_rules.proofs.lemmas.Members.{next, ends, fields-from}
 use Rattle.wgsl_rules.proofs.lemmas.Views.{member_view-is}
 use Rattle.wgsl_values.specs.View.{value_of, vals_view}
 use Rattle.wgsl_values.specs.declared.instance.Instance.{Instance}
@@ -22,15 +22,6 @@ use Rattle.wgsl_layout.specs.TypePlan.{IsPlanOf}
 use Rattle.wgsl_layout.specs.declared.plan.Place.{«Place» as CodePlace}
 use Rattle.wgsl_layout.specs.declared.plan.Plan as code
 use Rattle.wgsl_layout.proofs.Plans.{with_place, place-is, view-members}
-
-abbrev pub first : Field → Fields → Fields
-first f fs = field f.name f.ty f.size f.align fs
-
--- the members from one on
-pub fields-from : (ms : List StructMemberType) (i : ℕ) (m : StructMemberType) → i < length ms → m ≡ get_or ms i m → members_view (drop i ms) ≡ first (member_view m) (members_view (drop (i + 1) ms))
-fields-from ms i m h e =
-    let at : members_view (drop i ms) ≡ first (member_view (get_or ms i m)) (members_view (drop (i + 1) ms)) = rw (drop-cons ms i m, add-one) refl in
-    at ∙ ap (λ x. first (member_view x) (members_view (drop (i + 1) ms))) (sym e)
 
 -- ---- places
 

@@ -16,6 +16,8 @@ use Rattle.wgsl_rules.specs.Size.{size_of, offset_after, end_after, extent_in}
 use Rattle.wgsl_rules.specs.View.{type_view, struct_view as struct_type_view, member_view, members_view}
 use Rattle.wgsl_rules.specs.Layout.{amount, size, align, stride, scalar_kind, leaf, is_from_2_to_4, has_fixed_layout, have_fixed_layouts, is_runtime_array, end_in_runtime_array, has_runtime_layout, has_layout, HasLayout, Tail, tail_of, at_least_one, count_with, count_in, layout_len, length_with, known_stride, Layout, layout, length_in, repeated, member_parts}
 use Rattle.wgsl_rules.proofs.lemmas.Views.{struct_view-is}
+use Rattle.wgsl_rules.proofs.lemmas.Known.{and-both, some-of}
+use Rattle.wgsl_rules.proofs.lemmas.Members.{first, fields-from}
 use Rattle.wgsl_rules.specs.declared.ty.StructMemberType.{StructMemberType}
 use Rattle.wgsl_rules.specs.declared.ty.StructType.{StructType, out-StructType}
 use Rattle.wgsl_values.specs.View.{value_of, vals_view}
@@ -24,9 +26,8 @@ use Rattle.wgsl_layout.specs.Buffers.{decoded, decoded_parts}
 use Rattle.wgsl_layout.specs.Plan.{Plan, components, row, members, Places, no_places, plan_of, places_of, plan_view, places_view}
 use Rattle.wgsl_layout.specs.Reading.{IsThere, AreThere, members_at}
 use Rattle.wgsl_layout.specs.declared.plan.Place.{«Place» as CodePlace}
-use Rattle.wgsl_layout.proofs.Making.{first, fields-from, type-is}
+use Rattle.wgsl_layout.proofs.Making.{type-is}
 use Rattle.wgsl_layout.proofs.Plans.{places-from}
-use Rattle.wgsl_layout.proofs.lemmas.Known.{and-both, some-of}
 use Rattle.wgsl_layout.proofs.lemmas.Fixed.{first-fixed, fixed-array, fixed-mat, last-runtime}
 use Rattle.wgsl_layout.proofs.lemmas.Ranges.{AreTidy, tidy-length}
 use Rattle.wgsl_layout.proofs.lemmas.Tidy.{scalar-is, tidy}

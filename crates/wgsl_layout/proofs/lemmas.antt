@@ -9,7 +9,6 @@ pub mod Fixed
 pub mod Flat
 pub mod Follows
 pub mod InRange
-pub mod Known
 pub mod Leaves
 pub mod LikeViews
 pub mod Made

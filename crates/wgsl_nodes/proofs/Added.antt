@@ -9,6 +9,7 @@ use Rattle.wgsl_rules.specs.Types as types
 use Rattle.wgsl_rules.specs.Types.{Ty, array, vec, mat}
 use Rattle.wgsl_rules.specs.Size.{size_of, align_of}
 use Rattle.wgsl_rules.specs.Layout.{amount, size, align, Tail, is_from_2_to_4}
+use Rattle.wgsl_rules.proofs.lemmas.Slices.{slice_get-append, slice_get-pushed, slice_get-set_same, slice_get-set_other}
 use Rattle.wgsl_nodes.specs.Canonical.{node_of, below, table}
 use Rattle.wgsl_nodes.specs.HostTypes.{has_nodes, is_scalar, is_number}
 use Rattle.wgsl_nodes.specs.Nodes.{Says, Stands, LeadsTo, IsNodeOf, sort_of, bytes_before}
@@ -17,12 +18,12 @@ use Rattle.wgsl_nodes.specs.Making.{Keeps, IsAdded, IsTyped, IsNumberOf, IsArray
 use Rattle.wgsl_nodes.specs.declared.nodes.Node.{Node}
 use Rattle.wgsl_nodes.proofs.Fixed.{scalar-is, vector-sized, vector-size, vector-fits}
 use Rattle.wgsl_nodes.proofs.Exact.{node-is, element-grown}
-use Rattle.wgsl_nodes.proofs.Growing.{KeepsFrom, get-append, get-pushed, get-set, get-set-other, keeps-later, leads-kept}
+use Rattle.wgsl_nodes.proofs.Growing.{KeepsFrom, keeps-later, leads-kept}
 use Rattle.wgsl_nodes.proofs.Sound.{scalar-sort, described-sound}
 use Rattle.wgsl_nodes.proofs.Typed.{typed-either, stands-typed, typed-kept, children-set, no-children, one-child}
 
 pub keeps-append : (xs ys : List Node) → Keeps xs (xs ++ ys)
-keeps-append xs ys k r h = get-append xs ys k r h
+keeps-append xs ys k r h = slice_get-append xs ys k r h
 
 pub keeps-through : (a b c : List Node) → Keeps a b → Keeps b c → Keeps a c
 keeps-through a b c h g k r e = g k r (h k r e)
@@ -30,10 +31,10 @@ keeps-through a b c h g k r e = g k r (h k r e)
 pub keeps-set : (old now : List Node) (i : ℕ) (x : Node) → length old ≤ i → Keeps old now → Keeps old (slice_set now i x)
 keeps-set old now i x le keeps k r e =
     let lt = slice_get_within old k r e in
-    get-set-other now i k x (λ same. omega arith) ∙ keeps k r e
+    slice_get-set_other now i k x (λ same. omega arith) ∙ keeps k r e
 
 pub keeps-behind-set : (now : List Node) (i : ℕ) (x : Node) → KeepsFrom (i + 1) now (slice_set now i x)
-keeps-behind-set now i x = record { get = λ k r le e. get-set-other now i k x (λ same. omega arith) ∙ e }
+keeps-behind-set now i x = record { get = λ k r le e. slice_get-set_other now i k x (λ same. omega arith) ∙ e }
 
 -- ---- numbers
 
@@ -125,13 +126,13 @@ component-added old n t part a count scalar is aligned = record {
   place = refl;
   describes = record {
     says = vector-says n t part a (length old) count scalar is.says aligned;
-    leads = (omega arith, component-stands (old ++ (part ∷ [])) (length old) t part scalar is (get-pushed old part));
+    leads = (omega arith, component-stands (old ++ (part ∷ [])) (length old) t part scalar is (slice_get-pushed old part));
   };
   longer = omega (arith, length-append {A = Node});
   kept = keeps-append old (part ∷ []);
   each = λ k le lt.
       let is_last : length old ≡ k = omega (arith, length-append old (part ∷ [])) in
-      component-typed (old ++ (part ∷ [])) k t part scalar is (subst (λ (m : ℕ). slice_get (old ++ (part ∷ [])) m ≡ Some part) is_last (get-pushed old part));
+      component-typed (old ++ (part ∷ [])) k t part scalar is (subst (λ (m : ℕ). slice_get (old ++ (part ∷ [])) m ≡ Some part) is_last (slice_get-pushed old part));
   children = omega (arith, length-append old (part ∷ []), sum_by_push children_counted old part, component-children t part scalar is);
   exact = node-is (vector_node n part.size a (length old)) (vec n t) (length old) (vector-says n t part a (length old) count scalar is.says aligned) refl refl refl refl;
   grown = ap (λ (x : Node). old ++ (x ∷ [])) is.exact;
@@ -148,11 +149,11 @@ column-added old c r t part a s columns rows scalar is aligned sized =
     let two = one ++ (part ∷ []) in
     let len : length one ≡ length old + 1 = omega (arith, length-append {A = Node}) in
     let far : align (vec r t) ≡ a = ap amount aligned in
-    let number : slice_get two (length old + 1) ≡ Some part = subst (λ (k : ℕ). slice_get two k ≡ Some part) len (get-pushed one part) in
+    let number : slice_get two (length old + 1) ≡ Some part = subst (λ (k : ℕ). slice_get two k ≡ Some part) len (slice_get-pushed one part) in
     let vector : Stands two (length old) 0 (vec r t) (λ c. LeadsTo two (length old + 1) c (vec r t)) =
     record {
       node = column;
-      there = get-append one (part ∷ []) (length old) column (get-pushed old column);
+      there = slice_get-append one (part ∷ []) (length old) column (slice_get-pushed old column);
       offset_is = refl;
       says = vector-says r t part a (length old + 1) rows scalar is.says aligned;
       leads = (omega arith, component-stands two (length old + 1) t part scalar is number);
@@ -195,7 +196,7 @@ element-added old pushed grown x t n part r none is made has =
     let stands : Stands now (length old) 0 t (λ c. LeadsTo now (length old + 1) c t) =
     record {
       node = part;
-      there = get-set grown (length old) part (omega arith);
+      there = slice_get-set_same grown (length old) part (omega arith);
       offset_is = made.place;
       says = made.describes.says;
       leads = leads-kept grown now (length old + 1) part.child t (keeps-behind-set grown (length old) part) own;
@@ -212,7 +213,7 @@ element-added old pushed grown x t n part r none is made has =
       each = λ k le lt. typed-either now k (length old + 1) (λ h. let e : length old ≡ k = omega arith in subst (IsTyped now) e (stands-typed now (length old) 0 t made.host stands))
           (λ h. typed-kept grown now k (keeps-later (length old + 1) k grown now h (keeps-behind-set grown (length old) part)) (made.each k (omega arith) (omega (arith, length-set grown (length old) part))));
       children =
-          let pushed_there = subst (λ (xs : List Node). slice_get xs (length old) ≡ Some x) (sym is) (get-pushed old x) in
+          let pushed_there = subst (λ (xs : List Node). slice_get xs (length old) ≡ Some x) (sym is) (slice_get-pushed old x) in
           let counted = made.children in
           omega (arith, length-set grown (length old) part, children-set grown (length old) x part (made.kept (length old) x pushed_there), ap (sum_by children_counted) is, sum_by_push children_counted old x, one-child r 3 has.says.sort refl refl);
       exact = has.exact;
@@ -232,7 +233,7 @@ root-made x t grown root made =
     let longer = made.longer in
     record {
       node = root;
-      there = get-set grown 0 root (omega arith);
+      there = slice_get-set_same grown 0 root (omega arith);
       describes = record {
         says = made.describes.says;
         leads = leads-kept grown (slice_set grown 0 root) 1 root.child t (keeps-behind-set grown 0 root) made.describes.leads;
@@ -264,7 +265,7 @@ root-table x t grown root none made =
     let now = slice_set grown 0 root in
     let own = root-made x t grown root made in
     record {
-      root = subst (λ (o : Option Node). IsSomeAnd o (λ r. r.offset ≡ 0)) (sym (get-set grown 0 root (omega arith))) made.place;
+      root = subst (λ (o : Option Node). IsSomeAnd o (λ r. r.offset ≡ 0)) (sym (slice_get-set_same grown 0 root (omega arith))) made.place;
       children = omega (arith, length-set grown 0 root, children-set grown 0 x root (made.kept 0 x refl), sum_by-cons children_counted x []);
       each = λ k lt. typed-sound now k (typed-either now k 1 (λ h. let e : 0 ≡ k = omega arith in subst (IsTyped now) e (record { ty = t; host = made.host; is = own }))
           (λ h. typed-kept grown now k (keeps-later 1 k grown now h (keeps-behind-set grown 0 root)) (made.each k h (omega (arith, length-set grown 0 root)))));

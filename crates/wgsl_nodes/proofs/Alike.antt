@@ -1,7 +1,7 @@
 -- Tables that are the same but for names hold the same types.
 use Rattle.std.proofs.Common.{◌≡◌, ℕ, zero, suc, ◌+◌, ◌<◌, ◌≤◌, List, [], ◌∷◌, length, slice_get, Option, Some, None, Bool, true, false, refl, sym, ◌∙◌, subst, arith}
 use Rattle.std.specs.Prelude.{◌==◌, if◌then◌else◌}
-use Rattle.std.proofs.lemmas.Bool.Decides.{nat_tests}
+use Rattle.std.proofs.lemmas.Bool.{eqb-true}
 use Rattle.std.proofs.lemmas.Option.{slice_get_within}
 use Rattle.wgsl_rules.specs.Types.{Ty, struct, array, vec, mat, Fields, no_fields, field}
 use Rattle.wgsl_rules.specs.Size.{extent_in, offset_after, end_after}
@@ -24,14 +24,11 @@ pub record IsAlike (x y : Node) : Type 0 where
   pub tail_start : x.tail_start ≡ y.tail_start
   pub tail_stride : x.tail_stride ≡ y.tail_stride
 
-is-same : (x y : ℕ) → (x == y) ≡ true → x ≡ y
-is-same x y h = grind (arith, nat_tests)
-
 like : (what x y : ℕ) (behind : Option ℕ) → unlike what x y behind ≡ None → (x ≡ y) × (behind ≡ None)
 like what x y behind h = by (x == y) refl h
   where
     by : (b : Bool) → (x == y) ≡ b → (if b then behind else Some what) ≡ None → (x ≡ y) × (behind ≡ None)
-    by true e k = (is-same x y e, k)
+    by true e k = (eqb-true x y e, k)
     by false e k = absurd (cc (k))
 
 alike : (x y : Node) → differs x y ≡ None → child_differs x y ≡ None → IsAlike x y

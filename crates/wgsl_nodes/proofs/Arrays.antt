@@ -3,16 +3,17 @@ use Rattle.std.proofs.Common.{◌≡◌, ℕ, ◌*◌, ◌^◌, ◌≤◌, Optio
 use Rattle.std.specs.Prelude.{◌&&◌, ◌||◌, nat_le, nat_lt, MatchOption}
 use Rattle.std.proofs.lemmas.Bool.{false≢true}
 use Rattle.std.proofs.lemmas.Bool.Decides.{nat_tests}
+use Rattle.std.proofs.Math.Bool.{and-false}
 use Rattle.wgsl_rules.specs.Types.{Ty, array}
 use Rattle.wgsl_rules.specs.Size.{size_of, align_of, fitting, round_up, times}
 use Rattle.wgsl_rules.specs.Layout.{amount, size, align, stride, known_stride, Tail}
+use Rattle.wgsl_rules.proofs.lemmas.Known.{fitting-is, rounded-known}
 use Rattle.wgsl_nodes.specs.HostTypes.{has_nodes, has_fixed_nodes, has_runtime_nodes}
 use Rattle.wgsl_nodes.specs.Nodes as nodes
 use Rattle.wgsl_nodes.specs.Nodes.{Says, bytes_before}
 use Rattle.wgsl_nodes.specs.Making.{IsArrayOf, array_node}
 use Rattle.wgsl_nodes.specs.declared.nodes.Node.{Node}
 use Rattle.wgsl_nodes.proofs.Exact.{node-is}
-use Rattle.wgsl_nodes.proofs.Known.{fitting-is, rounded-known}
 use Rattle.wgsl_nodes.proofs.Fixed.{fixed-sized, fixed-tail, no-tail-fixed}
 
 -- ---- parts of a fixed size
@@ -48,10 +49,6 @@ tail-not-fixed t r says some = by (has_fixed_nodes t) refl
     by false h = refl
 
 -- ---- arrays
-
-and-false : (b : Bool) → (b && false) ≡ false
-and-false true = refl
-and-false false = refl
 
 pub not-fixed-array : (t : Ty) (n : Option ℕ) → has_fixed_nodes t ≡ false → has_nodes (array t n) ≡ false
 not-fixed-array t None h = rw h refl

@@ -7,10 +7,10 @@ use Rattle.std.proofs.lemmas.List.{length-replicate}
 use Rattle.std.proofs.lemmas.List.Folds.{sum_by-replicate}
 use Rattle.std.proofs.lemmas.List.Sums.{sum_by-append}
 use Rattle.wgsl_rules.specs.Types.{Ty}
+use Rattle.wgsl_rules.proofs.lemmas.Slices.{slice_get-append, slice_get-set_other}
 use Rattle.wgsl_nodes.specs.Tables.{children_counted}
 use Rattle.wgsl_nodes.specs.Making.{Keeps, IsAdded, empty_node}
 use Rattle.wgsl_nodes.specs.declared.nodes.Node.{Node}
-use Rattle.wgsl_nodes.proofs.Growing.{get-append, get-set-other}
 use Rattle.wgsl_nodes.proofs.Typed.{IsTypedFrom, from-kept, typed-kept, typed-either, children-set, AreFilled}
 use Rattle.wgsl_nodes.proofs.Members.{member-stands}
 
@@ -37,7 +37,7 @@ none-filled before nodes child n is at =
     let long : length nodes ≡ length before + n = ap length is ∙ reserved-long before n in
     record {
       longer = omega arith;
-      kept = λ k r e. ap (λ (xs : List Node). slice_get xs k) is ∙ get-append before (replicate n empty_node) k r e;
+      kept = λ k r e. ap (λ (xs : List Node). slice_get xs k) is ∙ slice_get-append before (replicate n empty_node) k r e;
       filled = record {
         empty = λ k le lt. ap (λ (xs : List Node). slice_get xs k) is ∙ get-reserved before n k (omega arith) (omega arith);
         filled = λ k le lt. absurd (omega arith);
@@ -55,7 +55,7 @@ filled-next before old grown child low i o part t filled lt le added =
     let now = slice_set grown (child + i) placed in
     let longer = added.longer in
     let others : (k : ℕ) (r : Node) → (k ≡ child + i → ⊥) → slice_get grown k ≡ Some r → slice_get now k ≡ Some r =
-    λ k r apart e. get-set-other grown (child + i) k placed apart ∙ e in
+    λ k r apart e. slice_get-set_other grown (child + i) k placed apart ∙ e in
     let stands = member-stands old grown now (child + i) low o t part le lt added (record { below = λ k r h e. e; behind = λ k r h e. e }) in
     let counted = filled.children in
     let counted_more = added.children in

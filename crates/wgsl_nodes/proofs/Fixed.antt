@@ -1,5 +1,5 @@
 -- What is known of the types that have a table: sizes, alignments and runtime-sized arrays.
-use Rattle.std.proofs.Common.{◌≡◌, ℕ, ◌*◌, ◌^◌, ◌<◌, ◌≤◌, List, [], ◌∷◌, Option, Some, None, is_some, is_none, Bool, true, false, refl, sym, ap, ◌∙◌, subst, arith}
+use Rattle.std.proofs.Common.{◌≡◌, ℕ, ◌*◌, ◌^◌, ◌<◌, ◌≤◌, [], Option, Some, None, is_some, is_none, Bool, true, false, refl, sym, ap, ◌∙◌, subst, arith}
 use Rattle.std.specs.Prelude.{◌&&◌, ◌||◌, nat_le, if◌then◌else◌, ◌==◌}
 use Rattle.std.specs.Option.{option_or}
 use Rattle.std.proofs.lemmas.Bool.{false≢true}
@@ -7,11 +7,11 @@ use Rattle.std.proofs.lemmas.Bool.Decides.{nat_tests}
 use Rattle.std.proofs.lemmas.Option.{same_Some}
 use Rattle.wgsl_rules.specs.Types as types
 use Rattle.wgsl_rules.specs.Types.{Ty, struct, array, vec, mat, atomic, Fields, no_fields, field}
-use Rattle.wgsl_rules.specs.Size.{size_of, align_of, round_up, vec_align, vec3_align, times, Extent, offset_after, end_after, end_of_members, extents, struct_align, extent_in}
+use Rattle.wgsl_rules.specs.Size.{size_of, align_of, round_up, vec_align, vec3_align, times, offset_after, end_after, end_of_members, extents, struct_align, extent_in}
 use Rattle.wgsl_rules.specs.Layout.{amount, known_stride, stride, is_from_2_to_4, is_size_valid, is_align_valid, are_attributes_valid, Tail, tail_at, tail_of, last_tail}
+use Rattle.wgsl_rules.proofs.lemmas.Known.{and-both, some-of, both-known, fits, fitting-is, times-known, rounded-known, stride-known, end-known, ends-known, end-later}
 use Rattle.wgsl_nodes.specs.HostTypes.{is_scalar, has_fixed_nodes, have_fixed_nodes, is_runtime_array, end_in_runtime_array, has_runtime_nodes, has_nodes}
 use Rattle.wgsl_nodes.specs.Nodes.{stride_of}
-use Rattle.wgsl_nodes.proofs.Known.{and-both, some-of, both-known, fits, fitting-is, times-known, rounded-known, stride-known, end-known, ends-known}
 
 -- ---- scalars
 
@@ -150,15 +150,6 @@ vector-size n t c k =
 
 pub vector-fits : (n : ℕ) (t : Ty) → is_from_2_to_4 n ≡ true → (k : is_scalar t ≡ true) → n * (scalar-is t k).size < 2 ^ 32
 vector-fits n t c k = small n (scalar-is t k).size (from-2 n c).1 (scalar-is t k).few
-
-end-later : (ms : List Extent) (x e : ℕ) → end_of_members (Some x) ms ≡ Some e → x ≤ e
-end-later [] x e h = let s = same_Some x e h in omega arith
-end-later (m ∷ ms) x e h =
-    let g = ends-known (end_after (Some x) m) ms e h in
-    let k = end-known x m g.0 g.1 in
-    let rest = end-later ms g.0 e (ap (λ (o : Option ℕ). end_of_members o ms) (sym g.1) ∙ h) in
-    let le = k.4 in let eq = k.5 in
-    omega arith
 
 nothing : (b s : ℕ) → round_up 0 b ≡ Some s → ⊥
 nothing b s f = cc

@@ -1,35 +1,10 @@
 -- What stands in a table that grows.
-use Rattle.std.proofs.Common.{◌≡◌, ℕ, zero, suc, ◌+◌, ◌<◌, ◌≤◌, List, [], ◌∷◌, ◌++◌, length, slice_get, slice_set, Option, Some, refl, ap, arith}
+use Rattle.std.proofs.Common.{◌≡◌, ℕ, ◌+◌, ◌≤◌, List, slice_get, Option, Some, arith}
 use Rattle.wgsl_rules.specs.Types.{Ty, struct, array, vec, mat, Fields, no_fields, field}
 use Rattle.wgsl_rules.specs.Size.{extent_in, offset_after, end_after}
 use Rattle.wgsl_rules.specs.Layout.{amount}
 use Rattle.wgsl_nodes.specs.Nodes.{Stands, LeadsTo, MembersStand, members_in}
 use Rattle.wgsl_nodes.specs.declared.nodes.Node.{Node}
-
--- ---- lists
-
-pub get-append : {X : Type 0} (xs ys : List X) (k : ℕ) (r : X) → slice_get xs k ≡ Some r → slice_get (xs ++ ys) k ≡ Some r
-get-append [] ys k r h = absurd (cc)
-get-append (x ∷ xs) ys zero r h = h
-get-append (x ∷ xs) ys (suc k) r h = get-append xs ys k r h
-
-pub get-pushed : {X : Type 0} (xs : List X) (x : X) → slice_get (xs ++ (x ∷ [])) (length xs) ≡ Some x
-get-pushed [] x = refl
-get-pushed (y ∷ xs) x = get-pushed xs x
-
-pub get-set : {X : Type 0} (xs : List X) (i : ℕ) (x : X) → i < length xs → slice_get (slice_set xs i x) i ≡ Some x
-get-set [] i x h = absurd (omega arith)
-get-set (y ∷ xs) zero x h = refl
-get-set (y ∷ xs) (suc i) x h = get-set xs i x (omega arith)
-
-pub get-set-other : {X : Type 0} (xs : List X) (i k : ℕ) (x : X) → (k ≡ i → ⊥) → slice_get (slice_set xs i x) k ≡ slice_get xs k
-get-set-other [] i k x h = refl
-get-set-other (y ∷ xs) zero zero x h = absurd (h refl)
-get-set-other (y ∷ xs) zero (suc k) x h = refl
-get-set-other (y ∷ xs) (suc i) zero x h = refl
-get-set-other (y ∷ xs) (suc i) (suc k) x h = get-set-other xs i k x (λ e. h (ap (λ (n : ℕ). suc n) e))
-
--- ---- tables
 
 -- each record from one on stands where it stood
 pub record KeepsFrom (low : ℕ) (old new : List Node) : Type 0 where

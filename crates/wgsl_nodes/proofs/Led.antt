@@ -3,6 +3,7 @@ use Rattle.std.proofs.Common.{◌≡◌, ℕ, zero, suc, ◌+◌, ◌-◌, ◌^�
 use Rattle.std.specs.Prelude.{◌&&◌, ◌==◌, nat_lt, if◌then◌else◌, IfSome, option_and_then, position}
 use Rattle.std.specs.List.{position_or_len}
 use Rattle.std.proofs.lemmas.Bool.Decides.{nat_tests}
+use Rattle.std.proofs.lemmas.Bool.{lt-ltb}
 use Rattle.wgsl_rules.specs.Types.{Ty}
 use Rattle.wgsl_rules.specs.Values.{Step, member, index}
 use Rattle.wgsl_nodes.specs.Paths.{component_of, has_name, indexed_part, IsLed, led, members_of, named_part, stepped}
@@ -30,9 +31,6 @@ taken-length zero (x ∷ xs) = omega arith
 taken-length (suc n) [] = omega arith
 taken-length (suc n) (x ∷ xs) = let h = taken-length n xs in omega arith
 
-less : (a b : ℕ) → a < b → nat_lt a b ≡ true
-less a b h = grind (arith, nat_tests)
-
 -- ---- a step leads to a part of some position
 
 pub record IsAtPosition (nodes : List Node) (len : ℕ) (p q : Place) : Type 0 where
@@ -41,7 +39,7 @@ pub record IsAtPosition (nodes : List Node) (len : ℕ) (p q : Place) : Type 0 w
 
 member-position : (nodes : List Node) (len : ℕ) (p q : Place) (r : Node) (i : ℕ) → slice_get nodes p.node ≡ Some r → (r.sort == 4) ≡ true → i < r.count → member_place nodes p.offset (r.child + i) ≡ Some q
     → part_of nodes p i len ≡ Some q
-member-position nodes len p q r i there sort lt is = rw there (rw (sort, less i r.count lt) is)
+member-position nodes len p q r i there sort lt is = rw there (rw (sort, lt-ltb i r.count lt) is)
 
 named-position : (nodes : List Node) (names : List ℕ) (len : ℕ) (p q : Place) (n : List ℕ) (r : Node) → slice_get nodes p.node ≡ Some r → named_part nodes names len p n r ≡ Some q → IsAtPosition nodes len p q
 named-position nodes names len p q n r there is = by (r.sort == 4) (r.sort == 1) refl is

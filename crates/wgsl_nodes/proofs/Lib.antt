@@ -5,7 +5,6 @@ pub mod Exact
 pub mod Filled
 pub mod Fixed
 pub mod Growing
-pub mod Known
 pub mod Led
 pub mod LengthsOf
 pub mod Members

@@ -1,39 +1,29 @@
 -- The records of a structure's members, one after another.
-use Rattle.std.proofs.Common.{◌≡◌, ℕ, zero, suc, ◌+◌, ◌<◌, ◌≤◌, max, List, [], ◌∷◌, length, drop, get_or, slice_get, slice_set, Option, Some, None, is_some, is_none, Bool, true, false, refl, sym, ap, ◌∙◌, subst, arith, add-one}
+use Rattle.std.proofs.Common.{◌≡◌, ℕ, suc, ◌+◌, ◌<◌, ◌≤◌, max, List, [], ◌∷◌, length, drop, slice_get, slice_set, Option, Some, None, is_some, is_none, Bool, true, false, refl, sym, ap, ◌∙◌, subst, arith}
 use Rattle.std.specs.Prelude.{◌&&◌, ◌||◌, MatchOption}
 use Rattle.std.specs.Option.{option_or}
 use Rattle.std.proofs.Math.ListN.{drop_of_length-le}
+use Rattle.std.proofs.Math.Bool.{and-false}
 use Rattle.std.proofs.lemmas.Bool.{false≢true}
 use Rattle.wgsl_rules.specs.Types.{Ty, struct, array, Fields, no_fields, field}
 use Rattle.wgsl_rules.specs.Size.{Extent, size_of, align_of, with_both, round_up, sum_of, extent_in, extents, offset_after, end_after, end_of_members, greatest_align, struct_align}
 use Rattle.wgsl_rules.specs.Layout.{amount, size, is_align_valid, is_size_valid, are_attributes_valid, have_none, Tail, last_tail, tail_of}
-use Rattle.wgsl_rules.specs.View.{Field, member_view, members_view}
+use Rattle.wgsl_rules.specs.View.{members_view}
 use Rattle.wgsl_rules.specs.declared.ty.StructMemberType.{StructMemberType}
+use Rattle.wgsl_rules.proofs.lemmas.Known.{end_after-none, offset_after-none}
+use Rattle.wgsl_rules.proofs.lemmas.Slices.{slice_get-set_same, slice_get-set_other}
 use Rattle.wgsl_nodes.specs.HostTypes.{has_nodes, has_fixed_nodes, have_fixed_nodes, is_runtime_array, end_in_runtime_array}
 use Rattle.wgsl_nodes.specs.Nodes as tables
 use Rattle.wgsl_nodes.specs.Nodes.{Says, Stands, LeadsTo, MembersStand, Describes, members_in, sort_of, start_of, bytes_before}
 use Rattle.wgsl_nodes.specs.Making.{Keeps, IsAdded, structure_node}
 use Rattle.wgsl_nodes.specs.declared.nodes.Node.{Node}
-use Rattle.wgsl_nodes.proofs.Known.{end_after-none, offset_after-none}
 use Rattle.wgsl_nodes.proofs.Fixed.{fixed-tail_at}
 use Rattle.wgsl_nodes.proofs.Arrays.{IsFixedPart}
 use Rattle.wgsl_nodes.proofs.Exact.{node-is, AreExact, all-exact}
-use Rattle.wgsl_nodes.proofs.Growing.{KeepsFrom, get-set, get-set-other, leads-kept, leads-lower}
+use Rattle.wgsl_nodes.proofs.Growing.{KeepsFrom, leads-kept, leads-lower}
 use Rattle.wgsl_nodes.proofs.Typed.{AreFilled, filled-each}
 
 -- ---- members
-
-abbrev pub first : Field → Fields → Fields
-first f fs = field f.name f.ty f.size f.align fs
-
-members-from : (ms : List StructMemberType) (i : ℕ) (m : StructMemberType) → i < length ms → m ≡ get_or ms i m → members_view (drop i ms) ≡ first (member_view m) (members_view (drop (suc i) ms))
-members-from [] i m h e = absurd (omega arith)
-members-from (x ∷ ms) zero m h e = ap (λ (y : StructMemberType). first (member_view y) (members_view ms)) (sym e)
-members-from (x ∷ ms) (suc i) m h e = members-from ms i m (omega arith) e
-
--- the members from one on
-pub fields-from : (ms : List StructMemberType) (i : ℕ) (m : StructMemberType) → i < length ms → m ≡ get_or ms i m → members_view (drop i ms) ≡ first (member_view m) (members_view (drop (i + 1) ms))
-fields-from ms i m h e = rw add-one (members-from ms i m h e)
 
 pub fields-past : (ms : List StructMemberType) (i : ℕ) → length ms ≤ i → members_view (drop i ms) ≡ no_fields
 fields-past ms i h = ap members_view (drop_of_length-le ms {i = i} h)
@@ -102,10 +92,10 @@ member-stands old grown now number low o t part le lt made agrees =
     let longer = made.longer in
     let placed = record part { offset = o } in
     let kept : KeepsFrom low grown now =
-    record { get = λ k r h e. agrees.behind k r h (get-set-other grown number k placed (λ same. omega arith) ∙ e) } in
+    record { get = λ k r h e. agrees.behind k r h (slice_get-set_other grown number k placed (λ same. omega arith) ∙ e) } in
     record {
       node = placed;
-      there = agrees.below number placed (omega arith) (get-set grown number placed (omega arith));
+      there = agrees.below number placed (omega arith) (slice_get-set_same grown number placed (omega arith));
       offset_is = refl;
       says = says-placed part t o made.describes.says;
       leads = leads-kept grown now low part.child t kept (leads-lower grown (length old) low part.child t le made.describes.leads);
@@ -114,8 +104,8 @@ member-stands old grown now number low o t part le lt made agrees =
 -- a table that agrees with the later one agrees with the earlier one
 pub agrees-before : (old grown now : List Node) (number low : ℕ) (x : Node) → number < low → Keeps old grown → AgreesBut (number + 1) low (slice_set grown number x) now → AgreesBut number low old now
 agrees-before old grown now number low x lt keeps agrees = record {
-  below = λ k r h e. agrees.below k r (omega arith) (get-set-other grown number k x (λ same. omega arith) ∙ keeps k r e);
-  behind = λ k r h e. agrees.behind k r h (get-set-other grown number k x (λ same. omega arith) ∙ keeps k r e);
+  below = λ k r h e. agrees.below k r (omega arith) (slice_get-set_other grown number k x (λ same. omega arith) ∙ keeps k r e);
+  behind = λ k r h e. agrees.behind k r h (slice_get-set_other grown number k x (λ same. omega arith) ∙ keeps k r e);
 }
 
 -- where a member of a fixed size stands, and where it ends
@@ -178,10 +168,6 @@ refused name fs rest nodes child low i end all made never =
     ∙ ap (λ (o : Option ℕ). have_fixed_nodes rest && is_some o) (sym made.end_is) ∙ never.fixed in
     let sized : has_fixed_nodes (struct name fs) ≡ false = no-size (have_fixed_nodes fs) (struct_align (extents fs)) (end_of_members (Some 0) (extents fs)) fixed in
     rw sized (sym made.runtime ∙ never.runtime)
-
-and-false : (b : Bool) → (b && false) ≡ false
-and-false true = refl
-and-false false = refl
 
 end-none : (ms : List Extent) → end_of_members None ms ≡ None
 end-none [] = refl

@@ -2,6 +2,7 @@
 use Rattle.std.proofs.Common.{◌≡◌, ℕ, zero, suc, ◌+◌, ◌*◌, ◌/◌, ◌-◌, ◌^◌, ◌<◌, ◌≤◌, List, length, slice_get, Option, Some, None, Bool, true, false, refl, sym, ap, ◌∙◌, subst, arith}
 use Rattle.std.specs.Prelude.{◌&&◌, nat_lt, if◌then◌else◌, MatchOption, option_and_then, option_map, IsSomeAnd}
 use Rattle.std.proofs.lemmas.Bool.Decides.{nat_tests}
+use Rattle.std.proofs.lemmas.Bool.{lt-ltb, ltb-false}
 use Rattle.std.proofs.lemmas.Option.{slice_get_within}
 use Rattle.wgsl_rules.specs.Types.{Ty, struct, array, vec, mat, Fields, no_fields, field}
 use Rattle.wgsl_rules.specs.Size.{extent_in, offset_after, end_after}
@@ -12,12 +13,6 @@ use Rattle.wgsl_nodes.specs.Places.{Part, part_in, member_in, part_if, number_ki
 use Rattle.wgsl_nodes.specs.declared.nodes.Node.{Node}
 use Rattle.wgsl_nodes.specs.declared.places.Place.{Place}
 use Rattle.wgsl_nodes.proofs.Growing.{leads-lower}
-
-less : (a b : ℕ) → a < b → nat_lt a b ≡ true
-less a b h = grind (arith, nat_tests)
-
-not-less : (a b : ℕ) → nat_lt a b ≡ false → b ≤ a
-not-less a b h = grind (arith, nat_tests)
 
 -- ---- the place of a record
 
@@ -42,7 +37,7 @@ pub place-is : (nodes : List Node) (offset number : ℕ) (t : Ty) → length nod
 place-is nodes offset number t few is = by (nat_lt offset (2 ^ 64)) refl
   where
     number-fits : nat_lt number (2 ^ 32) ≡ true
-    number-fits = let lt = slice_get_within nodes number is.node is.there in less number (2 ^ 32) (omega arith)
+    number-fits = let lt = slice_get_within nodes number is.node is.there in lt-ltb number (2 ^ 32) (omega arith)
 
     at : IsPlaceOf nodes offset t (placed nodes offset number is.node)
     at = record {
@@ -54,7 +49,7 @@ place-is nodes offset number t few is = by (nat_lt offset (2 ^ 64)) refl
 
     by : (b : Bool) → nat_lt offset (2 ^ 64) ≡ b → MatchOption (if b && nat_lt number (2 ^ 32) then option_map (placed nodes offset number) (slice_get nodes number) else None) (2 ^ 64 ≤ offset) (IsPlaceOf nodes offset t)
     by true e = rw (number-fits, is.there) at
-    by false e = not-less offset (2 ^ 64) e
+    by false e = ltb-false offset (2 ^ 64) e
 
 pub root-place : (nodes : List Node) (t : Ty) (is : IsNodeOf nodes 0 t) → IsPlaceOf nodes 0 t (placed nodes 0 0 is.node)
 root-place nodes t is = record {
@@ -115,7 +110,7 @@ member-part nodes offset child i count (Some q) few is =
     record { node = s.node; there = s.there; describes = record { says = s.says; leads = leads-lower nodes (child + count) ((child + i) + 1) s.node.child q.ty (omega arith) s.leads } } in
     let placed_is : member_place nodes offset (child + i) ≡ place_in nodes (offset + q.start) (child + i) =
     ap (option_and_then (λ r. place_in nodes (offset + r.offset) (child + i))) s.there ∙ ap (λ (k : ℕ). place_in nodes (offset + k) (child + i)) s.offset_is in
-    rw (less i count lt) (subst (λ (o : Option Place). MatchOption o (2 ^ 64 ≤ offset + q.start) (IsPlaceOf nodes (offset + q.start) q.ty)) (sym placed_is) (place-is nodes (offset + q.start) (child + i) q.ty few node))
+    rw (lt-ltb i count lt) (subst (λ (o : Option Place). MatchOption o (2 ^ 64 ≤ offset + q.start) (IsPlaceOf nodes (offset + q.start) q.ty)) (sym placed_is) (place-is nodes (offset + q.start) (child + i) q.ty few node))
 
 -- ---- any part
 

@@ -16,8 +16,8 @@ use Rattle.wgsl_rules.specs.Types as types
 use Rattle.wgsl_rules.specs.Types.{Ty, struct, array, vec, mat, atomic, Fields, no_fields, field}
 use Rattle.wgsl_rules.specs.Size.{size_of, align_of, vec3_align, times, with_both, greatest_align, extents, extent_in}
 use Rattle.wgsl_rules.specs.Layout.{is_from_2_to_4, is_multiple_of, is_align_valid, known_stride}
+use Rattle.wgsl_rules.proofs.lemmas.Known.{and-both, some-of, times-known}
 use Rattle.wgsl_nodes.specs.HostTypes.{is_scalar, has_fixed_nodes, have_fixed_nodes, is_runtime_array, end_in_runtime_array}
-use Rattle.wgsl_nodes.proofs.Known.{and-both, some-of, times-known}
 use Rattle.wgsl_nodes.proofs.Fixed.{vector-is, matrix-is, array-is, fixed-sized, first-is, last-runtime}
 
 -- ---- powers of two

@@ -4,7 +4,7 @@ use Rattle.std.specs.Int.{bytes_low_first}
 use Rattle.std.specs.List.{list_all}
 use Rattle.std.proofs.Math.ListN.{drop_of_length-le}
 use Rattle.wgsl_nodes.specs.Numbers.{number_at, numbers_at, overwritten, written_row}
-use Rattle.wgsl_nodes.proofs.Known.{and-both}
+use Rattle.wgsl_rules.proofs.lemmas.Known.{and-both}
 
 -- ---- reading
 

@@ -1,21 +1,21 @@
 -- A record that says what is so of a type that has a table agrees with its kind and with the records of its parts.
 use Rattle.std.proofs.Common.{◌≡◌, ℕ, zero, suc, ◌+◌, ◌*◌, ◌%◌, ◌<◌, ◌≤◌, max, List, [], ◌∷◌, take, drop, length, slice_get, Option, Some, None, is_some, Bool, true, false, refl, sym, ap, ◌∙◌, subst, arith, add-one}
-use Rattle.std.specs.Prelude.{◌&&◌, ◌||◌, nat_eq, nat_le, nat_lt, ◌==◌, if◌then◌else◌}
+use Rattle.std.specs.Prelude.{◌&&◌, ◌||◌, nat_eq, nat_lt, ◌==◌, if◌then◌else◌}
 use Rattle.std.specs.Int.{IsPowerOfTwo, next_multiple_of}
-use Rattle.std.proofs.lemmas.Bool.{false≢true}
+use Rattle.std.proofs.lemmas.Bool.{false≢true, eq-eqb, ne_eqb, lt-ltb, le-leb}
 use Rattle.std.proofs.lemmas.Bool.Decides.{nat_tests}
 use Rattle.std.proofs.lemmas.Option.{same_Some, slice_get_within}
 use Rattle.wgsl_rules.specs.Types as types
 use Rattle.wgsl_rules.specs.Types.{Ty, struct, array, vec, mat, atomic, Fields, no_fields, field}
 use Rattle.wgsl_rules.specs.Size.{size_of, align_of, round_up, with_both, vec3_align, times, greatest_align, struct_align, extents, extent_in, offset_after, end_after, end_of_members}
 use Rattle.wgsl_rules.specs.Layout.{amount, size, align, stride, known_stride, is_from_2_to_4, are_attributes_valid, Tail, tail_at, tail_of, last_tail}
+use Rattle.wgsl_rules.proofs.lemmas.Known.{and-both, some-of, both-known, times-known, rounded-known, end-known, ends-known}
 use Rattle.wgsl_nodes.specs.HostTypes.{kind_of, is_scalar, has_nodes, has_fixed_nodes, have_fixed_nodes, is_runtime_array, end_in_runtime_array}
 use Rattle.wgsl_nodes.specs.Nodes as nodes
 use Rattle.wgsl_nodes.specs.Nodes.{Says, Stands, LeadsTo, MembersStand, Describes, sort_of, members_in, count_of, part_stride, start_of, bytes_before}
 use Rattle.wgsl_nodes.specs.Numbers.{is_width, width_of}
 use Rattle.wgsl_nodes.specs.Tables.{no_tail, is_number_sound, vector_align, is_vector_sound, is_matrix_sound, is_array_sound, is_part_sound, is_row_sound, is_member_sound, are_members_sound, is_structure_sound, is_sound}
 use Rattle.wgsl_nodes.specs.declared.nodes.Node.{Node}
-use Rattle.wgsl_nodes.proofs.Known.{and-both, some-of, both-known, times-known, rounded-known, end-known, ends-known}
 use Rattle.wgsl_nodes.proofs.Fixed.{scalar-is, vector-is, vector-size, matrix-is, array-is, fixed-sized, fixed-tail, first-is, member-size, by-attribute, last-runtime, runtime-stride}
 use Rattle.wgsl_nodes.proofs.Arrays.{fixed-part}
 use Rattle.wgsl_nodes.proofs.Members.{runtime-none}
@@ -26,34 +26,22 @@ use Rattle.wgsl_nodes.proofs.Powers.{power-positive, power-divides, multiple-thr
 both : (a b : Bool) → a ≡ true → b ≡ true → (a && b) ≡ true
 both a b p q = rw (p, q) refl
 
-same : (a b : ℕ) → a ≡ b → (a == b) ≡ true
-same a b e = grind (arith, nat_tests)
-
-other : (a b : ℕ) → (a ≡ b → ⊥) → (a == b) ≡ false
-other a b e = grind (arith, nat_tests)
-
-less : (a b : ℕ) → a < b → nat_lt a b ≡ true
-less a b h = grind (arith, nat_tests)
-
-at-most : (a b : ℕ) → a ≤ b → nat_le a b ≡ true
-at-most a b h = grind (arith, nat_tests)
-
 has-no-tail : (r : Node) → r.tail_start ≡ 0 → r.tail_stride ≡ 0 → no_tail r ≡ true
-has-no-tail r s t = both (r.tail_start == 0) (r.tail_stride == 0) (same r.tail_start 0 s) (same r.tail_stride 0 t)
+has-no-tail r s t = both (r.tail_start == 0) (r.tail_stride == 0) (eq-eqb r.tail_start 0 s) (eq-eqb r.tail_stride 0 t)
 
 -- ---- numbers
 
 number-sound : (r : Node) (w : ℕ) → width_of r.kind ≡ w → is_width w ≡ true → r.size ≡ w → r.align ≡ w → r.count ≡ 0 → r.stride ≡ 0 → r.child ≡ 0 → r.tail_start ≡ 0 → r.tail_stride ≡ 0 → is_number_sound r ≡ true
 number-sound r w is wide s a c d child t k =
-    both _ _ (both _ _ (ap is_width is ∙ wide) (both _ _ (same r.size (width_of r.kind) (s ∙ sym is)) (same r.align (width_of r.kind) (a ∙ sym is))))
-    (both _ _ (both _ _ (same r.count 0 c) (both _ _ (same r.stride 0 d) (same r.child 0 child))) (has-no-tail r t k))
+    both _ _ (both _ _ (ap is_width is ∙ wide) (both _ _ (eq-eqb r.size (width_of r.kind) (s ∙ sym is)) (eq-eqb r.align (width_of r.kind) (a ∙ sym is))))
+    (both _ _ (both _ _ (eq-eqb r.count 0 c) (both _ _ (eq-eqb r.stride 0 d) (eq-eqb r.child 0 child))) (has-no-tail r t k))
 
 -- of a type of one number
 of-number : (table : List Node) (number : ℕ) (r : Node) (t : Ty) (w : ℕ) → Says r t → r.child ≡ 0 → sort_of t ≡ 0 → width_of (kind_of t) ≡ w → is_width w ≡ true → bytes_before (tail_of t) (size t) ≡ w → align t ≡ w
     → count_of t ≡ 0 → part_stride t ≡ 0 → start_of (tail_of t) ≡ 0 → nodes.stride_of (tail_of t) ≡ 0 → is_sound table number r ≡ true
 of-number table number r t w says child sort width wide bytes aligned count far start tail =
     let zero : r.sort ≡ 0 = says.sort ∙ sort in
-    pick (nat_eq r.sort 0) _ (same r.sort 0 zero)
+    pick (nat_eq r.sort 0) _ (eq-eqb r.sort 0 zero)
     (number-sound r w (ap width_of says.kind ∙ width) wide (says.size ∙ bytes) (says.align ∙ aligned) (says.count ∙ count) (says.stride ∙ far) child (says.tail_start ∙ start) (says.tail_stride ∙ tail))
   where
     pick : (b c : Bool) → b ≡ true → is_number_sound r ≡ true → (if b then is_number_sound r else c) ≡ true
@@ -68,7 +56,7 @@ of-row : (table : List Node) (number s : ℕ) (r part : Node) → r.sort ≡ s �
     → is_sound table number r ≡ true
 of-row table number s r part sort some few kind behind there h =
     sort-else (nat_eq r.sort 0) (nat_eq r.sort 4) (is_number_sound r) _ (is_structure_sound table r) (is_row_sound r (slice_get table r.child)) (ap (λ (k : ℕ). nat_eq k 0) sort ∙ some) (ap (λ (k : ℕ). nat_eq k 4) sort ∙ few)
-    (both (r.kind == 0) (nat_lt number r.child) (same r.kind 0 kind) (less number r.child behind)) (ap (is_row_sound r) there ∙ h)
+    (both (r.kind == 0) (nat_lt number r.child) (eq-eqb r.kind 0 kind) (lt-ltb number r.child behind)) (ap (is_row_sound r) there ∙ h)
 
 -- ---- vectors
 
@@ -119,9 +107,9 @@ vector-sound table low number r n t fixed says leads lt =
     says.align ∙ ap amount a.1 ∙ vector-align n t k.size a.0 v.scalar k.size_is a.1 ∙ ap (λ (m : ℕ). vector_align n m) (sym own) ∙ ap (λ (m : ℕ). vector_align m part.size) (sym says.count) in
     let few : part.kind < 256 = let below = sorts.1 in omega arith in
     let sound : is_vector_sound r part ≡ true =
-    both _ _ (both _ _ (both _ _ (same part.sort 0 (st.says.sort ∙ sorts.0)) (less part.kind 256 few)) (ap is_from_2_to_4 says.count ∙ v.count))
-    (both _ _ (both _ _ (same r.stride part.size far) (same r.size (r.count * part.size) bytes)) (both _ _ (same r.align (vector_align r.count part.size) aligned) (has-no-tail r says.tail_start says.tail_stride))) in
-    of-row table number 1 r part says.sort refl refl says.kind (omega arith) st.there (both (part.offset == 0) _ (same part.offset 0 st.offset_is) (rw says.sort sound))
+    both _ _ (both _ _ (both _ _ (eq-eqb part.sort 0 (st.says.sort ∙ sorts.0)) (lt-ltb part.kind 256 few)) (ap is_from_2_to_4 says.count ∙ v.count))
+    (both _ _ (both _ _ (eq-eqb r.stride part.size far) (eq-eqb r.size (r.count * part.size) bytes)) (both _ _ (eq-eqb r.align (vector_align r.count part.size) aligned) (has-no-tail r says.tail_start says.tail_stride))) in
+    of-row table number 1 r part says.sort refl refl says.kind (omega arith) st.there (both (part.offset == 0) _ (eq-eqb part.offset 0 st.offset_is) (rw says.sort sound))
 
 -- ---- matrices
 
@@ -138,9 +126,9 @@ matrix-sound table low number r c k t fixed says leads lt =
     let bytes : r.size ≡ r.count * part.align = says.size ∙ ap amount s.1 ∙ a.2 ∙ ap (λ (n : ℕ). c * n) (sym own) ∙ ap (λ (n : ℕ). n * part.align) (sym says.count) in
     let aligned : r.align ≡ part.align = says.align ∙ sym st.says.align in
     let sound : is_matrix_sound r part ≡ true =
-    both _ _ (both _ _ (same part.sort 1 st.says.sort) (ap is_from_2_to_4 says.count ∙ m.columns))
-    (both _ _ (both _ _ (same r.stride part.align far) (same r.size (r.count * part.align) bytes)) (both _ _ (same r.align part.align aligned) (has-no-tail r says.tail_start says.tail_stride))) in
-    of-row table number 2 r part says.sort refl refl says.kind (omega arith) st.there (both (part.offset == 0) _ (same part.offset 0 st.offset_is) (rw says.sort sound))
+    both _ _ (both _ _ (eq-eqb part.sort 1 st.says.sort) (ap is_from_2_to_4 says.count ∙ m.columns))
+    (both _ _ (both _ _ (eq-eqb r.stride part.align far) (eq-eqb r.size (r.count * part.align) bytes)) (both _ _ (eq-eqb r.align part.align aligned) (has-no-tail r says.tail_start says.tail_stride))) in
+    of-row table number 2 r part says.sort refl refl says.kind (omega arith) st.there (both (part.offset == 0) _ (eq-eqb part.offset 0 st.offset_is) (rw says.sort sound))
 
 -- ---- arrays
 
@@ -173,8 +161,8 @@ array-sound table low number r t n far fixed known says leads lt rest =
     let aligned : r.align ≡ part.align = says.align ∙ e.align_is in
     let stride_is : r.stride ≡ next_multiple_of part.size part.align = says.stride ∙ ap amount known ∙ e.far_is in
     let sound : is_array_sound r part ≡ true =
-    both _ _ (both _ _ (both _ _ (same part.tail_stride 0 e.whole) (less 0 part.align e.aligned)) (both _ _ (same r.align part.align aligned) (same r.stride (next_multiple_of part.size part.align) stride_is))) (rest part e) in
-    of-row table number 3 r part says.sort refl refl says.kind (omega arith) st.there (both (part.offset == 0) _ (same part.offset 0 st.offset_is) (rw says.sort sound))
+    both _ _ (both _ _ (both _ _ (eq-eqb part.tail_stride 0 e.whole) (lt-ltb 0 part.align e.aligned)) (both _ _ (eq-eqb r.align part.align aligned) (eq-eqb r.stride (next_multiple_of part.size part.align) stride_is))) (rest part e) in
+    of-row table number 3 r part says.sort refl refl says.kind (omega arith) st.there (both (part.offset == 0) _ (eq-eqb part.offset 0 st.offset_is) (rw says.sort sound))
 
 sized-array-sound : (table : List Node) (low number : ℕ) (r : Node) (t : Ty) (n : ℕ) → has_fixed_nodes (array t (Some n)) ≡ true → Says r (array t (Some n)) → LeadsTo table low r.child (array t (Some n)) → number < low → is_sound table number r ≡ true
 sized-array-sound table low number r t n fixed says leads lt =
@@ -185,8 +173,8 @@ sized-array-sound table low number r t n fixed says leads lt =
     let bytes : r.size ≡ r.count * r.stride = says.size ∙ ap amount s.1 ∙ k.2 ∙ ap (λ (m : ℕ). n * m) (sym far) ∙ ap (λ (m : ℕ). m * r.stride) (sym says.count) in
     let count : 1 ≤ n = let f = a.count in grind (arith, nat_tests) in
     let counted : r.count ≡ n = says.count in
-    let some = other r.count 0 (λ e. omega arith) in
-    array-sound table low number r t (Some n) k.0 a.element k.1 says leads lt (λ part e. rw some (both _ _ (same r.size (r.count * r.stride) bytes) (has-no-tail r says.tail_start says.tail_stride)))
+    let some = ne_eqb r.count 0 (λ e. omega arith) in
+    array-sound table low number r t (Some n) k.0 a.element k.1 says leads lt (λ part e. rw some (both _ _ (eq-eqb r.size (r.count * r.stride) bytes) (has-no-tail r says.tail_start says.tail_stride)))
 
 open-array-sound : (table : List Node) (low number : ℕ) (r : Node) (t : Ty) → is_runtime_array (array t None) ≡ true → Says r (array t None) → LeadsTo table low r.child (array t None) → number < low → is_sound table number r ≡ true
 open-array-sound table low number r t runtime says leads lt =
@@ -194,9 +182,9 @@ open-array-sound table low number r t runtime says leads lt =
     let k = some-of (known_stride t) h.1 in
     let far : r.stride ≡ k.0 = says.stride ∙ ap amount k.1 in
     let tail : r.tail_stride ≡ r.stride = says.tail_stride ∙ sym says.stride in
-    let none = same r.count 0 says.count in
+    let none = eq-eqb r.count 0 says.count in
     array-sound table low number r t None k.0 h.0 k.1 says leads lt
-    (λ part e. let some = e.some in rw none (both _ _ (both _ _ (same r.size 0 says.size) (less 0 r.stride (omega arith))) (both _ _ (same r.tail_start 0 says.tail_start) (same r.tail_stride r.stride tail))))
+    (λ part e. let some = e.some in rw none (both _ _ (both _ _ (eq-eqb r.size 0 says.size) (lt-ltb 0 r.stride (omega arith))) (both _ _ (eq-eqb r.tail_start 0 says.tail_start) (eq-eqb r.tail_stride r.stride tail))))
 
 -- ---- members
 
@@ -227,8 +215,8 @@ member-sound r m t s a fs from end far o aligned rest says at offset le greatest
     let offset_is : m.offset % m.align ≡ 0 = ap (λ (n : ℕ). n % m.align) at ∙ ap (λ (n : ℕ). o % n) own ∙ multiple-through aligned.own.align p.far o p.multiple placed in
     let align_is : r.align % m.align ≡ 0 = ap (λ (n : ℕ). r.align % n) own ∙ multiple-through aligned.own.align p.far r.align p.multiple (power-divides p.far r.align p.power power (omega arith)) in
     let some = power-positive aligned.own.align aligned.own.power in
-    both _ _ (both _ _ (both _ _ (less 0 m.align (omega arith)) (less 0 r.align (power-positive r.align power))) (both _ _ (same (m.offset % m.align) 0 offset_is) (same (r.align % m.align) 0 align_is)))
-    (at-most end m.offset (omega arith))
+    both _ _ (both _ _ (both _ _ (lt-ltb 0 m.align (omega arith)) (lt-ltb 0 r.align (power-positive r.align power))) (both _ _ (eq-eqb (m.offset % m.align) 0 offset_is) (eq-eqb (r.align % m.align) 0 align_is)))
+    (le-leb end m.offset (omega arith))
 
 -- a member of a fixed size, and where the next one stands at the least
 record IsFixedMember (m : Node) (t : Ty) (s a : Option ℕ) (from next : ℕ) : Type 0 where
@@ -255,7 +243,7 @@ fixed-member m t s a from next follows h says at e =
 step : (r m : Node) (end n number : ℕ) (table : List Node) → slice_get table number ≡ Some m → is_member_sound r end m ≡ true → m.tail_stride ≡ 0 → are_members_sound r (m.offset + m.size) (take n (drop (number + 1) table)) ≡ true
     → are_members_sound r end (take (suc n) (drop number table)) ≡ true
 step r m end n number table there sound whole rest =
-    rw (members-taken table number n m there) (both _ _ sound (pick (m.tail_stride == 0) _ _ (same m.tail_stride 0 whole) rest))
+    rw (members-taken table number n m there) (both _ _ sound (pick (m.tail_stride == 0) _ _ (eq-eqb m.tail_stride 0 whole) rest))
   where
     pick : (b c d : Bool) → b ≡ true → c ≡ true → (if b then c else d) ≡ true
     pick b c d e h = rw (e, h) refl
@@ -265,7 +253,7 @@ fixed-members-sound : (table : List Node) (r : Node) (low number from end far la
     → are_members_sound r end (take (members_in fs) (drop number table)) ≡ true
 fixed-members-sound table r low number from end far last no_fields stand fixed aligned le greatest power ends less_is multiple whole =
     let same_end = same_Some from last ends in
-    both _ _ (both _ _ (less 0 r.align (power-positive r.align power)) (both _ _ (at-most end r.size (omega arith)) (same (r.size % r.align) 0 multiple))) whole
+    both _ _ (both _ _ (lt-ltb 0 r.align (power-positive r.align power)) (both _ _ (le-leb end r.size (omega arith)) (eq-eqb (r.size % r.align) 0 multiple))) whole
 fixed-members-sound table r low number from end far last (field n t s a fs) stand fixed aligned le greatest power ends less_is multiple whole =
     let st = stand.0 in
     let e = ends-known (end_after (Some from) (extent_in t s a)) (extents fs) last ends in
@@ -289,14 +277,14 @@ last-sound : (r m : Node) (t : Ty) (o whole end : ℕ) → is_runtime_array t �
 last-sound r m (array u None) o whole end runtime says at tail sound =
     let far = runtime-stride (array u None) 0 runtime in
     let some : m.tail_stride ≡ stride u = says.tail_stride in
-    both _ _ sound (pick (m.tail_stride == 0) _ _ (other m.tail_stride 0 (λ e. omega arith))
-    (both _ _ (both _ _ (same m.sort 3 says.sort) (same r.size m.offset (tail.size ∙ sym at))) (both _ _ (same r.tail_start m.offset (tail.start ∙ sym at)) (same r.tail_stride m.tail_stride (tail.stride ∙ sym says.tail_stride)))))
+    both _ _ sound (pick (m.tail_stride == 0) _ _ (ne_eqb m.tail_stride 0 (λ e. omega arith))
+    (both _ _ (both _ _ (eq-eqb m.sort 3 says.sort) (eq-eqb r.size m.offset (tail.size ∙ sym at))) (both _ _ (eq-eqb r.tail_start m.offset (tail.start ∙ sym at)) (eq-eqb r.tail_stride m.tail_stride (tail.stride ∙ sym says.tail_stride)))))
   where
     pick : (b c d : Bool) → b ≡ false → d ≡ true → (if b then c else d) ≡ true
     pick b c d e h = rw (e, h) refl
 last-sound r m t o whole end runtime says at tail sound = absurd (false≢true runtime)
 
-known-from : (o : Option ℕ) (fs : Fields) → end_in_runtime_array o fs ≡ true → (e : ℕ) × (o ≡ Some e)
+pub known-from : (o : Option ℕ) (fs : Fields) → end_in_runtime_array o fs ≡ true → (e : ℕ) × (o ≡ Some e)
 known-from None fs h = absurd (false≢true (sym (runtime-none fs) ∙ h))
 known-from (Some e) fs h = (e, refl)
 
@@ -336,8 +324,8 @@ structure-sound table low number r name fs says leads lt some within sound =
     let count : r.count ≡ members_in fs = says.count in
     let members : are_members_sound r 0 (take r.count (drop r.child table)) ≡ true = ap (λ (n : ℕ). are_members_sound r 0 (take n (drop r.child table))) count ∙ sound in
     pick (nat_eq r.sort 0) (nat_eq r.sort 4) _ _ _ _ (ap (λ (k : ℕ). nat_eq k 0) says.sort) (ap (λ (k : ℕ). nat_eq k 4) says.sort)
-    (both (r.kind == 0) (nat_lt number r.child) (same r.kind 0 says.kind) (less number r.child (omega arith)))
-    (both _ _ (both _ _ (both _ _ (less 0 r.count (omega arith)) (same r.stride 0 says.stride)) (at-most (r.child + r.count) (length table) (omega arith))) members)
+    (both (r.kind == 0) (nat_lt number r.child) (eq-eqb r.kind 0 says.kind) (lt-ltb number r.child (omega arith)))
+    (both _ _ (both _ _ (both _ _ (lt-ltb 0 r.count (omega arith)) (eq-eqb r.stride 0 says.stride)) (le-leb (r.child + r.count) (length table) (omega arith))) members)
   where
     pick : (b c number rest members row : Bool) → b ≡ false → c ≡ true → rest ≡ true → members ≡ true → (if b then number else (rest && (if c then members else row))) ≡ true
     pick b c number rest members row p q h k = rw (p, q, h, k) refl
@@ -386,7 +374,7 @@ ended-structure-sound table low number r name fs ended says leads lt =
 
 -- ---- any type
 
-or-false : (b : Bool) → (b || false) ≡ true → b ≡ true
+pub or-false : (b : Bool) → (b || false) ≡ true → b ≡ true
 or-false true h = refl
 or-false false h = h
 

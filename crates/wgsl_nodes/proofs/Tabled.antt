@@ -9,6 +9,7 @@ use Rattle.wgsl_rules.specs.Types as types
 use Rattle.wgsl_rules.specs.Types.{Ty, struct, array, vec, mat, Fields, no_fields, field}
 use Rattle.wgsl_rules.specs.Size.{size_of, align_of, with_both, round_up, sum_of, extent_in, extents, offset_after, end_after, end_of_members, struct_align, vec_align}
 use Rattle.wgsl_rules.specs.Layout.{is_align_valid, is_size_valid}
+use Rattle.wgsl_rules.proofs.lemmas.Known.{and-both, some-of, both-known, times-known, end-known, ends-known}
 use Rattle.wgsl_nodes.specs.Canonical.{node_of, below, table}
 use Rattle.wgsl_nodes.specs.HostTypes.{has_nodes, has_fixed_nodes, have_fixed_nodes, end_in_runtime_array, is_runtime_array, is_number, is_scalar}
 use Rattle.wgsl_nodes.specs.Making.{Keeps, IsAdded, IsNumberOf, empty_node, structure_node}
@@ -20,9 +21,8 @@ use Rattle.wgsl_nodes.proofs.Arrays.{not-fixed-array}
 use Rattle.wgsl_nodes.proofs.Exact.{AreExact, none-exact, next-exact}
 use Rattle.wgsl_nodes.proofs.Filled.{none-filled, filled-next}
 use Rattle.wgsl_nodes.proofs.Fixed.{vector-is, matrix-is, first-is, last-runtime}
-use Rattle.wgsl_nodes.proofs.Known.{and-both, some-of, both-known, times-known, end-known, ends-known}
-use Rattle.wgsl_nodes.proofs.Members.{AreMade, none-made, member-made, end-of, runtime-none, structure-made}
-use Rattle.wgsl_nodes.proofs.Sound.{scalar-sort}
+use Rattle.wgsl_nodes.proofs.Members.{AreMade, none-made, member-made, end-of, structure-made}
+use Rattle.wgsl_nodes.proofs.Sound.{scalar-sort, known-from, or-false}
 use Rattle.wgsl_nodes.proofs.Typed.{AreFilled, no-children}
 use Rattle.wgsl_nodes.proofs.Walk.{fixed-part-of, runtime-aligned, ended}
 
@@ -36,10 +36,6 @@ canonical old now r t added =
 
 says-own : (t : Ty) (child : ℕ) → Says (node_of t child) t
 says-own t child = record { sort = refl; kind = refl; size = refl; align = refl; count = refl; stride = refl; tail_start = refl; tail_stride = refl }
-
-or-false : (b : Bool) → (b || false) ≡ true → b ≡ true
-or-false true h = refl
-or-false false h = absurd (false≢true h)
 
 -- ---- numbers
 
@@ -190,10 +186,6 @@ either : (a b : Bool) (P : Type 0) → (a || b) ≡ true → (a ≡ true → P) 
 either true b P h f g = f refl
 either false b P h f g = g h
 
-end-there : (o : Option ℕ) (fs : Fields) → end_in_runtime_array o fs ≡ true → (e : ℕ) × (o ≡ Some e)
-end-there None fs h = absurd (false≢true (sym (runtime-none fs) ∙ h))
-end-there (Some e) fs h = (e, refl)
-
 mutual
   pub added : (t : Ty) (old : List Node) → has_nodes t ≡ true → Grows old t
   added (vec n t) old h = vector-added n t old (or-false (has_fixed_nodes (vec n t)) h)
@@ -232,7 +224,7 @@ mutual
       last-added fs n t s a i before nodes end all name so last.runtime last.unsized last.align_valid last.placed (added t nodes (runtime-host t last.runtime))
   runtime-added (field n t s a (field m u y k rest)) name fs i before nodes end all so h =
       let first = first-is t s a (end_in_runtime_array (end_after (Some end) (extent_in t s a)) (field m u y k rest)) h in
-      let ends = end-there (end_after (Some end) (extent_in t s a)) (field m u y k rest) first.rest in
+      let ends = known-from (end_after (Some end) (extent_in t s a)) (field m u y k rest) first.rest in
       let next = step fs n t s a (field m u y k rest) i before nodes end all ends.0 so first.fixed first.size_valid first.align_valid ends.1 (added t nodes (fixed-host t first.fixed)) in
       runtime-added (field m u y k rest) name fs (i + 1) before next.nodes ends.0 next.all next.so (subst (λ (o : Option ℕ). end_in_runtime_array o (field m u y k rest) ≡ true) ends.1 first.rest)
 

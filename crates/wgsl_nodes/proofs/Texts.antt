@@ -3,14 +3,15 @@ use Rattle.std.proofs.Common.{◌≡◌, ℕ, zero, suc, ◌+◌, ◌*◌, ◌-�
 use Rattle.std.specs.Prelude.{◌&&◌, ◌==◌, nat_lt, if◌then◌else◌, MatchOption, option_and_then}
 use Rattle.std.specs.List.{list_all}
 use Rattle.std.proofs.Math.ListN.{drop_of_length-le}
-use Rattle.std.proofs.lemmas.Bool.{false≢true}
+use Rattle.std.proofs.Math.Bool.{and-false}
+use Rattle.std.proofs.lemmas.Bool.{false≢true, lt-ltb}
 use Rattle.std.proofs.lemmas.Bool.Decides.{nat_tests}
 use Rattle.wgsl_rules.specs.Values.{Step, member, index}
+use Rattle.wgsl_rules.proofs.lemmas.Known.{and-both}
 use Rattle.wgsl_nodes.specs.Paths.{is_name_byte, is_name, is_digit, is_numeral, value_after, Writes, indexed_part, stepped, led, IsLed, IsOnward, ends}
 use Rattle.wgsl_nodes.specs.Places.{has_row}
 use Rattle.wgsl_nodes.specs.declared.nodes.Node.{Node}
 use Rattle.wgsl_nodes.specs.declared.places.Place.{Place}
-use Rattle.wgsl_nodes.proofs.Known.{and-both}
 
 -- ---- a text split where no byte passes a test
 
@@ -149,10 +150,6 @@ no-number nodes names len p t digits rest is all end none = λ steps w.
     let long : nat_lt (value_after 0 digits) (2 ^ 64) ≡ false = ap (λ (c : Bool). c && nat_lt (value_after 0 digits) (2 ^ 64)) (sym b.numeral) ∙ none in
     no-led nodes names len p (index (value_after 0 digits)) steps b.more b.steps_are (far (slice_get nodes p.node) long)
   where
-    and-false : (c : Bool) → (c && false) ≡ false
-    and-false true = refl
-    and-false false = refl
-
     far : (o : Option Node) → nat_lt (value_after 0 digits) (2 ^ 64) ≡ false → option_and_then (indexed_part nodes len p (value_after 0 digits)) o ≡ None
     far None h = refl
     far (Some r) h = rw h (rw (and-false (has_row r)) refl)
@@ -260,13 +257,10 @@ split-at p t name rest n front back all end = record {
   end = subst (λ (xs : List ℕ). ends p xs ≡ true) (sym back) end;
 }
 
-positive : (n : ℕ) → 0 < n → nat_lt 0 n ≡ true
-positive n h = grind (arith, nat_tests)
-
 pub some-taken : (n : ℕ) (t name : List ℕ) → (n ≡ 0 → ⊥) → n ≤ length t → name ≡ take n t → nat_lt 0 (length name) ≡ true
 some-taken zero t name h le e = absurd (h refl)
 some-taken (suc n) [] name h le e = absurd (omega arith)
-some-taken (suc n) (x ∷ t) name h le e = positive (length name) (omega (arith, ap length e))
+some-taken (suc n) (x ∷ t) name h le e = lt-ltb 0 (length name) (omega (arith, ap length e))
 
 pub empty-head : (nodes : List Node) (names : List ℕ) (len : ℕ) (p : Place) (t : List ℕ) (n : ℕ) → n ≡ 0 → ends is_name_byte (drop n t) ≡ true → IsLed nodes names len p (46 ∷ t) None
 empty-head nodes names len p t n e end =

@@ -3,6 +3,7 @@ use Rattle.std.proofs.Common.{◌≡◌, ℕ, zero, suc, ◌+◌, ◌<◌, ◌�
 use Rattle.std.specs.Prelude.{◌&&◌, ◌||◌, ◌==◌, nat_eq, nat_lt, if◌then◌else◌, MatchOption}
 use Rattle.std.specs.Option.{option_or}
 use Rattle.std.proofs.Math.ListN.{length-set}
+use Rattle.std.proofs.Math.Bool.{and-false, or-true}
 use Rattle.std.proofs.lemmas.Bool.{false≢true}
 use Rattle.std.proofs.lemmas.Bool.Decides.{nat_tests}
 use Rattle.wgsl_rules.specs.Types.{Ty, struct, array, Fields, no_fields, field}
@@ -11,6 +12,8 @@ use Rattle.wgsl_rules.specs.Layout.{amount, size, align, is_align_valid, is_size
 use Rattle.wgsl_rules.specs.View.{Field, type_view, members_view}
 use Rattle.wgsl_rules.specs.declared.ty.StructMemberType.{StructMemberType}
 use Rattle.wgsl_rules.proofs.lemmas.Views.{member_view-is}
+use Rattle.wgsl_rules.proofs.lemmas.Known.{and-both}
+use Rattle.wgsl_rules.proofs.lemmas.Members.{first, fields-from}
 use Rattle.wgsl_nodes.specs.HostTypes.{has_nodes, has_fixed_nodes, is_runtime_array, has_runtime_nodes, end_in_runtime_array}
 use Rattle.wgsl_nodes.specs.Nodes as tables
 use Rattle.wgsl_nodes.specs.Nodes.{Says, Stands, LeadsTo, MembersStand, members_in, sort_of, start_of, bytes_before}
@@ -18,14 +21,13 @@ use Rattle.wgsl_nodes.specs.Making.{Keeps, IsAdded, IsSpot, has_spot, structure_
 use Rattle.wgsl_nodes.specs.declared.nodes.Node.{Node}
 use Rattle.wgsl_nodes.specs.declared.make.Spot.{Spot}
 use Rattle.wgsl_nodes.specs.declared.make.Members.{«Members» as SoFar}
-use Rattle.wgsl_nodes.proofs.Known.{and-both}
 use Rattle.wgsl_nodes.proofs.Fixed.{fixed-sized, fixed-tail}
 use Rattle.wgsl_nodes.proofs.Arrays.{IsFixedPart, fixed-part, tail-not-fixed}
 use Rattle.wgsl_nodes.proofs.Added.{keeps-set, keeps-through}
 use Rattle.wgsl_nodes.proofs.Exact.{node-is, AreExact, next-exact, all-exact}
 use Rattle.wgsl_nodes.proofs.Typed.{AreFilled, filled-each}
 use Rattle.wgsl_nodes.proofs.Filled.{filled-next}
-use Rattle.wgsl_nodes.proofs.Members.{first, fields-from, fields-past, members-counted, AgreesBut, AreMade, IsRefused, refused, other-refused, fixed-refused, runtime-refused, offset-of, end-of, member-made, member-stands, agrees-before, SaysStructure, structure-made}
+use Rattle.wgsl_nodes.proofs.Members.{fields-past, members-counted, AgreesBut, AreMade, IsRefused, refused, other-refused, fixed-refused, runtime-refused, offset-of, end-of, member-made, member-stands, agrees-before, SaysStructure, structure-made}
 
 -- the members from one on
 pub member-from : (ms : List StructMemberType) (i : ℕ) (m : StructMemberType) → i < length ms → m ≡ get_or ms i m
@@ -221,14 +223,6 @@ ended fs n u a before old grown now child count low i end all o far part name ma
       exact = node-is made_node (struct name fs) (length before) says refl at refl refl;
       grown = all-exact before (slice_set grown (child + i) placed) name fs (end_after (Some end) extent) (i + 1) count exactly (omega arith) counted;
     })
-  where
-    or-true : (b : Bool) → (b || true) ≡ true
-    or-true true = refl
-    or-true false = refl
-
-and-false : (b : Bool) → (b && false) ≡ false
-and-false true = refl
-and-false false = refl
 
 abbrev Ends : Fields → List Node → List Node → List ℕ → Option Node → Type 0
 Ends fs before now name o = MatchOption o (has_nodes (struct name fs) ≡ false) (λ r. IsAdded before now r (struct name fs))

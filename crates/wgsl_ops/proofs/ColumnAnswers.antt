@@ -10,6 +10,7 @@ use denote.Param.Members.{Shared}
 use Rattle.wgsl_rules.specs.Paths.{parts, same_paths, all_same_paths}
 use Rattle.wgsl_rules.specs.Types.{Ty}
 use Rattle.wgsl_rules.specs.Values.{Val, vector, matrix, Vals, no_vals, val, count, item, first_type, AllOfType, AreLiterals, AreStorable, AreVectors, IsStorable, IsVector, IsWellFormed}
+use Rattle.wgsl_rules.proofs.lemmas.Slices.{slice_get-append}
 use Rattle.wgsl_scalar.specs.declared.error.Error.{Error}
 use Rattle.wgsl_scalar.specs.declared.literal.LiteralInstance.{LiteralInstance}
 use Rattle.wgsl_values.proofs.Columns.{Each, Each-item, item-within, AreColumns, IsColumn, IsComponent, component_type, storable-columns, columns-storable}
@@ -47,11 +48,6 @@ refused-behind R [] later (y ∷ ys) e a r = absurd a
 refused-behind R (x ∷ xs) later [] e a r = absurd a
 refused-behind R (x ∷ xs) later (y ∷ ys) e a r = inr (y, a.0, refused-behind R xs later ys e a.1 r)
 
-got-front : {X : Type 0} (xs later : List X) (i : ℕ) (x : X) → slice_get xs i ≡ Some x → slice_get (xs ++ later) i ≡ Some x
-got-front [] later i x e = cc
-got-front (y ∷ xs) later zero x e = e
-got-front (y ∷ xs) later (suc i) x e = got-front xs later i x e
-
 -- the same place, behind the list
 abbrev behind : {X : Type 0} → List X → ℕ → ℕ
 behind [] i = i
@@ -74,21 +70,21 @@ all_components-append (c ∷ columns) others = rw (all_components-append columns
 -- ---- what is known of a part of the components
 
 one_kind-front : {X : Type 0} (R : X → Result Val Error → Type 0) (xs later : List X) → AnswersOneKind R (xs ++ later) → AnswersOneKind R xs
-one_kind-front R xs later o = record { one = λ i j x y v w p q. o.one i j x y v w (got-front xs later i x p) (got-front xs later j y q) }
+one_kind-front R xs later o = record { one = λ i j x y v w p q. o.one i j x y v w (slice_get-append xs later i x p) (slice_get-append xs later j y q) }
 
 one_kind-behind : {X : Type 0} (R : X → Result Val Error → Type 0) (xs later : List X) → AnswersOneKind R (xs ++ later) → AnswersOneKind R later
 one_kind-behind R xs later o = record { one = λ i j x y v w p q. o.one (behind xs i) (behind xs j) x y v w (got-behind xs later i x p) (got-behind xs later j y q) }
 
 module _ {F : Type 0} (g : Shared F (Bor LiteralInstance × Unit {0}) (Result LiteralInstance Error)) (f : F) (rest here later : List Val) (split : rest ≡ here ++ later) (c : IsCallableAt g f rest) where
   pub callable-here : IsCallableAt g f here
-  callable-here = record { at = λ i shown e. c.at i shown (rw split (got-front here later i _ e)) }
+  callable-here = record { at = λ i shown e. c.at i shown (rw split (slice_get-append here later i _ e)) }
 
   pub callable-later : IsCallableAt g f later
   callable-later = record { at = λ i shown e. c.at (behind here i) shown (rw split (got-behind here later i _ e)) }
 
 module _ {F : Type 0} (g : Shared F (Bor LiteralInstance × (Bor LiteralInstance × Unit {0})) (Result LiteralInstance Error)) (f : F) (rest here later : List (Val × Val)) (split : rest ≡ here ++ later) (c : IsCallableAtPairs g f rest) where
   pub callable_pairs-here : IsCallableAtPairs g f here
-  callable_pairs-here = record { at = λ i first second e. c.at i first second (rw split (got-front here later i _ e)) }
+  callable_pairs-here = record { at = λ i first second e. c.at i first second (rw split (slice_get-append here later i _ e)) }
 
   pub callable_pairs-later : IsCallableAtPairs g f later
   callable_pairs-later = record { at = λ i first second e. c.at (behind here i) first second (rw split (got-behind here later i _ e)) }

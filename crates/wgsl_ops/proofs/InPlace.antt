@@ -124,7 +124,7 @@ storable-next ls i d h a k = rw (take_more ls i d h, map-append literal_of (take
 
 -- ---- the vector after all was written
 
-listed-vals : (ys : List Val) → listed (vals_of ys) ≡ ys
+pub listed-vals : (ys : List Val) → listed (vals_of ys) ≡ ys
 listed-vals [] = refl
 listed-vals (y ∷ ys) = ap (λ l. y ∷ l) (listed-vals ys)
 

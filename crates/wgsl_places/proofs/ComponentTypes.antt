@@ -1,8 +1,7 @@
 -- The components of a vector.
 use Rattle.std.proofs.Common.{◌≡◌, ℕ, ◌+◌, ◌*◌, ◌<◌, ◌≤◌, ◌^◌, ℤ, pos, List, [], ◌∷◌, ◌++◌, length, map, Option, Some, None, Ok, is_some, Bool, true, false, refl, ap, arith}
-use Rattle.std.specs.Prelude.{nat_le, nat_lt, ◌&&◌, if◌then◌else◌}
-use Rattle.std.proofs.lemmas.Bool.{false≢true}
-use Rattle.std.proofs.lemmas.Bool.Decides.{nat_tests}
+use Rattle.std.specs.Prelude.{nat_le, ◌&&◌, if◌then◌else◌}
+use Rattle.std.proofs.lemmas.Bool.{false≢true, lt-ltb, leb-true}
 use Rattle.wgsl_rules.specs.Kinds as kinds
 use Rattle.wgsl_rules.specs.Kinds.{Kind, bytes_of}
 use Rattle.wgsl_rules.specs.Types as types
@@ -21,7 +20,6 @@ use Rattle.wgsl_layout.specs.Ranges.{Range, overwritten}
 use Rattle.wgsl_layout.specs.Walk.{number_bytes}
 use Rattle.wgsl_places.specs.Numbers.{kind_named, stored_kind}
 use Rattle.wgsl_places.specs.Places.{stored}
-use Rattle.wgsl_places.proofs.SideBySide.{le-tells}
 
 abbrev pub range_at : ℕ → Layout → Range
 range_at start l = record { start = start; layout = l }
@@ -58,9 +56,6 @@ pub record IsComponent (t : Ty) (k : Kind) : Type 0 where
 
 -- ---- what is stored
 
-lt-true : (a b : ℕ) → a < b → nat_lt a b ≡ true
-lt-true a b h = grind (arith, nat_tests)
-
 own : (c : Bool) (x : List ℕ) → (if c && true then Some x else None) ≡ (if c then Some x else None)
 own true x = refl
 own false x = refl
@@ -87,7 +82,7 @@ stored-u64 b o l = other (nat_le (o + 8) (length b)) (overwritten b o (buffer (l
 
 held-own : (b c : List ℕ) (o : ℕ) (k : Kind) (z : ℤ) (x : Bool) → nat_le (o + bytes_of k) (length b) ≡ x → (if x && true then Some (overwritten b o (number_bytes k z)) else None) ≡ Some c
     → IsHeld b c o k (number k z)
-held-own b c o k z true le e = record { value = z; is = refl; inside = le-tells (o + bytes_of k) (length b) le; bytes = cc (e) }
+held-own b c o k z true le e = record { value = z; is = refl; inside = leb-true (o + bytes_of k) (length b) le; bytes = cc (e) }
 held-own b c o k z false le e = absurd (cc (e))
 
 not-held : (b c : List ℕ) (o : ℕ) (k : Kind) (w : Val) (x : Bool) (y : List ℕ) → (if x && false then Some y else None) ≡ Some c → IsHeld b c o k w
@@ -121,7 +116,7 @@ held-u64 b c o w lit e = absurd lit
 -- ---- each of the types
 
 fit : (m : ℕ) → m < 2 ^ 32 → amount (fitting m) ≡ m
-fit m h = ap (λ (c : Bool). amount (if c then Some m else None)) (lt-true m (2 ^ 32) h)
+fit m h = ap (λ (c : Bool). amount (if c then Some m else None)) (lt-ltb m (2 ^ 32) h)
 
 pub component : (t : Ty) → is_some (scalar_kind t) ≡ true → (k : Kind) × IsComponent t k
 component types.i32 h = (

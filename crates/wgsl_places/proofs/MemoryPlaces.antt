@@ -1,7 +1,7 @@
 -- Places in what references name: which parts they are of, and the numbers there.
 use Rattle.std.proofs.Common.{◌≡◌, ℕ, zero, suc, ◌+◌, ◌-◌, ◌≤◌, ℤ, List, [], ◌∷◌, ◌++◌, length, take, drop, Option, Some, None, is_some, option_map, option_and_then, Ok, Bool, true, false, refl, sym, ap, ◌∙◌, subst, arith}
 use Rattle.std.specs.Prelude.{IsSomeAnd, IfSome, ◌||◌, if◌then◌else◌}
-use Rattle.std.proofs.lemmas.Bool.{false≢true}
+use Rattle.std.proofs.lemmas.Bool.{false≢true, le-leb}
 use Rattle.std.proofs.lemmas.List.{drop-take, length-take, take-take}
 use Rattle.wgsl_rules.specs.Kinds as kinds
 use Rattle.wgsl_rules.specs.Kinds.{Kind}
@@ -12,6 +12,7 @@ use Rattle.wgsl_rules.specs.Values.{Reference, Val, Vals, no_vals, val, item, nu
 use Rattle.wgsl_rules.specs.Paths.{parts, value_at}
 use Rattle.wgsl_rules.specs.Refusals.{Outcome, and_then}
 use Rattle.wgsl_rules.specs.Layout.{has_fixed_layout, has_layout, Layout, scalar, composite, Parts, no_parts, part, is_from_2_to_4, length_in, layout, layout_of, runtime_count, scalar_kind, type_in}
+use Rattle.wgsl_rules.proofs.lemmas.Known.{and-both}
 use Rattle.wgsl_scalar.specs.Literals.{literal_of}
 use Rattle.wgsl_scalar.specs.declared.literal.LiteralInstance.{LiteralInstance}
 use Rattle.wgsl_scalar.specs.declared.literal.LiteralInstance.TheVariants as literals
@@ -26,7 +27,6 @@ use Rattle.wgsl_layout.proofs.lemmas.Compose.{compose, laid-decodes}
 use Rattle.wgsl_layout.proofs.lemmas.Follows.{Follows, FollowAll, follows, parts-follow}
 use Rattle.wgsl_store.proofs.lemmas.Held.{kept-is}
 use Rattle.wgsl_layout.proofs.lemmas.InRange.{there-decodes}
-use Rattle.wgsl_layout.proofs.lemmas.Known.{and-both}
 use Rattle.wgsl_layout.proofs.lemmas.PathRanges.{range_in-append}
 use Rattle.wgsl_layout.proofs.lemmas.Places.{part-storable}
 use Rattle.wgsl_layout.proofs.lemmas.Roundtrip.{lays-itself}
@@ -37,7 +37,6 @@ use Rattle.wgsl_places.specs.Memory.{IsPlaceAt, IsPlaceIn, IsPlaceOf, takes_at}
 use Rattle.wgsl_places.specs.Numbers.{width_with}
 use Rattle.wgsl_places.specs.Places.{ArePlaces, IsPlace, is_inside, loaded, number_there, takes}
 use Rattle.wgsl_places.specs.declared.place.Place.{Place}
-use Rattle.wgsl_places.proofs.SideBySide.{le-true}
 use Rattle.wgsl_layout.proofs.NumberPuts.{some-is, led-is}
 use Rattle.wgsl_layout.proofs.Outcomes.{answered}
 
@@ -196,7 +195,7 @@ loaded-is t x path p b r s h there place begins = by r.layout refl y.2
         let stands = stands-there x y.0 path b r p.elements s h y.1 there place.layout_is fixed begins in
         let numbers : number_there b r.start r.layout ≡ number_in y.0 =
         ap (number_there b r.start) e ∙ sym (scalar-number u k (read_number b r.start k)) ∙ ap (λ (l : Layout). number_in (decoded b r.start l)) (sym e) ∙ ap number_in stands in
-        ap (λ (c : Bool). if c then number_there b r.start r.layout else None) (le-true (r.start + length_in r.layout) (length b) (omega (arith, inside.0, inside.1))) ∙ numbers
+        ap (λ (c : Bool). if c then number_there b r.start r.layout else None) (le-leb (r.start + length_in r.layout) (length b) (omega (arith, inside.0, inside.1))) ∙ numbers
         ∙ ap (option_and_then number_in) (sym y.1)
     by (composite u len ps) e f =
         let g : Follows (composite u len ps) y.0 = subst (λ (l : Layout). Follows l y.0) e f in

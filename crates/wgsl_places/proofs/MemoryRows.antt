@@ -9,7 +9,7 @@ use Rattle.wgsl_rules.specs.Paths.{fits, parts, put_tree, put_viewed, replace_it
 use Rattle.wgsl_rules.specs.Refusals.{Outcome}
 use Rattle.wgsl_rules.specs.Values.{Reference, Val, truth, number, record_of, array_of, vector, matrix, Vals, no_vals, val, count, item, type_of, IsLiteral, AreLiterals, IsStorable}
 use Rattle.wgsl_rules.specs.declared.syntax.AccessMode.TheVariants.{ReadWrite}
-use Rattle.wgsl_rules.proofs.lemmas.Paths.{fits-Decides, put-held}
+use Rattle.wgsl_rules.proofs.lemmas.Paths.{fits-Decides, put-held, parts-replaced}
 use Rattle.wgsl_scalar.specs.Literals.{literal_of}
 use Rattle.wgsl_scalar.specs.declared.literal.LiteralInstance.{LiteralInstance}
 use Rattle.wgsl_values.specs.Iterators.{listed}
@@ -23,7 +23,6 @@ use Rattle.wgsl_layout.specs.NumbersIn.{HasNumberAt, IsLikeNumber, IsNumberAt, n
 use Rattle.wgsl_layout.specs.Plan.{plan_of}
 use Rattle.wgsl_layout.specs.Ranges.{Range, range_in}
 use Rattle.wgsl_layout.specs.Walk.{put}
-use Rattle.wgsl_layout.proofs.lemmas.Alike.{parts-replaced}
 use Rattle.wgsl_layout.proofs.lemmas.Compose.{value-below}
 use Rattle.wgsl_layout.proofs.lemmas.Flat.{IsPut, fits-laid, put-at-path}
 use Rattle.wgsl_store.proofs.lemmas.Held.{held-value}

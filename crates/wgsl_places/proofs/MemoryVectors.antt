@@ -3,7 +3,7 @@ use Rattle.std.proofs.Common.{◌≡◌, ℕ, zero, suc, ◌+◌, ◌*◌, ◌<�
 use Rattle.std.specs.Prelude.{IsOkAnd, IfSome, ◌==◌, ◌&&◌, if◌then◌else◌}
 use Rattle.std.specs.Bool.{OnTrue}
 use Rattle.std.specs.List.{list_all}
-use Rattle.std.proofs.lemmas.Bool.{false≢true}
+use Rattle.std.proofs.lemmas.Bool.{false≢true, le-leb, eqb-true}
 use Rattle.std.proofs.lemmas.List.{length-map}
 use Rattle.std.proofs.lemmas.Option.{slice_get_within}
 use Rattle.wgsl_rules.specs.Kinds.{bytes_of}
@@ -13,6 +13,7 @@ use Rattle.wgsl_rules.specs.Same.{same}
 use Rattle.wgsl_rules.specs.Types as types
 use Rattle.wgsl_rules.specs.Types.{Ty, vec}
 use Rattle.wgsl_rules.specs.Values.{Reference, Val, vector, Vals, no_vals, val, count, type_of, IsStorable}
+use Rattle.wgsl_rules.proofs.lemmas.Known.{and-both}
 use Rattle.wgsl_scalar.specs.Literals.{literal_of}
 use Rattle.wgsl_scalar.specs.declared.literal.LiteralInstance.{LiteralInstance}
 use Rattle.wgsl_nodes.specs.HostTypes.{is_number, kind_of}
@@ -24,7 +25,6 @@ use Rattle.wgsl_layout.specs.NumbersIn.{IsNumberAt}
 use Rattle.wgsl_layout.specs.Ranges.{Range, further, part_at, parts_in, range_in}
 use Rattle.wgsl_layout.proofs.lemmas.Follows.{Follows, FollowAll, follows}
 use Rattle.wgsl_store.proofs.lemmas.Held.{held-value}
-use Rattle.wgsl_layout.proofs.lemmas.Known.{and-both}
 use Rattle.wgsl_layout.proofs.lemmas.Tidy.{counts}
 use Rattle.wgsl_places.specs.Laws.{components_in}
 use Rattle.wgsl_places.specs.Memory.{IsPlaceAt, IsPlaceIn, IsPlaceOf, is_vector_of, takes_vec_at}
@@ -39,7 +39,6 @@ use Rattle.wgsl_layout.proofs.Outcomes.{answered}
 use Rattle.wgsl_layout.proofs.NumberPuts.{led-is}
 use Rattle.wgsl_layout.proofs.NumberPuts.{some-is}
 use Rattle.wgsl_places.proofs.MemoryRows.{count-listed}
-use Rattle.wgsl_places.proofs.SideBySide.{le-true, one as equal}
 use Rattle.wgsl_places.proofs.VectorValues.{vector-loads-are-reads}
 use Rattle.wgsl_places.proofs.Vectors.{IsVector, one-or-none, vector-is}
 
@@ -65,7 +64,7 @@ loaded-vec-is t x path p b r s h there place begins = by (is_vector (type_in r.l
     by true is =
         let inside = range-inside x y.0 path b r s h y.1 there begins in
         let stands = stands-there x y.0 path b r p.elements s h y.1 there place.layout_is (vector-fixed (type_in r.layout) is place.laid) begins in
-        vector-loads-are-reads b r p.elements place.laid place.layout_is (le-true (r.start + length_in r.layout) (length b) (omega (arith, inside.0, inside.1)))
+        vector-loads-are-reads b r p.elements place.laid place.layout_is (le-leb (r.start + length_in r.layout) (length b) (omega (arith, inside.0, inside.1)))
         ∙ ap components_in stands ∙ ap (option_and_then components_in) (sym y.1)
     by false is =
         let typed : is_vector (type_of y.0) ≡ false = ap is_vector (sym (part-type x y.0 path r s h y.1 there)) ∙ is in
@@ -173,7 +172,7 @@ vector-row x path r m n far t ls s h there is laid e = record { row = record { m
     both = and-both (length ls == n) (list_all (λ l. is_of_kind (kind_of t) (literal_of l)) ls) (and-both (is_from_2_to_4 n) ((length ls == n) && list_all (λ l. is_of_kind (kind_of t) (literal_of l)) ls) tests.0).1
 
     as_many : length ls ≡ n
-    as_many = equal (length ls) n both.0
+    as_many = eqb-true (length ls) n both.0
 
     far_is : far ≡ bytes_of v.kind
     far_is = let known : Some far ≡ Some (bytes_of v.kind) = tests.1 ∙ ap (option_map bytes_of) v.component.named in cc (known)

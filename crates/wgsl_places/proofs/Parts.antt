@@ -1,18 +1,17 @@
 -- The parts of a place.
-use Rattle.std.proofs.Common.{◌≡◌, ℕ, zero, suc, ◌+◌, ◌*◌, ◌<◌, ◌≤◌, ◌^◌, List, Option, Some, None, option_map, is_some, Bool, true, false, refl, sym, ap, ◌∙◌, subst, arith}
+use Rattle.std.proofs.Common.{◌≡◌, ℕ, zero, suc, ◌+◌, ◌*◌, ◌≤◌, ◌^◌, List, Option, Some, None, option_map, is_some, Bool, true, false, refl, sym, ap, ◌∙◌, subst, arith}
 use Rattle.std.specs.Prelude.{nat_lt, ◌&&◌, ◌||◌, MatchOption}
-use Rattle.std.proofs.lemmas.Bool.{false≢true}
-use Rattle.std.proofs.lemmas.Bool.Decides.{nat_tests}
+use Rattle.std.proofs.lemmas.Bool.{false≢true, ltb-true, ltb-false, lt-ltb}
 use Rattle.wgsl_rules.specs.Kinds.{Kind}
 use Rattle.wgsl_rules.specs.Types as types
 use Rattle.wgsl_rules.specs.Types.{Ty, struct, array, vec, mat, Fields, no_fields, field}
 use Rattle.wgsl_rules.specs.Size.{size_of, extent_in, end_after}
 use Rattle.wgsl_rules.specs.Layout.{size, align, stride, scalar_kind, known_stride, is_from_2_to_4, has_fixed_layout, have_fixed_layouts, is_runtime_array, end_in_runtime_array, has_runtime_layout, has_layout, Layout, scalar, composite, Parts, no_parts, part, length_in, type_in, repeated, leaf, leaf_kind, layout, member_parts}
+use Rattle.wgsl_rules.proofs.lemmas.Known.{and-both}
 use Rattle.wgsl_nodes.specs.Canonical.{table}
 use Rattle.wgsl_nodes.specs.Places.{Part, part_if, part_with, member_in, IsPartAt, IsPlaceOf}
 use Rattle.wgsl_nodes.specs.declared.places.Place.{«Place» as NodePlace}
 use Rattle.wgsl_layout.specs.Ranges.{Range, further, part_at, parts_in}
-use Rattle.wgsl_layout.proofs.lemmas.Known.{and-both}
 use Rattle.wgsl_layout.proofs.lemmas.Fixed.{first-fixed, fixed-array, fixed-mat, last-runtime, array-runtime}
 use Rattle.wgsl_layout.proofs.lemmas.Positive.{tail-stride}
 use Rattle.wgsl_layout.proofs.lemmas.Ranges.{IsTidy, AreTidy, tidy-length}
@@ -22,12 +21,6 @@ use Rattle.wgsl_places.specs.Places.{IsPlace, ArePlaces}
 use Rattle.wgsl_places.specs.declared.place.Place.{Place}
 use Rattle.wgsl_layout.proofs.Locating.{nth-part}
 use Rattle.wgsl_places.proofs.MemoryPlaces.{or-false as left}
-
-less : (a b : ℕ) → nat_lt a b ≡ true → a < b
-less a b h = grind (arith, nat_tests)
-
-not-less : (a b : ℕ) → nat_lt a b ≡ false → b ≤ a
-not-less a b h = grind (arith, nat_tests)
 
 -- ---- the parts of a layout are those of the type
 
@@ -46,8 +39,8 @@ row-agrees : (n i far k : ℕ) (u : Ty) → part_at i (repeated (layout n u) far
 row-agrees n i far k u = by (nat_lt i k) refl
   where
     by : (b : Bool) → nat_lt i k ≡ b → part_at i (repeated (layout n u) far 0 k) ≡ option_map (range_of n) (part_if b (i * far) u)
-    by true e = let z : 0 + i * far ≡ i * far = omega arith in nth-part (layout n u) far 0 i k (less i k e) ∙ ap (λ (o : ℕ). Some (range_at o (layout n u))) z
-    by false e = past-parts (layout n u) far 0 i k (not-less i k e)
+    by true e = let z : 0 + i * far ≡ i * far = omega arith in nth-part (layout n u) far 0 i k (ltb-true i k e) ∙ ap (λ (o : ℕ). Some (range_at o (layout n u))) z
+    by false e = past-parts (layout n u) far 0 i k (ltb-false i k e)
 
 members-agree : (n i : ℕ) (from : Option ℕ) (fs : Fields) → part_at i (member_parts n from fs) ≡ option_map (range_of n) (member_in from i fs)
 members-agree n i from no_fields = refl
@@ -61,15 +54,12 @@ leaf-parts t (Some k) = refl
 positive : (b : Bool) (k i n : ℕ) → nat_lt 0 k ≡ true → (nat_lt 0 k && nat_lt i n) ≡ nat_lt i n
 positive b k i n h = ap (λ (c : Bool). c && nat_lt i n) h
 
-more : (k : ℕ) → 0 < k → nat_lt 0 k ≡ true
-more k h = grind (arith, nat_tests)
-
 pub parts-agree : (n i : ℕ) (u : Ty) → has_layout u ≡ true → part_at i (parts_in (layout n u)) ≡ option_map (range_of n) (part_with n i u)
 parts-agree n i (vec k u) h = row-agrees n i (size u) k u
 parts-agree n i (mat c r u) h = row-agrees n i (align (vec r u)) c (vec r u)
 parts-agree n i (array u (Some k)) h = row-agrees n i (stride u) k u
 parts-agree n i (array u None) h =
-    let far = more (stride u) (tail-stride (array u None) h) in
+    let far = lt-ltb 0 (stride u) (tail-stride (array u None) h) in
     row-agrees n i (stride u) n u ∙ ap (λ (b : Bool). option_map (range_of n) (part_if b (i * stride u) u)) (sym (positive true (stride u) i n far))
 parts-agree n i (struct name fs) h = members-agree n i (Some 0) fs
 parts-agree n i t h = ap (part_at i) (leaf-parts t (leaf_kind t))

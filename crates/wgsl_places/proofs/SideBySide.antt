@@ -2,7 +2,7 @@
 use Rattle.std.proofs.Common.{◌≡◌, ℕ, zero, suc, ◌+◌, ◌*◌, ◌<◌, ◌≤◌, ℤ, List, [], ◌∷◌, length, map, drop, get_or, Option, Some, None, option_and_then, is_some, Bool, true, false, ◌⊎◌, refl, sym, ap, ◌∙◌, arith, add-one, drop-cons}
 use Rattle.std.specs.Prelude.{nat_le, ◌==◌, ◌&&◌, ◌||◌, if◌then◌else◌}
 use Rattle.std.specs.List.{list_all}
-use Rattle.std.proofs.lemmas.Bool.{false≢true}
+use Rattle.std.proofs.lemmas.Bool.{false≢true, le-leb, eqb-true, leb-true, leb-false}
 use Rattle.std.proofs.lemmas.Bool.Decides.{nat_tests}
 use Rattle.std.proofs.lemmas.List.{length-map}
 use Rattle.std.proofs.lemmas.List.Folds.{list_all-map}
@@ -12,24 +12,15 @@ use Rattle.wgsl_rules.specs.InCommon.{prepended}
 use Rattle.wgsl_rules.specs.Kinds as kinds
 use Rattle.wgsl_rules.specs.Kinds.{Kind, bytes_of}
 use Rattle.wgsl_rules.specs.Values.{Val, number, no_vals, val}
+use Rattle.wgsl_rules.proofs.lemmas.Known.{and-both}
 use Rattle.wgsl_scalar.specs.Literals.{literal_of}
 use Rattle.wgsl_scalar.specs.declared.literal.LiteralInstance.{LiteralInstance}
 use Rattle.wgsl_scalar.specs.declared.literal.LiteralInstance.TheVariants as literals
 use Rattle.wgsl_values.specs.View.{vals_of}
 use Rattle.wgsl_layout.specs.Plan.{scalar}
 use Rattle.wgsl_layout.specs.Walk.{Stands, StandInRow, number_bytes, put, put_row}
-use Rattle.wgsl_layout.proofs.lemmas.Known.{and-both}
 use Rattle.wgsl_layout.proofs.lemmas.Leaves.{over-length}
 use Rattle.wgsl_places.specs.Numbers.{is_of_kind, loaded_far, loaded_kind, loaded_row, number_put, stored_far, stored_in, stored_kind, stored_row, width_of, width_with}
-
-pub le-tells : (a b : ℕ) → nat_le a b ≡ true → a ≤ b
-le-tells a b h = grind (arith, nat_tests)
-
-pub le-true : (a b : ℕ) → a ≤ b → nat_le a b ≡ true
-le-true a b h = grind (arith, nat_tests)
-
-le-false : (a b : ℕ) → nat_le a b ≡ false → b < a
-le-false a b h = grind (arith, nat_tests)
 
 -- ---- loading
 
@@ -118,9 +109,6 @@ passed false n h = absurd (false≢true h)
 one-of : (kind m n : ℕ) → (kind == m || kind == n) ≡ true → (kind ≡ m) ⊎ (kind ≡ n)
 one-of kind m n h = grind (arith, nat_tests)
 
-pub one : (kind m : ℕ) → (kind == m) ≡ true → kind ≡ m
-one kind m h = grind (arith, nat_tests)
-
 of-kind : (kind far : ℕ) (w : Val) → Some far ≡ width_of kind → is_of_kind kind w ≡ true → IsOfKind kind far w
 of-kind kind far (number kinds.i32 z) e h =
     elim (one-of kind 1 257 (passed (kind == 1 || kind == 257) 4 h)) [
@@ -132,8 +120,8 @@ of-kind kind far (number kinds.u32 z) e h =
       | inl is ↦ numbered 2 kind far kinds.u32 z (λ same. cc (same)) refl refl e is
       | inr is ↦ numbered 258 kind far kinds.u32 z (λ same. cc (same)) refl refl e is
     ]
-of-kind kind far (number kinds.i64 z) e h = numbered 5 kind far kinds.i64 z (λ same. cc (same)) refl refl e (one kind 5 (passed (kind == 5) 8 h))
-of-kind kind far (number kinds.u64 z) e h = numbered 6 kind far kinds.u64 z (λ same. cc (same)) refl refl e (one kind 6 (passed (kind == 6) 8 h))
+of-kind kind far (number kinds.i64 z) e h = numbered 5 kind far kinds.i64 z (λ same. cc (same)) refl refl e (eqb-true kind 5 (passed (kind == 5) 8 h))
+of-kind kind far (number kinds.u64 z) e h = numbered 6 kind far kinds.u64 z (λ same. cc (same)) refl refl e (eqb-true kind 6 (passed (kind == 6) 8 h))
 of-kind kind far w e h = absurd (false≢true h)
 
 -- ---- storing
@@ -142,7 +130,7 @@ of-kind kind far w e h = absurd (false≢true h)
 stored-one : (b : List ℕ) (o kind far : ℕ) (w : Val) → IsOfKind kind far w → o + far ≤ length b → stored_kind b o kind w ≡ Some (put w scalar o b)
 stored-one b o kind far w is le =
     ap (option_and_then (stored_in b o w)) is.width
-    ∙ ap (λ (c : Bool). if c then Some (number_put b o w) else None) (le-true (o + far) (length b) le) ∙ ap Some (is.is_put o b)
+    ∙ ap (λ (c : Bool). if c then Some (number_put b o w) else None) (le-leb (o + far) (length b) le) ∙ ap Some (is.is_put o b)
 
 -- all are put, where all are of the kind and lie inside
 all-stored : (b : List ℕ) (o kind far : ℕ) (ws : List Val) → Some far ≡ width_of kind → list_all (is_of_kind kind) ws ≡ true → o + length ws * far ≤ length b
@@ -186,7 +174,7 @@ stored-inside b c o kind far w e h = by (width_with kind w) refl h
         let own = of-kind kind far w e (ap is_some is) in
         let both : Some n ≡ Some far = sym is ∙ own.width in
         let wide : n ≡ far = cc (both) in
-        let inside = le-tells (o + n) (length b) le in
+        let inside = leb-true (o + n) (length b) le in
         let here : o + far ≤ length b = omega (arith, wide) in
         let put : number_put b o w ≡ c = cc (h) in
         (here, ap length (sym put) ∙ own.kept o b here)
@@ -234,7 +222,7 @@ pub row-not-stored : (b : List ℕ) (o kind far : ℕ) (ls : List LiteralInstanc
 row-not-stored b o kind far ls e some (inl other) = row-of b o kind far ls None e (other-stored b o kind far (map literal_of ls) (list_all-map (is_of_kind kind) literal_of ls ∙ other))
 row-not-stored b o kind far ls e some (inr outside) =
     let same : length (map literal_of ls) ≡ length ls = length-map ls literal_of in
-    let past = le-false (o + length ls * far) (length b) outside in
+    let past = leb-false (o + length ls * far) (length b) outside in
     let beyond = ap (λ (n : ℕ). o + n * far) same in
     row-of b o kind far ls None e (outside-stored b o kind far (map literal_of ls) e (omega (arith, same)) (omega (arith, beyond)))
 
@@ -246,7 +234,7 @@ pub record IsRowPut (b : List ℕ) (o kind far : ℕ) (ls : List LiteralInstance
 pub row-stored : (b : List ℕ) (o kind far : ℕ) (ls : List LiteralInstance) → Some far ≡ width_of kind → AreOfKind kind ls true → AreInside b o far ls true → IsRowPut b o kind far ls
 row-stored b o kind far ls e kinds inside =
     let same = ap (λ (n : ℕ). o + n * far) (length-map ls literal_of) in
-    let le = le-tells (o + length ls * far) (length b) inside in
+    let le = leb-true (o + length ls * far) (length b) inside in
     let own = list_all-map (is_of_kind kind) literal_of ls ∙ kinds in
     record {
       stand = all-stand o kind far (length b) (map literal_of ls) e own (omega (arith, same));

@@ -1,7 +1,7 @@
 -- Numbers of vectors at places are those of parts.
 use Rattle.std.proofs.Common.{◌≡◌, ℕ, zero, suc, ◌+◌, ◌*◌, ◌≤◌, ℤ, List, [], ◌∷◌, ◌++◌, length, map, take, drop, Option, Some, None, Ok, option_and_then, Bool, true, false, refl, sym, ap, ◌∙◌, arith, length-append, append_assoc}
 use Rattle.std.specs.Prelude.{if◌then◌else◌}
-use Rattle.std.proofs.lemmas.Bool.{false≢true}
+use Rattle.std.proofs.lemmas.Bool.{false≢true, le-leb, leb-true}
 use Rattle.std.proofs.lemmas.List.{drop-drop, length-take-le, take-append-drop}
 use Rattle.std.proofs.lemmas.List.FromFn.{length-map-range_with_len}
 use Rattle.std.proofs.Math.Seq.{drop-append-add, take-append_seam}
@@ -21,7 +21,6 @@ use Rattle.wgsl_places.specs.Laws.{components_in, VectorLoadsAreReads, VectorSto
 use Rattle.wgsl_places.specs.Places.{stored}
 use Rattle.wgsl_places.specs.Vectors.{is_vector, loaded_parts, stored_parts}
 use Rattle.wgsl_places.proofs.ComponentTypes.{IsComponent, IsHeld, Writes, range_at, row_bytes}
-use Rattle.wgsl_places.proofs.SideBySide.{le-tells, le-true}
 use Rattle.wgsl_places.proofs.Vectors.{vector-is}
 
 -- ---- what is loaded
@@ -32,7 +31,7 @@ parts-read b o from zero t k is le = refl
 parts-read b o from (suc n) t k is le =
     let here : o + from + bytes_of k ≤ length b = omega arith in
     let z = read_number b (o + from) k in
-    ap (λ (c : Bool). prepended (if c then Some (number k z) else None) (loaded_parts b o (repeated (scalar t k) (bytes_of k) (from + bytes_of k) n))) (le-true (o + from + bytes_of k) (length b) here)
+    ap (λ (c : Bool). prepended (if c then Some (number k z) else None) (loaded_parts b o (repeated (scalar t k) (bytes_of k) (from + bytes_of k) n))) (le-leb (o + from + bytes_of k) (length b) here)
     ∙ ap (prepended (Some (number k z))) (parts-read b o (from + bytes_of k) n t k is (omega arith))
     ∙ ap (λ (v : Val). Some (v ∷ listed (decoded_parts b o (repeated (scalar t k) (bytes_of k) (from + bytes_of k) n)))) (sym (is.made z))
 
@@ -72,7 +71,7 @@ type-read b o m u h le same = other-read b o (layout m u) same
 pub vector-loads-are-reads : VectorLoadsAreReads
 vector-loads-are-reads b r m h is inside =
     let u = type_in r.layout in
-    let le = le-tells (r.start + length_in r.layout) (length b) inside in
+    let le = leb-true (r.start + length_in r.layout) (length b) inside in
     let long : length_in r.layout ≡ length_in (layout m u) = ap length_in is in
     ap (loaded_there b r.start (is_vector u)) is
     ∙ type-read b r.start m u h (omega (arith, long)) (ap (λ (l : Layout). is_vector (type_in l)) (sym is))

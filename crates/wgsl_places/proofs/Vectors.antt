@@ -8,12 +8,12 @@ use Rattle.wgsl_rules.specs.Kinds.{Kind, bytes_of}
 use Rattle.wgsl_rules.specs.Types.{Ty, vec}
 use Rattle.wgsl_rules.specs.Values.{Val}
 use Rattle.wgsl_rules.specs.Layout.{size, scalar_kind, is_from_2_to_4, has_layout, has_fixed_layout, Layout, scalar, Parts, layout, repeated, type_in}
+use Rattle.wgsl_rules.proofs.lemmas.Known.{and-both}
 use Rattle.wgsl_scalar.specs.Literals.{literal_of}
 use Rattle.wgsl_scalar.specs.declared.literal.LiteralInstance.{LiteralInstance}
 use Rattle.wgsl_nodes.specs.HostTypes.{is_number, kind_of}
 use Rattle.wgsl_nodes.specs.Places.{number_kind, numbers_in}
 use Rattle.wgsl_layout.specs.Ranges.{Range, parts_in}
-use Rattle.wgsl_layout.proofs.lemmas.Known.{and-both}
 use Rattle.wgsl_places.specs.Numbers.{kind_named, loaded_as, loaded_far, loaded_row, stored_far, stored_row}
 use Rattle.wgsl_places.specs.Places.{IsPlace, loaded, stored}
 use Rattle.wgsl_places.specs.Vectors.{is_vector, loaded_parts, loaded_vec, stored_parts, stored_vec}

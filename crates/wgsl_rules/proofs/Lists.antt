@@ -6,13 +6,13 @@ use Rattle.wgsl_rules.specs.InCommon.{all_in, prepended}
 use Rattle.wgsl_rules.specs.Types.{Ty}
 use Rattle.wgsl_rules.specs.Values.{Val}
 
-prepended-step : (o : Option Val) (p q : Option (List Val)) (ws : List Val) (w : Val) → prepended o p ≡ Some ws
+pub prepended-step : (o : Option Val) (p q : Option (List Val)) (ws : List Val) (w : Val) → prepended o p ≡ Some ws
     → ((rest : List Val) → p ≡ Some rest → q ≡ Some (rest ++ (w ∷ []))) → prepended o q ≡ Some (ws ++ (w ∷ []))
 prepended-step None p q ws w h k = cc
 prepended-step (Some x) None q ws w h k = cc
 prepended-step (Some x) (Some xs) q ws w h k = let e : x ∷ xs ≡ ws = cc in rw (k xs refl, ← e) refl
 
-prepended-none : (o : Option Val) → prepended o None ≡ None
+pub prepended-none : (o : Option Val) → prepended o None ≡ None
 prepended-none None = refl
 prepended-none (Some x) = refl
 

@@ -5,7 +5,7 @@ use Rattle.std.specs.Int.{bit_at, w32, w64, reverse_bits, reverse_bits_onto}
 use Rattle.std.specs.Int.RustNames.{bit_and, bit_or}
 use Rattle.std.proofs.Math.Nat.{mod-lt, pow-suc}
 use Rattle.std.proofs.Math.Pow.{pow_mono}
-use Rattle.std.proofs.lemmas.Bool.{cases_lt}
+use Rattle.std.proofs.lemmas.Bool.{cases_lt, ltb-true, ltb-false}
 use Rattle.std.proofs.lemmas.Bool.Decides.{nat_tests}
 use Rattle.std.proofs.lemmas.Int.{ints}
 use Rattle.std.proofs.lemmas.Nat.{pow_pos, shr_split}
@@ -26,12 +26,6 @@ choose false z x y f g = g refl
 both : {A : Type 0} (b : Bool) (x y u v : A) → (b ≡ true → x ≡ u) → (b ≡ false → y ≡ v) → (if b then x else y) ≡ (if b then u else v)
 both true x y u v f g = f refl
 both false x y u v f g = g refl
-
-below : (i n : ℕ) → nat_lt i n ≡ true → i < n
-below i n h = grind (arith, nat_tests)
-
-not_below : (i n : ℕ) → nat_lt i n ≡ false → n ≤ i
-not_below i n h = grind (arith, nat_tests)
 
 inside : (o w i : ℕ) → (nat_le o i && nat_lt i (o + w)) ≡ true → (o ≤ i) × (i < o + w)
 inside o w i h = grind (arith, nat_tests)
@@ -78,8 +72,8 @@ pub field-bits : (n o w i : ℕ) → bit_at (bit_and (n / 2 ^ o) (2 ^ w - 1)) i 
 field-bits n o w i =
     bit_at_and (n / 2 ^ o) (2 ^ w - 1) i
     ∙ choose (nat_lt i w) _ _ _
-    (λ t. ap₂ min (bit_at-shr n o i) (bit_at_ones w i (below i w t)) ∙ kept (bit_at n (o + i)) (bit_at-lt n (o + i)))
-    (λ t. ap (min (bit_at (n / 2 ^ o) i)) (bit_at_ones_above w i (not_below i w t)) ∙ gone (bit_at (n / 2 ^ o) i))
+    (λ t. ap₂ min (bit_at-shr n o i) (bit_at_ones w i (ltb-true i w t)) ∙ kept (bit_at n (o + i)) (bit_at-lt n (o + i)))
+    (λ t. ap (min (bit_at (n / 2 ^ o) i)) (bit_at_ones_above w i (ltb-false i w t)) ∙ gone (bit_at (n / 2 ^ o) i))
 
 ones_lt : (w : ℕ) → w ≤ 64 → 2 ^ w - 1 < 2 ^ 64
 ones_lt w h = let p : 2 ^ w ≤ 2 ^ 64 = pow_mono h in omega (arith, pow_pos w)
@@ -90,8 +84,8 @@ filled-bits n w i f h =
     bit_at_or n (2 ^ 64 - 1 - (2 ^ w - 1)) i
     ∙ ap (max (bit_at n i)) (bit_at_not w64 (2 ^ w - 1) i (ones_lt w f) h)
     ∙ choose (nat_lt i w) _ _ _
-    (λ t. ap (λ x. max (bit_at n i) (1 - x)) (bit_at_ones w i (below i w t)) ∙ more (bit_at n i))
-    (λ t. ap (λ x. max (bit_at n i) (1 - x)) (bit_at_ones_above w i (not_below i w t)) ∙ most (bit_at n i) (bit_at-lt n i))
+    (λ t. ap (λ x. max (bit_at n i) (1 - x)) (bit_at_ones w i (ltb-true i w t)) ∙ more (bit_at n i))
+    (λ t. ap (λ x. max (bit_at n i) (1 - x)) (bit_at_ones_above w i (ltb-false i w t)) ∙ most (bit_at n i) (bit_at-lt n i))
   where
     more : (b : ℕ) → max b 0 ≡ b
     more b = omega arith
@@ -139,7 +133,7 @@ extracted-wrap : (k : Kind) (z : ℤ) (o w n : ℕ) → width k ≡ 32 → o + w
 extracted-wrap k z o w n e f h =
     wrap-bits k n _ (λ i l.
     let low : i < 64 = omega arith in
-    h i low ∙ both (nat_lt i w) _ _ _ _ (λ t. let inner = below i w t in bit_at-modulo w64 z (o + i) (omega arith)) (λ t. refl))
+    h i low ∙ both (nat_lt i w) _ _ _ _ (λ t. let inner = ltb-true i w t in bit_at-modulo w64 z (o + i) (omega arith)) (λ t. refl))
 
 abbrev pub AreFieldBits : ℕ → ℕ → ℕ → ℕ → Type 0
 AreFieldBits n o w m = (i : ℕ) → bit_at m i ≡ (if nat_lt i w then bit_at n (o + i) else 0)

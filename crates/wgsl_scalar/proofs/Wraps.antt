@@ -4,12 +4,12 @@ use Rattle.std.specs.Int.{Width, w32, w64, cast_signed, cast_unsigned, int_wrap}
 use lib.IntN.{+ℤ_assoc, +ℤ_comm, *ℤ_comm}
 use mir.Val.{bits}
 use borrow.Author.Differences.{up, down, same_in, product_is, sum_is_lem}
-use Rattle.std.proofs.Math.Nat.{mod-lt, mod-eq_of_lt}
-use Rattle.std.proofs.lemmas.Nat.{pow_pos}
+use Rattle.std.proofs.Math.Nat.{mod-eq_of_lt}
 use Rattle.std.proofs.lemmas.Int.{ints, of_z-to_z, int_wrap_fits, SFits-int_wrap, int_wrap-add_left, int_wrap-mul_left}
 use Rattle.wgsl_rules.specs.Kinds as kinds
 use Rattle.wgsl_rules.specs.Kinds.{Kind, width, is_signed, as_signed, modulo, wrap}
 use Rattle.wgsl_scalar.specs.Laws.{GivesWrapped}
+use Rattle.wgsl_scalar.proofs.lemmas.BitLaws.{modulo_lt}
 
 -- ---- products of whole numbers
 
@@ -42,10 +42,6 @@ use Rattle.wgsl_scalar.specs.Laws.{GivesWrapped}
 
 -- ---- words
 
-modulo-lt : (w : Width) (z : ℤ) → modulo z (2 ^ bits w) < 2 ^ bits w
-modulo-lt w (pos a) = mod-lt a (pow_pos (bits w))
-modulo-lt w (negsuc a) = omega (arith, mod-lt a (pow_pos (bits w)), pow_pos (bits w))
-
 int_wrap-is : (w : Width) (z : ℤ) → int_wrap w z ≡ cast_signed w (modulo z (2 ^ bits w))
 unfolding int_wrap
 int_wrap-is w (pos a) = refl
@@ -54,9 +50,9 @@ int_wrap-is w (negsuc a) = refl
 -- numbers that wrap to the same have the same word
 same_word : (w : Width) (x y : ℤ) → int_wrap w x ≡ int_wrap w y → modulo x (2 ^ bits w) ≡ modulo y (2 ^ bits w)
 same_word w x y e =
-    sym (of_z-to_z w (modulo x (2 ^ bits w)) (modulo-lt w x))
+    sym (of_z-to_z w (modulo x (2 ^ bits w)) (modulo_lt w x))
     ∙ ap (cast_unsigned w) (sym (int_wrap-is w x) ∙ e ∙ int_wrap-is w y)
-    ∙ of_z-to_z w (modulo y (2 ^ bits w)) (modulo-lt w y)
+    ∙ of_z-to_z w (modulo y (2 ^ bits w)) (modulo_lt w y)
 
 word_of : Kind → Width
 word_of kinds.abstract_int = w64
@@ -86,16 +82,16 @@ again-signed w x z e =
 again-unsigned : (w : Width) (z : ℤ) → int_wrap w (pos (modulo z (2 ^ bits w))) ≡ int_wrap w z
 again-unsigned w z =
     int_wrap-is w (pos (modulo z (2 ^ bits w)))
-    ∙ ap (cast_signed w) (mod-eq_of_lt (modulo-lt w z))
+    ∙ ap (cast_signed w) (mod-eq_of_lt (modulo_lt w z))
     ∙ sym (int_wrap-is w z)
 
 -- what a number wraps to has its word
 again : (k : Kind) (z : ℤ) → int_wrap (word_of k) (wrap k z) ≡ int_wrap (word_of k) z
 unfolding word_of
-again kinds.abstract_int z = again-signed w64 _ z (signed_64 _ (modulo-lt w64 z))
-again kinds.i32 z = again-signed w32 _ z (signed_32 _ (modulo-lt w32 z))
+again kinds.abstract_int z = again-signed w64 _ z (signed_64 _ (modulo_lt w64 z))
+again kinds.i32 z = again-signed w32 _ z (signed_32 _ (modulo_lt w32 z))
 again kinds.u32 z = again-unsigned w32 z
-again kinds.i64 z = again-signed w64 _ z (signed_64 _ (modulo-lt w64 z))
+again kinds.i64 z = again-signed w64 _ z (signed_64 _ (modulo_lt w64 z))
 again kinds.u64 z = again-unsigned w64 z
 
 -- ---- parts that are wrapped first

@@ -6,7 +6,6 @@ use Rattle.wgsl_values.specs.View.{value_of, vals_view}
 use Rattle.wgsl_values.specs.declared.instance.Instance.{Instance}
 use Rattle.wgsl_values.specs.declared.instance.Instance.TheVariants as instances
 use Rattle.wgsl_values.specs.declared.matrix.MatInstance.{MatInstance}
-use Rattle.wgsl_values.proofs.lemmas.Nodes.{nodes, all_nodes}
 use Rattle.wgsl_values.proofs.lemmas.Views.{item_within, mat_view-is, value_of-Mat}
 
 -- ---- vectors and matrices
@@ -33,11 +32,6 @@ matrix-free v m e h =
 -- the value that a walk is at stands at its position
 pub item-there : (vs : List Instance) (i : ℕ) (v : Instance) → i < length vs → v ≡ get_or vs i v → item i (vals_view vs) ≡ Some (value_of v)
 item-there vs i v h e = sym (item_within vs i v h) ∙ ap (λ (w : Instance). Some (value_of w)) (sym e)
-
-pub item-smaller : (i : ℕ) (vs : Vals) (x : Val) → item i vs ≡ Some x → nodes x ≤ all_nodes vs
-item-smaller i no_vals x e = absurd (cc)
-item-smaller zero (val v vs) x e = let same : v ≡ x = cc in rw (← same) (omega arith)
-item-smaller (suc i) (val v vs) x e = omega (arith, item-smaller i vs x e)
 
 first-none : (qs rs : List Reference) → (qs ++ rs) ≡ [] → qs ≡ []
 first-none [] rs e = refl

@@ -10,7 +10,7 @@ use Rattle.std.specs.Str.{bytes_eq}
 use Rattle.std.specs.BTreeMap.{get_by_text}
 use Rattle.wgsl_source.specs.NameTables.{map_of, named_in}
 use Rattle.wgsl_source.specs.declared.name_table.NameTable.{NameTable}
-use Rattle.wgsl_source.proofs.OrderLemmas.{slice_get-set_same as get-set_same, slice_get-set_other as get-set_other}
+use Rattle.wgsl_rules.proofs.lemmas.Slices.{slice_get-set_same, slice_get-set_other}
 
 slice_get-none : {X : Type 0} (xs : List X) (i : ℕ) → length xs ≡ 0 → slice_get xs i ≡ None
 slice_get-none [] i e = refl
@@ -51,9 +51,9 @@ module _ {M : Type 0} (get : M → List ℕ → Option ℕ) where
       from : ((eqb k at ≡ true) × (k ≡ at)) ⊎ ((eqb k at ≡ false) × (k ≢ at)) → found_at (set ms at new) q k ≡ cond (bytes_eq name q) (Some number) (found_at ms q k)
       from (inl h) =
           ap (found_at (set ms at new) q) h.1
-          ∙ ap (option_and_then (λ m. get m q)) (get-set_same ms at new within)
+          ∙ ap (option_and_then (λ m. get m q)) (slice_get-set_same ms at new within)
           ∙ updates q
           ∙ ap (cond (bytes_eq name q) (Some number)) (sym (ap (found_at ms q) h.1 ∙ ap (option_and_then (λ m. get m q)) here))
       from (inr h) =
-          ap (option_and_then (λ m. get m q)) (get-set_other ms at k new h.1)
+          ap (option_and_then (λ m. get m q)) (slice_get-set_other ms at k new h.1)
           ∙ apart h.1 (bytes_eq name q) refl

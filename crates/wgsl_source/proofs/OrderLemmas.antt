@@ -1,23 +1,12 @@
 -- Each declaration has one place.
-use Rattle.std.proofs.Common.{◌≡◌, ◌≢◌, ℕ, ◌+◌, ◌<◌, ◌==◌, nat_lt, true, false, cond, Some, List, [], ◌∷◌, ◌++◌, length, set, slice_get, zero, suc, inl, inr, eq-eqb, ne_eqb, lt-ltb, le-ltb, refl, ◌∙◌, ap, sym, arith}
+use Rattle.std.proofs.Common.{◌≡◌, ◌≢◌, ℕ, ◌+◌, ◌<◌, ◌==◌, nat_lt, true, false, cond, Some, List, [], ◌∷◌, ◌++◌, length, set, slice_get, inl, inr, eq-eqb, ne_eqb, lt-ltb, le-ltb, ◌∙◌, ap, sym, arith}
 use Rattle.std.proofs.lemmas.Bool.{cases_eq, cases_lt}
 use Rattle.std.proofs.lemmas.List.Sums.{sum_by_push}
 use Rattle.std.proofs.lemmas.Option.{slice_get_past, slice_get_within}
 use Rattle.wgsl_source.specs.Orders.{times_in, places_with}
 use Rattle.wgsl_source.specs.declared.places.Mark.{Mark}
 use Rattle.wgsl_source.specs.declared.places.Mark.TheVariants.{New, Begun, Done}
-
-pub slice_get-set_same : {X : Type 0} (xs : List X) (i : ℕ) (x : X) → i < length xs → slice_get (set xs i x) i ≡ Some x
-slice_get-set_same [] i x h = absurd (omega arith)
-slice_get-set_same (y ∷ ys) zero x h = refl
-slice_get-set_same (y ∷ ys) (suc i) x h = slice_get-set_same ys i x (omega arith)
-
-pub slice_get-set_other : {X : Type 0} (xs : List X) (i j : ℕ) (x : X) → j ≢ i → slice_get (set xs i x) j ≡ slice_get xs j
-slice_get-set_other [] i j x h = refl
-slice_get-set_other (y ∷ ys) zero zero x h = absurd (h refl)
-slice_get-set_other (y ∷ ys) zero (suc j) x h = refl
-slice_get-set_other (y ∷ ys) (suc i) zero x h = refl
-slice_get-set_other (y ∷ ys) (suc i) (suc j) x h = slice_get-set_other ys i j x (λ e. h (ap suc e))
+use Rattle.wgsl_rules.proofs.lemmas.Slices.{slice_get-set_same, slice_get-set_other}
 
 other : (order : List ℕ) (marks : List Mark) (d : ℕ) (mark : Mark) (n : ℕ) → n ≢ d → times_in n order ≡ places_with (slice_get marks n) → times_in n order ≡ places_with (slice_get (set marks d mark) n)
 other order marks d mark n apart once = once ∙ ap places_with (sym (slice_get-set_other marks d n mark apart))

@@ -76,6 +76,9 @@ unfolding is_deferred
 storable (deferred t) n h = absurd (false≢true (sym n))
 storable w n h = h
 
+pub converted-storable : (v w : Val) (t : Ty) → IsStorable v → converted v t ≡ Some w → IsStorable w
+converted-storable v w t h e = storable w (same-deferred v w t e ∙ not-deferred v h) (converted-well_formed v w t (storable-well_formed v h) e)
+
 -- ---- what was converted, if it was
 
 pub some-well_formed : {X : Type 0} (view : X → Val) (o : Option X) (v : Val) (t : Ty) → option_map view o ≡ converted v t → IsWellFormed v → IfSome o (λ x. IsWellFormed (view x))
@@ -84,7 +87,7 @@ some-well_formed view (Some x) v t e h = converted-well_formed v (view x) t h (s
 
 pub some-storable : {X : Type 0} (view : X → Val) (o : Option X) (v : Val) (t : Ty) → option_map view o ≡ converted v t → IsStorable v → IfSome o (λ x. IsStorable (view x))
 some-storable view None v t e h = tt
-some-storable view (Some x) v t e h = storable (view x) (same-deferred v (view x) t (sym e) ∙ not-deferred v h) (converted-well_formed v (view x) t (storable-well_formed v h) (sym e))
+some-storable view (Some x) v t e h = converted-storable v (view x) t h (sym e)
 
 pub some-held : {X : Type 0} (view : X → Val) (cells : List Val) (o : Option X) (v : Val) (t : Ty) → option_map view o ≡ converted v t → HoldsValue cells v → IfSome o (λ x. HoldsValue cells (view x))
 some-held view cells None v t e h = tt

@@ -16,7 +16,6 @@ pub use Rattle.wgsl_layout.proofs.lemmas.Fixed
 pub use Rattle.wgsl_layout.proofs.lemmas.Flat
 pub use Rattle.wgsl_layout.proofs.lemmas.Follows
 pub use Rattle.wgsl_layout.proofs.lemmas.InRange
-pub use Rattle.wgsl_layout.proofs.lemmas.Known
 pub use Rattle.wgsl_layout.proofs.lemmas.Leaves
 pub use Rattle.wgsl_layout.proofs.lemmas.LikeViews
 pub use Rattle.wgsl_layout.proofs.lemmas.Made

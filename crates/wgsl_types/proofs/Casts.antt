@@ -12,11 +12,11 @@ use Rattle.wgsl_rules.specs.Refusals.{Outcome, and_then, builtin}
 use Rattle.wgsl_rules.specs.Types as types
 use Rattle.wgsl_rules.specs.Types.{Ty}
 use Rattle.wgsl_rules.specs.Values.{Val, truth, number, record_of, array_of, vector, matrix, atomic_of, pointer, reference, deferred, Vals, no_vals, val, count, first_type, matrix_type, type_of, AllOfType, AreLiterals, IsLiteral, IsStorable}
+use Rattle.wgsl_rules.proofs.lemmas.Known.{and-both}
 use Rattle.wgsl_scalar.specs.Operands.{ok_or}
 use Rattle.wgsl_layout.proofs.lemmas.Compose.{laid-decodes}
 use Rattle.wgsl_layout.proofs.lemmas.Counts.{count-fixed}
 use Rattle.wgsl_layout.proofs.lemmas.Decoded.{decoding-is-reading}
-use Rattle.wgsl_layout.proofs.lemmas.Known.{and-both}
 use Rattle.wgsl_layout.proofs.lemmas.Padding.{has-the-bytes}
 use Rattle.wgsl_layout.proofs.lemmas.Roundtrip.{length-buffer, lays-itself}
 use Rattle.wgsl_layout.proofs.lemmas.Tidy.{fixed-length}

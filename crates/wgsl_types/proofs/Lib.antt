@@ -17,7 +17,6 @@ pub mod Made
 pub mod MemoryAnswers
 pub mod NumericAnswers
 pub mod NumericRows
-pub mod Outcomes
 pub mod Overwrites
 pub mod OwnTypes
 pub mod PackedBytes

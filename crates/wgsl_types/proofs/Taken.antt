@@ -14,7 +14,7 @@ use Rattle.wgsl_rules.specs.Types.{Ty}
 use Rattle.wgsl_rules.specs.Values.{Val, truth, number, vector, Vals, no_vals, val, count, first_type, type_of, type_of_kind, IsLiteral, IsStorable, IsWellFormed}
 use Rattle.wgsl_scalar.specs.Operands.{ok_or}
 use Rattle.wgsl_types.proofs.Lifted.{AreLiteralsOf, IsLiteralOf, GivesLiteral, lifted-literals, number-literal, vector-storable}
-use Rattle.wgsl_types.proofs.Outcomes.{then-is, some-of}
+use Rattle.wgsl_ops.proofs.Outcomes.{then-is, some-of}
 use Rattle.wgsl_types.specs.Bitcast.{IsBitcastTarget, is_word_type, taken_as}
 use Rattle.wgsl_types.specs.Lifts.{on_components}
 use Rattle.wgsl_values.proofs.lemmas.Views.{vec_view-is}

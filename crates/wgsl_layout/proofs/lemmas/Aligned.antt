@@ -13,10 +13,10 @@ use Rattle.wgsl_rules.specs.Kinds.{Kind}
 use Rattle.wgsl_rules.specs.Types.{Ty, i32, u32, i64, u64, struct, array, vec, mat, atomic, Fields, no_fields, field}
 use Rattle.wgsl_rules.specs.Size.{size_of, align_of, fitting, with_both, round_up, extents, Extent, offset_after, end_after, end_of_members, align_after, greatest_align, struct_align, extent_in}
 use Rattle.wgsl_rules.specs.Layout.{amount, size, align, known_stride, stride, scalar_kind, atomic_kind, is_from_2_to_4, is_multiple_of, is_align_valid, has_fixed_layout, have_fixed_layouts, is_runtime_array, end_in_runtime_array, has_runtime_layout, has_layout, Layout, scalar, composite, Parts, no_parts, part, type_in, repeated, leaf, layout, member_parts}
+use Rattle.wgsl_rules.proofs.lemmas.Known.{and-both, some-of, fitting-is, both-known, times-known, end-known, ends-known}
 use Rattle.wgsl_layout.specs.Ranges.{Range, further, part_at, parts_in, range_in}
 use Rattle.wgsl_layout.specs.Laws.{IsPlaceOf}
 use Rattle.wgsl_layout.proofs.lemmas.Fixed.{first-fixed, fixed-array, fixed-mat, last-runtime}
-use Rattle.wgsl_layout.proofs.lemmas.Known.{and-both, some-of, fitting-is, both-known, times-known, end-known, ends-known}
 use Rattle.wgsl_layout.proofs.lemmas.Tidy.{open-from}
 use Rattle.wgsl_layout.proofs.lemmas.ViewPaths.{layout-type}
 

@@ -6,6 +6,7 @@ use Rattle.std.proofs.lemmas.Option.{same_Some}
 use Rattle.wgsl_rules.specs.Types.{Ty, struct, array, vec, mat, Fields, no_fields, field}
 use Rattle.wgsl_rules.specs.Values.{Val, record_of, array_of, vector, matrix, Vals, no_vals, val, count, item, type_of, first_type, matrix_type, array_type, AllOfType, HaveTypes, AreVectors, IsStorable, AreStorable}
 use Rattle.wgsl_rules.specs.Paths.{parts, value_at, replace_item, with_parts, put_tree, FitsPlace}
+use Rattle.wgsl_rules.proofs.lemmas.Paths.{parts-replaced}
 use Rattle.wgsl_layout.proofs.lemmas.Places.{part-type}
 
 abbrev pub HasNone : Vals → Type 0
@@ -52,13 +53,6 @@ mutual
   alike-self (val v vs) = (like-self v, alike-self vs)
 
 -- ---- what is put is like what was there
-
-pub parts-replaced : (i : ℕ) (f : Val → Val) (v : Val) → parts (with_parts v (replace_item i f (parts v))) ≡ replace_item i f (parts v)
-parts-replaced i f (record_of t vs) = refl
-parts-replaced i f (array_of runtime vs) = refl
-parts-replaced i f (vector vs) = refl
-parts-replaced i f (matrix vs) = refl
-parts-replaced i f v = refl
 
 replaced-like : (i : ℕ) (f : Val → Val) (vs : Vals) → ((y : Val) → item i vs ≡ Some y → IsLike y (f y)) → AreLike vs (replace_item i f vs)
 replaced-like i f no_vals h = tt

@@ -8,8 +8,8 @@ use Rattle.wgsl_rules.specs.Types.{Ty, struct, array, Fields, no_fields, field}
 use Rattle.wgsl_rules.specs.Values.{Val, truth, number, record_of, array_of, vector, matrix, atomic_of, pointer, reference, deferred, Vals, no_vals, val, count, type_of, type_of_kind, first_type, matrix_type, HaveTypes, IsStorable, AreStorable}
 use Rattle.wgsl_rules.specs.Size.{size_of, offset_after, end_after, extent_in}
 use Rattle.wgsl_rules.specs.Layout.{size, stride, amount, has_fixed_layout, have_fixed_layouts, is_runtime_array, end_in_runtime_array, has_runtime_layout, has_layout, Tail, tail_at, tail_of, last_tail, layout_len, at_least_one, count_in, elements, last_elements, runtime_count, count_with, length_with}
+use Rattle.wgsl_rules.proofs.lemmas.Known.{and-both}
 use Rattle.wgsl_layout.proofs.lemmas.Fixed.{array-runtime, first-fixed, last-runtime, no-runtime-kind, no-runtime-matrix}
-use Rattle.wgsl_layout.proofs.lemmas.Known.{and-both}
 use Rattle.wgsl_layout.proofs.lemmas.Tidy.{fixed-length, length-fixed}
 
 -- ---- no elements in a value of a fixed layout

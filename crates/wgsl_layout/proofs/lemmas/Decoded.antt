@@ -13,10 +13,10 @@ use Rattle.wgsl_rules.specs.Values.{Val, array_of, Vals, no_vals, val, count, it
 use Rattle.wgsl_rules.specs.Paths.{parts, value_at}
 use Rattle.wgsl_rules.specs.Size.{size_of, offset_after, end_after, extent_in}
 use Rattle.wgsl_rules.specs.Layout.{size, align, stride, amount, scalar_kind, is_from_2_to_4, has_fixed_layout, have_fixed_layouts, is_runtime_array, end_in_runtime_array, has_runtime_layout, has_layout, known_stride, Tail, tail_of, at_least_one, count_in, layout_of, runtime_count, elements, last_elements, leaf, atomic_kind, Leaf, under, leaves, part_leaves, Layout, scalar, composite, Parts, no_parts, part, repeated, layout, member_parts, count_with}
+use Rattle.wgsl_rules.proofs.lemmas.Known.{and-both, some-of}
 use Rattle.wgsl_layout.specs.Buffers.{number_from, number_of, number_at, Reads, Lays, IsReadOf, decode, read_number, made_of_parts, decoded, decoded_parts}
 use Rattle.wgsl_layout.specs.Laws.{DecodingIsReading}
 use Rattle.wgsl_layout.proofs.lemmas.Fixed.{first-fixed, fixed-array, fixed-mat, last-runtime}
-use Rattle.wgsl_layout.proofs.lemmas.Known.{and-both, some-of}
 use Rattle.wgsl_layout.proofs.lemmas.Tidy.{counts, fixed-length}
 use Rattle.wgsl_layout.proofs.lemmas.Counts.{count-fixed, tail-there}
 use Rattle.wgsl_layout.proofs.lemmas.Compose.{ReadsFrom, number-made, laid-decodes, laid-once}

@@ -10,12 +10,12 @@ use Rattle.wgsl_rules.specs.Kinds.{Kind, bytes_of}
 use Rattle.wgsl_rules.specs.Types.{Ty, struct, array, vec, Fields, no_fields, field}
 use Rattle.wgsl_rules.specs.Size.{size_of, times, offset_after, end_after, extent_in}
 use Rattle.wgsl_rules.specs.Layout.{amount, size, known_stride, stride, scalar_kind, is_from_2_to_4, has_fixed_layout, has_runtime_layout, has_layout, is_runtime_array, end_in_runtime_array, Tail, tail_at, last_tail as last_tail_of, tail_of, layout_len}
+use Rattle.wgsl_rules.proofs.lemmas.Known.{and-both, fits, fitting-is, some-of, times-known}
 use Rattle.wgsl_layout.specs.Extents.{kept, row_tail, last_tail, plan_tail, no_tail}
 use Rattle.wgsl_layout.specs.Plan.{Plan, fixed_size, plan_of, places_of}
 use Rattle.wgsl_layout.specs.declared.extent.Tail.{Tail as CodeTail}
 use Rattle.wgsl_layout.proofs.lemmas.Counts.{tail-there}
 use Rattle.wgsl_layout.proofs.lemmas.Fixed.{first-fixed, fixed-array, last-runtime}
-use Rattle.wgsl_layout.proofs.lemmas.Known.{and-both, fits, fitting-is, some-of, times-known}
 use Rattle.wgsl_layout.proofs.lemmas.Positive.{positive}
 use Rattle.wgsl_layout.proofs.lemmas.Tidy.{fixed-length, fixed-sized, scalar-is}
 

@@ -8,7 +8,7 @@ use Rattle.wgsl_rules.specs.Types.{Ty, array, mat, struct, vec}
 use Rattle.wgsl_rules.specs.Values.{matrix_type, type_of_kind}
 use Rattle.wgsl_rules.specs.Size.{size_of, align_of, offset_after, extent_in}
 use Rattle.wgsl_rules.specs.Layout.{scalar_kind, is_from_2_to_4, is_size_valid, is_align_valid, are_attributes_valid, has_fixed_layout, has_runtime_layout, is_runtime_array}
-use Rattle.wgsl_layout.proofs.lemmas.Known.{and-both}
+use Rattle.wgsl_rules.proofs.lemmas.Known.{and-both}
 
 pub record IsFixedMat (c r : ℕ) (t : Ty) : Type 0 where
   pub columns : is_from_2_to_4 c ≡ true

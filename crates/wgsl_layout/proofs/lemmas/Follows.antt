@@ -11,10 +11,10 @@ use Rattle.wgsl_rules.specs.Values.{Val, truth, number, record_of, array_of, vec
 use Rattle.wgsl_rules.specs.Paths.{parts, value_at}
 use Rattle.wgsl_rules.specs.Size.{size_of, end_after, offset_after, extent_in}
 use Rattle.wgsl_rules.specs.Layout.{size, align, stride, known_stride, scalar_kind, is_from_2_to_4, has_fixed_layout, have_fixed_layouts, is_runtime_array, end_in_runtime_array, has_runtime_layout, has_layout, amount, layout_len, Layout, scalar, composite, Parts, no_parts, part, repeated, layout, member_parts, layout_of, runtime_count, elements, last_elements}
+use Rattle.wgsl_rules.proofs.lemmas.Known.{and-both}
 use Rattle.wgsl_layout.specs.Buffers.{made_of_number, made_of_parts}
 use Rattle.wgsl_layout.specs.Ranges.{Range, further, part_at, parts_in, range_in}
 use Rattle.wgsl_layout.proofs.lemmas.Fixed.{array-runtime, first-fixed, fixed-array, fixed-mat, last-runtime, no-runtime-kind, no-runtime-matrix}
-use Rattle.wgsl_layout.proofs.lemmas.Known.{and-both}
 use Rattle.wgsl_layout.proofs.lemmas.Tidy.{fixed-length, length-fixed}
 
 -- ---- the count does not show in a fixed layout

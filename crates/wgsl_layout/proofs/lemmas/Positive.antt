@@ -1,5 +1,5 @@
 -- A fixed layout has a size of one byte at least, and so has the stride of a runtime-sized array.
-use Rattle.std.proofs.Common.{◌≡◌, ℕ, ◌*◌, ◌<◌, ◌≤◌, List, [], ◌∷◌, Option, Some, None, is_some, Bool, true, false, refl, sym, ap, ◌∙◌, subst, arith}
+use Rattle.std.proofs.Common.{◌≡◌, ℕ, ◌*◌, ◌<◌, ◌≤◌, [], Option, Some, None, is_some, Bool, true, false, refl, sym, ap, ◌∙◌, subst, arith}
 use Rattle.std.specs.Prelude.{◌||◌, MatchOption, ⊤}
 use Rattle.std.proofs.lemmas.Bool.{false≢true}
 use Rattle.std.proofs.lemmas.Bool.Decides.{nat_tests}
@@ -8,20 +8,11 @@ use Rattle.wgsl_rules.specs.Kinds as kinds
 use Rattle.wgsl_rules.specs.Kinds.{Kind, bytes_of}
 use Rattle.wgsl_rules.specs.Types as types
 use Rattle.wgsl_rules.specs.Types.{Ty, struct, array, vec, mat, atomic, Fields, no_fields, field}
-use Rattle.wgsl_rules.specs.Size.{size_of, align_of, round_up, Extent, offset_after, end_after, end_of_members, extents, struct_align, extent_in}
+use Rattle.wgsl_rules.specs.Size.{size_of, align_of, round_up, offset_after, end_after, end_of_members, extents, struct_align, extent_in}
 use Rattle.wgsl_rules.specs.Layout.{amount, size, known_stride, stride, scalar_kind, is_from_2_to_4, has_fixed_layout, have_fixed_layouts, is_runtime_array, end_in_runtime_array, has_runtime_layout, has_layout, Tail, tail_at, tail_of, last_tail, length_in, layout}
+use Rattle.wgsl_rules.proofs.lemmas.Known.{and-both, some-of, both-known, times-known, rounded-known, stride-known, end-known, ends-known, end-later}
 use Rattle.wgsl_layout.proofs.lemmas.Fixed.{first-fixed, fixed-array, fixed-mat, last-runtime}
-use Rattle.wgsl_layout.proofs.lemmas.Known.{and-both, some-of, both-known, times-known, rounded-known, stride-known, end-known, ends-known}
 use Rattle.wgsl_layout.proofs.lemmas.Tidy.{scalar-is, vector-is, attribute-holds, fixed-length, fixed-tidy}
-
-end-later : (ms : List Extent) (x e : ℕ) → end_of_members (Some x) ms ≡ Some e → x ≤ e
-end-later [] x e h = let s = same_Some x e h in omega arith
-end-later (m ∷ ms) x e h =
-    let g = ends-known (end_after (Some x) m) ms e h in
-    let k = end-known x m g.0 g.1 in
-    let rest = end-later ms g.0 e (ap (λ (o : Option ℕ). end_of_members o ms) (sym g.1) ∙ h) in
-    let le = k.4 in let eq = k.5 in
-    omega arith
 
 product : (a b : ℕ) → 1 ≤ a → 1 ≤ b → 1 ≤ a * b
 product a b h k = grind arith
@@ -90,7 +81,7 @@ positive (struct name (field n t sz a fs)) s h e =
     let both = and-both (have_fixed_layouts (field n t sz a fs)) (is_some (size_of (struct name (field n t sz a fs)))) h in
     let made = first-fixed t sz a (have_fixed_layouts fs) both.0 in
     let b = both-known round_up (struct_align (extents (field n t sz a fs))) (end_of_members (Some 0) (extents (field n t sz a fs))) s e in
-    let le = rounded-known b.0 b.1 s b.4 in
+    let le = (rounded-known b.0 b.1 s b.4).later in
     let x = ends-known (end_after (Some 0) (extent_in t sz a)) (extents fs) b.1 b.3 in
     let k = end-known 0 (extent_in t sz a) x.0 x.1 in
     let rest = end-later (extents fs) x.0 b.1 (ap (λ (o : Option ℕ). end_of_members o (extents fs)) (sym x.1) ∙ b.3) in

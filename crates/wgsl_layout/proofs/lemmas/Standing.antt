@@ -11,10 +11,10 @@ use Rattle.wgsl_rules.specs.Values.{Val, truth, number, record_of, array_of, vec
 use Rattle.wgsl_rules.specs.Paths.{value_at}
 use Rattle.wgsl_rules.specs.Size.{size_of, offset_after, end_after, extent_in}
 use Rattle.wgsl_rules.specs.Layout.{amount, size, align, stride, scalar_kind, is_from_2_to_4, has_fixed_layout, has_layout, Layout, length_in, repeated, layout, member_parts, runtime_count, layout_of, Leaf, under, leaves, part_leaves}
+use Rattle.wgsl_rules.proofs.lemmas.Known.{and-both}
 use Rattle.wgsl_layout.specs.Buffers.{number_of, number_at}
 use Rattle.wgsl_layout.specs.Plan.{Plan, scalar, row, plan_of, places_of}
 use Rattle.wgsl_layout.specs.Walk.{written_leaves, put, put_row, put_members, Stands, StandInRow, StandAsMembers}
-use Rattle.wgsl_layout.proofs.lemmas.Known.{and-both}
 use Rattle.wgsl_layout.proofs.lemmas.Ranges.{IsTidy, AreTidy, tidy-length}
 use Rattle.wgsl_layout.proofs.lemmas.Tidy.{tidy}
 use Rattle.wgsl_layout.proofs.lemmas.Follows.{IsOwn, Follows, FollowAll, follows}

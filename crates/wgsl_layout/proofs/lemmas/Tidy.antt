@@ -10,8 +10,8 @@ use Rattle.wgsl_rules.specs.Kinds.{Kind, bytes_of}
 use Rattle.wgsl_rules.specs.Types.{Ty, i32, u32, i64, u64, struct, array, vec, mat, atomic, Fields, no_fields, field}
 use Rattle.wgsl_rules.specs.Size.{size_of, align_of, times, vec3_align, round_up, extents, offset_after, end_after, end_of_members, struct_align, extent_in}
 use Rattle.wgsl_rules.specs.Layout.{amount, size, align, known_stride, stride, Tail, scalar_kind, atomic_kind, is_from_2_to_4, is_size_valid, has_fixed_layout, have_fixed_layouts, is_runtime_array, end_in_runtime_array, has_runtime_layout, has_layout, tail_at, last_tail, tail_of, layout_len, Layout, scalar, Parts, no_parts, part, length_in, repeated, leaf, layout, member_parts, length_with}
+use Rattle.wgsl_rules.proofs.lemmas.Known.{and-both, some-of, fits, both-known, times-known, rounded-known, stride-known, offset-known, end-known, ends-known, end_after-none, offset_after-none}
 use Rattle.wgsl_layout.proofs.lemmas.Fixed.{first-fixed, fixed-array, fixed-mat, last-runtime}
-use Rattle.wgsl_layout.proofs.lemmas.Known.{and-both, some-of, fits, both-known, times-known, rounded-known, stride-known, offset-known, end-known, ends-known, end_after-none, offset_after-none}
 use Rattle.wgsl_layout.proofs.lemmas.Ranges.{IsTidy, AreTidy}
 
 -- ---- parts alike
@@ -172,7 +172,7 @@ struct-tidy : (n : ℕ) (name : List ℕ) (fs : Fields) → have_fixed_layouts f
 struct-tidy n name fs fixed h parts =
     let g = some-of (size_of (struct name fs)) h in
     let b = both-known round_up (struct_align (extents fs)) (end_of_members (Some 0) (extents fs)) g.0 g.1 in
-    let le = rounded-known b.0 b.1 g.0 b.4 in
+    let le = (rounded-known b.0 b.1 g.0 b.4).later in
     let len : layout_len n (struct name fs) ≡ g.0 = length-fixed n (struct name fs) (no-tail fs (Some 0) fixed) ∙ ap amount g.1 in
     (tidy-within 0 b.1 (layout_len n (struct name fs)) (member_parts n (Some 0) fs) (omega arith) (parts b.1 b.3), g.1 ∙ ap Some (sym len))
 

@@ -17,12 +17,9 @@ use Rattle.wgsl_rules.specs.Types.{Ty, abstract_int, abstract_float, f32, struct
 use Rattle.wgsl_rules.specs.Values.{Val, deferred, type_of}
 use Rattle.wgsl_rules.specs.declared.syntax.AddressSpace.{AddressSpace}
 use Rattle.wgsl_rules.specs.declared.syntax.AccessMode.{AccessMode}
+use Rattle.wgsl_rules.proofs.lemmas.Known.{and-both}
 
 -- ---- types that convert to each other
-
-both_true : (b c : Bool) → (b && c) ≡ true → (b ≡ true) × (c ≡ true)
-both_true true c h = (refl, h)
-both_true false c h = cc
 
 guarded : (b : Bool) (o : Option ℕ) → is_some (only_if b o) ≡ true → (b ≡ true) × (is_some o ≡ true)
 guarded true o h = (refl, h)
@@ -50,14 +47,14 @@ no_deeper t s z a b e = let d : depth t ≡ suc (suc (depth t)) = ap depth e in 
 no_rank_to_its_reference : (t : Ty) (s : AddressSpace) (a : AccessMode) → is_some (unequal_rank t (ref s t a)) ≡ true → ⊥
 no_rank_to_its_reference (ref z u b) s a h =
     let g = guarded (can_read b && same u (ref s (ref z u b) a)) (Some 0) h in
-    let r = both_true (can_read b) (same u (ref s (ref z u b) a)) g.0 in
+    let r = and-both (can_read b) (same u (ref s (ref z u b) a)) g.0 in
     no_deeper u s z a b ((same-Decides u (ref s (ref z u b) a)).0 r.1)
 no_rank_to_its_reference t s a h = cc
 
 not_both : (s : AddressSpace) (t : Ty) (a : AccessMode) (u : Ty) → is_some (unequal_rank (ref s t a) u) ≡ true → is_some (unequal_rank u (ref s t a)) ≡ true → ⊥
 not_both s t a u p q =
     let g = guarded (can_read a && same t u) (Some 0) p in
-    let r = both_true (can_read a) (same t u) g.0 in
+    let r = and-both (can_read a) (same t u) g.0 in
     let e : t ≡ u = (same-Decides t u).0 r.1 in
     no_rank_to_its_reference u s a (rw e at q)
 
@@ -110,7 +107,7 @@ no_struct_both : (n m : List ℕ) → is_some (struct_rank n m) ≡ true → is_
 no_struct_both n m p q =
     let l = given (is_abstract_name n) (if ends_with nat_eq m (codes "f32") then Some 1 else (if ends_with nat_eq m (codes "f16") then Some 2 else None)) p in
     let r = given (is_abstract_name m) (if ends_with nat_eq n (codes "f32") then Some 1 else (if ends_with nat_eq n (codes "f16") then Some 2 else None)) q in
-    let name = both_true (starts_with nat_eq n (codes "__")) (ends_with nat_eq n (codes "abstract")) l.0 in
+    let name = and-both (starts_with nat_eq n (codes "__")) (ends_with nat_eq n (codes "abstract")) l.0 in
     no_result n name.1 (is_result (ends_with nat_eq n (codes "f32")) (ends_with nat_eq n (codes "f16")) r.1)
 
 unequal_both : (t u : Ty) → is_some (unequal_rank t u) ≡ true → is_some (unequal_rank u t) ≡ true → t ≡ u
@@ -126,7 +123,7 @@ unequal_both (vec n t) (vec m u) p q =
 unequal_both (mat c r t) (mat d s u) p q =
     let l = guarded ((c == d) && (r == s)) (rank t u) p in
     let m = guarded ((d == c) && (s == r)) (rank u t) q in
-    let same_shape = both_true (c == d) (r == s) l.0 in
+    let same_shape = and-both (c == d) (r == s) l.0 in
     mats (eqb-true c d same_shape.0) (eqb-true r s same_shape.1) (either_way t u (λ x y. unequal_both t u x y) l.1 m.1)
 unequal_both (struct n fs) (struct m gs) p q = absurd (no_struct_both n m p q)
 unequal_both t (ref s u a) p q = absurd (not_both s u a t q p)

@@ -1,5 +1,5 @@
 -- What is known of the members of a struct, member by member.
-use Rattle.std.proofs.Common.{◌≡◌, ◌+◌, ◌<◌, ℕ, zero, suc, List, [], ◌∷◌, length, get_or, drop, Option, is_some, Bool, true, false, refl, sym, ap, ◌∙◌, add-one, arith}
+use Rattle.std.proofs.Common.{◌≡◌, ◌+◌, ◌<◌, ℕ, List, length, get_or, drop, Option, is_some, Bool, true, false, refl, sym, ap, ◌∙◌, add-one, drop-cons}
 use Rattle.std.specs.Prelude.{◌&&◌}
 use Rattle.wgsl_rules.specs.Types.{Fields, no_fields, field}
 use Rattle.wgsl_rules.specs.Size.{extents, extent_of, offset_after, end_after, end_of_members, align_after, greatest_align}
@@ -7,7 +7,7 @@ use Rattle.wgsl_rules.specs.Layout.{have_fixed_layouts, is_fixed_member, is_runt
 use Rattle.wgsl_rules.specs.View.{Field, member_view, members_view}
 use Rattle.wgsl_rules.specs.declared.ty.StructMemberType.{StructMemberType}
 
-abbrev first : Field → Fields → Fields
+abbrev pub first : Field → Fields → Fields
 first f fs = field f.name f.ty f.size f.align fs
 
 -- whether members end in a runtime-sized array, of which these are the last, after what ends at `from`; those
@@ -27,10 +27,10 @@ fixed-first true f fs = refl
 fixed-first false f fs = refl
 
 -- the members from one on
-members-from : (ms : List StructMemberType) (i : ℕ) (m : StructMemberType) → i < length ms → m ≡ get_or ms i m → members_view (drop i ms) ≡ first (member_view m) (members_view (drop (suc i) ms))
-members-from [] i m h e = absurd (omega arith)
-members-from (x ∷ ms) zero m h e = ap (λ (y : StructMemberType). first (member_view y) (members_view ms)) (sym e)
-members-from (x ∷ ms) (suc i) m h e = members-from ms i m (omega arith) e
+pub fields-from : (ms : List StructMemberType) (i : ℕ) (m : StructMemberType) → i < length ms → m ≡ get_or ms i m → members_view (drop i ms) ≡ first (member_view m) (members_view (drop (i + 1) ms))
+fields-from ms i m h e =
+    let at : members_view (drop i ms) ≡ first (member_view (get_or ms i m)) (members_view (drop (i + 1) ms)) = rw (drop-cons ms i m, add-one) refl in
+    at ∙ ap (λ x. first (member_view x) (members_view (drop (i + 1) ms))) (sym e)
 
 -- what is known of the members in front, and of one more
 pub record IsNext (ms : List StructMemberType) (i : ℕ) (f : Field) : Type 0 where
@@ -42,7 +42,7 @@ pub record IsNext (ms : List StructMemberType) (i : ℕ) (f : Field) : Type 0 wh
 
 pub next : (ms : List StructMemberType) (i : ℕ) (m : StructMemberType) → i < length ms → m ≡ get_or ms i m → IsNext ms i (member_view m)
 next ms i m h e =
-    let is : members_view (drop i ms) ≡ first (member_view m) (members_view (drop (i + 1) ms)) = rw add-one (members-from ms i m h e) in
+    let is = fields-from ms i m h e in
     record {
       end = λ from. ap (λ (fs : Fields). end_of_members from (extents fs)) (sym is);
       align = λ from. ap (λ (fs : Fields). greatest_align from (extents fs)) (sym is);

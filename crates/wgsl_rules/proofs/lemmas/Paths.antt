@@ -117,7 +117,7 @@ fits-Decides w v = Decides-and (same (type_of w) (type_of v)) (same_paths w v) (
 
 -- ---- what is put at a path
 
-parts-replaced : (i : ℕ) (f : Val → Val) (v : Val) → parts (with_parts v (replace_item i f (parts v))) ≡ replace_item i f (parts v)
+pub parts-replaced : (i : ℕ) (f : Val → Val) (v : Val) → parts (with_parts v (replace_item i f (parts v))) ≡ replace_item i f (parts v)
 parts-replaced i f (record_of t vs) = refl
 parts-replaced i f (array_of runtime vs) = refl
 parts-replaced i f (vector vs) = refl
@@ -153,7 +153,7 @@ item-seen (suc i) (suc j) f g (val v vs) k = item-seen i j f g vs (λ e. k (ap s
 begins-on : (i j : ℕ) (p q : List ℕ) → i ≡ j → Begins p q → Begins (i ∷ p) (j ∷ q)
 begins-on i j p q e b = (b.0, ap (λ k. k ∷ (p ++ b.0)) e ∙ ap (λ r. j ∷ r) b.1)
 
-apart-on : (i j : ℕ) (p q : List ℕ) → Apart (i ∷ p) (j ∷ q) → i ≡ j → Apart p q
+pub apart-on : (i j : ℕ) (p q : List ℕ) → Apart (i ∷ p) (j ∷ q) → i ≡ j → Apart p q
 apart-on i j p q h e = (λ b. h.0 (begins-on i j p q e b), λ b. h.1 (begins-on j i q p (sym e) b))
 
 pub put-apart : (p q : List ℕ) (w v : Val) → Apart p q → value_at q (put_tree p w v) ≡ value_at q v

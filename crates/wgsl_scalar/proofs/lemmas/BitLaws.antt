@@ -26,7 +26,7 @@ bit_at-modulo w (pos a) i h = bit_at-mod a (bits w) i h
 bit_at-modulo w (negsuc a) i h =
     bit_at_not w (a % 2 ^ bits w) i (mod-lt a (pow_pos (bits w))) h ∙ ap (λ x. 1 - x) (bit_at-mod a (bits w) i h)
 
-modulo_lt : (w : Width) (z : ℤ) → modulo z (2 ^ bits w) < 2 ^ bits w
+pub modulo_lt : (w : Width) (z : ℤ) → modulo z (2 ^ bits w) < 2 ^ bits w
 modulo_lt w (pos a) = mod-lt a (pow_pos (bits w))
 modulo_lt w (negsuc a) = omega (arith, mod-lt a (pow_pos (bits w)), pow_pos (bits w))
 
@@ -58,7 +58,7 @@ mod-from_bits w n f h =
 pub wrap-bits : (k : Kind) (n : ℕ) (f : ℕ → ℕ) → ((i : ℕ) → i < width k → bit_at n i ≡ f i) → wrap k (pos n) ≡ wrap k (pos (from_bits (width k) f))
 wrap-bits k n f h = ap (λ x. if is_signed k then as_signed (width k) x else pos x) (mod-from_bits (width k) n f h)
 
-width_le : (k : Kind) → width k ≤ 64
+pub width_le : (k : Kind) → width k ≤ 64
 width_le kinds.abstract_int = omega arith
 width_le kinds.i32 = omega arith
 width_le kinds.u32 = omega arith
@@ -205,17 +205,17 @@ unfolding bit_length
 bit_length_le zero f = omega arith
 bit_length_le (suc w) f = grind (arith, bit_length_le w f)
 
-bit_count_le : (w : ℕ) (z : ℤ) → bit_count w (bit z) ≤ w
+pub bit_count_le : (w : ℕ) (z : ℤ) → bit_count w (bit z) ≤ w
 unfolding bit_count
 bit_count_le zero z = omega arith
 bit_count_le (suc w) z = omega (arith, bit_count_le w z, bit_lt z w)
 
-lowest_place_le : (w : ℕ) (f : ℕ → ℕ) → lowest_place w f ≤ w
+pub lowest_place_le : (w : ℕ) (f : ℕ → ℕ) → lowest_place w f ≤ w
 unfolding lowest_place
 lowest_place_le zero f = omega arith
 lowest_place_le (suc w) f = grind (arith, lowest_place_le w (λ i. f (suc i)))
 
-few : (k : Kind) (n : ℕ) → n ≤ 64 → InKind k (pos n)
+pub few : (k : Kind) (n : ℕ) → n ≤ 64 → InKind k (pos n)
 few kinds.abstract_int n h = grind (arith, ints)
 few kinds.i32 n h = grind (arith, ints)
 few kinds.u32 n h = grind (arith, ints)

@@ -6,6 +6,7 @@ use Rattle.wgsl_rules.specs.Paths.{fits, or_refused, parts, put_tree, put_viewed
 use Rattle.wgsl_rules.specs.Refusals.{not_read, Outcome, and_then}
 use Rattle.wgsl_rules.specs.Values.{Reference, Val, Vals, no_vals, val, item, type_of, IsStorable}
 use Rattle.wgsl_rules.proofs.lemmas.Paths.{fits-Decides}
+use Rattle.wgsl_rules.proofs.lemmas.Slices.{slice_get-append}
 use Rattle.wgsl_values.proofs.lemmas.Replaced.{a_part_replaced}
 use Rattle.wgsl_values.proofs.lemmas.Steps.{viewed-storable}
 use Rattle.wgsl_store.specs.Memory.{held, IsSound, put_cells}
@@ -46,16 +47,11 @@ held-is cells r x y e v = ap (λ (o : _). and_then (or_refused o not_read) (view
 same-layout : (cells after : List Val) (r : Reference) (y z : Val) → held cells r ≡ Ok y → held after r ≡ Ok z → layout_of z ≡ layout_of y → layout_held after r ≡ layout_held cells r
 same-layout cells after r y z e f l = ap (λ (o : Outcome Val). and_then o (λ v. Ok (layout_of v))) f ∙ ap Ok l ∙ sym (ap (λ (o : Outcome Val). and_then o (λ v. Ok (layout_of v))) e)
 
-append-there : (cells : List Val) (v x : Val) (i : ℕ) → slice_get cells i ≡ Some x → slice_get (cells ++ v ∷ []) i ≡ Some x
-append-there [] v x i e = absurd (cc)
-append-there (y ∷ ys) v x zero e = e
-append-there (y ∷ ys) v x (suc i) e = append-there ys v x i e
-
 pub new-cell-layouts : ANewCellKeepsLayouts
 new-cell-layouts cells v r k =
     let h = kept-is cells r k in
     let c = h.at_cell in
-    same-layout cells (cells ++ v ∷ []) r h.held_value h.held_value h.holds (held-is (cells ++ v ∷ []) r c.cell h.held_value (append-there cells v c.cell r.cell c.there) c.leads) refl
+    same-layout cells (cells ++ v ∷ []) r h.held_value h.held_value h.holds (held-is (cells ++ v ∷ []) r c.cell h.held_value (slice_get-append cells (v ∷ []) r.cell c.cell c.there) c.leads) refl
 
 -- ---- a put
 

@@ -10,6 +10,7 @@ use Rattle.wgsl_rules.specs.declared.syntax.AccessMode.{AccessMode}
 use Rattle.wgsl_rules.specs.Refusals.{Refusal, not_read, write_ref_type, Outcome, and_then}
 use Rattle.wgsl_rules.specs.Paths.{parts, stepped, viewed, replace_item, with_parts, put_tree, put_viewed, fits, FitsPlace}
 use Rattle.wgsl_rules.proofs.lemmas.Paths.{fits-Decides}
+use Rattle.wgsl_rules.proofs.lemmas.Slices.{slice_get-append}
 use Rattle.wgsl_values.proofs.lemmas.Replaced.{a_part_replaced}
 use Rattle.wgsl_store.specs.Memory.{held, IsKept, AllKept, references, references_in, HoldsValue, IsContent, AreContents, IsSound, at_position, put_cells}
 use Rattle.wgsl_store.specs.ReferenceCalls.{going_on, read, deeper, old_value, read_on, load, loaded, whole_of_new}
@@ -40,17 +41,12 @@ kept-append cells (q ∷ qs) rs h k = (h.0, kept-append cells qs rs h.1 k)
 
 -- ---- a new cell
 
-append-there : (cells : List Val) (v : Val) (i : ℕ) (x : Val) → slice_get cells i ≡ Some x → slice_get (cells ++ v ∷ []) i ≡ Some x
-append-there [] v i x e = absurd (cc)
-append-there (y ∷ ys) v zero x e = e
-append-there (y ∷ ys) v (suc i) x e = append-there ys v i x e
-
 pub append-last : (cells : List Val) (v : Val) → slice_get (cells ++ v ∷ []) (length cells) ≡ Some v
 append-last [] v = refl
 append-last (y ∷ ys) v = append-last ys v
 
 pub append-keeps : (cells : List Val) (v : Val) → Keeps cells (cells ++ v ∷ [])
-append-keeps cells v r k = let h = kept-is cells r k in kept-of (cells ++ v ∷ []) r h.at_cell.cell h.held_value (append-there cells v r.cell h.at_cell.cell h.at_cell.there) h.at_cell.leads h.typed
+append-keeps cells v r k = let h = kept-is cells r k in kept-of (cells ++ v ∷ []) r h.at_cell.cell h.held_value (slice_get-append cells (v ∷ []) r.cell h.at_cell.cell h.at_cell.there) h.at_cell.leads h.typed
 
 pub append-held : (all cells : List Val) (v : Val) → AreContents all cells → IsContent all v → AreContents all (cells ++ v ∷ [])
 append-held all [] v h k = (k, tt)

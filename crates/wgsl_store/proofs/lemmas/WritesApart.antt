@@ -1,5 +1,5 @@
 -- Writes apart commute, and neither changes what the other reads.
-use Rattle.std.proofs.Common.{◌≡◌, ◌≢◌, ℕ, zero, suc, List, [], ◌∷◌, ◌++◌, slice_get, Option, Some, Ok, Err, Bool, true, false, if◌then◌else◌, refl, sym, ap, ◌∙◌, subst}
+use Rattle.std.proofs.Common.{◌≡◌, ◌≢◌, ℕ, zero, suc, List, [], ◌∷◌, slice_get, Option, Some, Ok, Err, Bool, true, false, if◌then◌else◌, refl, sym, ap, ◌∙◌, subst}
 use Rattle.std.proofs.lemmas.Option.{same_Some}
 use mathlib.Core.Logic.{inl, inr}
 use native.Mathlib.Decide.{ℕ_discrete}
@@ -7,8 +7,8 @@ use Rattle.wgsl_rules.specs.Access.{can_write}
 use Rattle.wgsl_rules.specs.Values.{Step, Reference, Val, record_of, array_of, vector, matrix, Vals, no_vals, val, type_of, IsStorable}
 use Rattle.wgsl_rules.specs.Refusals.{not_read, not_write, write_ref_type, Outcome, and_then}
 use Rattle.wgsl_rules.specs.Paths.{parts, value_at, path_of, viewed, replace_item, with_parts, put_tree, put_viewed, fits, FitsPlace, or_refused}
-use Rattle.wgsl_rules.specs.Laws.{Begins, Apart}
-use Rattle.wgsl_rules.proofs.lemmas.Paths.{fits-Decides, put-apart}
+use Rattle.wgsl_rules.specs.Laws.{Apart}
+use Rattle.wgsl_rules.proofs.lemmas.Paths.{fits-Decides, put-apart, apart-on}
 use Rattle.wgsl_values.proofs.lemmas.Replaced.{a_part_replaced}
 use Rattle.wgsl_store.specs.Memory.{held, IsKept, IsSound, at_position, put_cells}
 use Rattle.wgsl_store.specs.ReferenceCalls.{written}
@@ -21,12 +21,6 @@ use Rattle.wgsl_layout.proofs.lemmas.LikeViews.{path-like}
 use Rattle.wgsl_store.proofs.lemmas.Writes.{IsWrite, write-is, accepts, at-own, PutCell, put-cell}
 
 -- ---- two puts at paths apart
-
-begins-on : (i j : ℕ) (p q : List ℕ) → i ≡ j → Begins p q → Begins (i ∷ p) (j ∷ q)
-begins-on i j p q e b = (b.0, ap (λ k. k ∷ (p ++ b.0)) e ∙ ap (λ r. j ∷ r) b.1)
-
-apart-on : (i j : ℕ) (p q : List ℕ) → Apart (i ∷ p) (j ∷ q) → i ≡ j → Apart p q
-apart-on i j p q h e = (λ b. h.0 (begins-on i j p q e b), λ b. h.1 (begins-on j i q p (sym e) b))
 
 replaced-both : (i j : ℕ) (f g : Val → Val) (vs : Vals) → (i ≡ j → (y : Val) → g (f y) ≡ f (g y)) → replace_item j g (replace_item i f vs) ≡ replace_item i f (replace_item j g vs)
 replaced-both i j f g no_vals h = refl

@@ -5,8 +5,9 @@ use Rattle.wgsl_values.specs.View.{value_of, vals_view}
 use Rattle.wgsl_values.proofs.lemmas.Nodes.{nodes, all_nodes}
 use Rattle.wgsl_values.proofs.lemmas.Steps.{item-storable}
 use Rattle.wgsl_values.proofs.lemmas.Views.{count-vals_view}
-use Rattle.wgsl_session.proofs.FreeValues.{matrix-free, item-there, item-smaller, not-free, free-more, all-free}
+use Rattle.wgsl_session.proofs.FreeValues.{matrix-free, item-there, not-free, free-more, all-free}
 use Rattle.wgsl_session.proofs.plain.+free.Goals as goal
+use Rattle.wgsl_layout.proofs.Writing.{item-smaller}
 
 pub are_free-is_free-requires : goal.are_free-is_free-requires
 are_free-is_free-requires t c =

@@ -7,12 +7,13 @@ use Rattle.wgsl_rules.specs.Types.{Fields, no_fields}
 use Rattle.wgsl_rules.specs.View.{type_view, member_view, members_view}
 use Rattle.wgsl_rules.specs.declared.ty.StructMemberType.{out-StructMemberType}
 use Rattle.wgsl_rules.proofs.lemmas.Views.{view-Array, struct_view-is, member_view-is}
+use Rattle.wgsl_rules.proofs.lemmas.Members.{fields-from}
 use Rattle.wgsl_interface.specs.Faults.{Fault, faults_view, with_more, told, unless, faults, member_faults, element_rule, member_rule, member_path}
 use Rattle.wgsl_interface.specs.Walks.{IsTold, element_faults, faults_of_member}
 use Rattle.wgsl_interface.specs.declared.faults.Walk.{Walk}
 use Rattle.wgsl_interface.specs.declared.rule.ShareRule.{ShareRule}
 use Rattle.wgsl_interface.specs.declared.rule.ShareRule.TheVariants as rules
-use Rattle.wgsl_interface.proofs.Members.{members-from, none-from, none-of}
+use Rattle.wgsl_interface.proofs.Members.{none-from, none-of}
 use Rattle.wgsl_interface.proofs.Told.{with_more-both, then-told, below-told, told-none, named, dotted, undotted, member_rest, behind}
 use Rattle.wgsl_interface.proofs.faults.Walk.+faults.Goals.{tell_member-then-end-gt0+in_ok-push_str, tell_member-else-end-gt0}
 use Rattle.wgsl_interface.proofs.faults.Walk.+faults.Goals as goal
@@ -36,7 +37,7 @@ tell_members-loop-i-preserved t c =
           ∙ with_more-both views (faults_of_member asked (string_bytes l.self.path) (l.i + 1 == length ms) f) (member_faults asked p fs)
           ∙ ap (λ (q : List ℕ). with_more views (faults_of_member asked q (l.i + 1 == length ms) f ++ member_faults asked p fs)) l.invariant.path
           ∙ ap (λ (b : Bool). with_more views (faults_of_member asked p b f ++ member_faults asked p fs)) (sym last)
-          ∙ ap (λ (gs : Fields). with_more views (member_faults asked p gs)) (sym (members-from ms l.i m c.loop-i-test.true c.index-members-i.is))
+          ∙ ap (λ (gs : Fields). with_more views (member_faults asked p gs)) (sym (fields-from ms l.i m c.loop-i-test.true c.index-members-i.is))
           ∙ l.invariant.faults;
     }
 

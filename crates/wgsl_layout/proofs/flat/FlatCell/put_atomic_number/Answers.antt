@@ -12,9 +12,10 @@ use Rattle.wgsl_layout.specs.FlatCells.{Holds, flat_value}
 use Rattle.wgsl_layout.specs.Located.{part_range, shape_plan}
 use Rattle.wgsl_layout.specs.Ranges.{view_range}
 use Rattle.wgsl_layout.specs.Walk.{put}
-use Rattle.wgsl_layout.proofs.AtomicParts.{fits-led, is-led}
+use Rattle.wgsl_layout.proofs.AtomicParts.{fits-led}
 use Rattle.wgsl_layout.proofs.FlatPuts.{has-room, held-layout, held-value, holds-own, leads-there, place-told, put-holds}
 use Rattle.wgsl_layout.proofs.flat.FlatCell.put_atomic_number.Goals as goal
+use Rattle.wgsl_layout.proofs.LaidParts.{leads-ok}
 
 pub part_of-part-requires-clause-room : goal.part_of-part-requires-clause-room
 part_of-part-requires-clause-room c = has-room c.self.inside (flat_value c.self.inside) c.len.result c.self.invariant c.len.ensures
@@ -24,7 +25,7 @@ part_of-part-requires-clause-there c =
     let v = flat_value c.self.inside in
     let steps = steps_of c.args.view.now in
     let there = rw (← c.self.view_is) at c.requires.there in
-    leads-there c.self.inside v steps c.self.invariant (is-led (IsAtomicOf (type_of (literal_of c.args.number))) (viewed steps v) there)
+    leads-there c.self.inside v steps c.self.invariant (leads-ok (viewed steps v) (IsAtomicOf (type_of (literal_of c.args.number))) there)
 
 pub write_atomic_number-requires-clause-alike : goal.write_atomic_number-requires-clause-alike
 write_atomic_number-requires-clause-alike c =

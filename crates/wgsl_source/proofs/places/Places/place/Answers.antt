@@ -2,8 +2,9 @@ use Rattle.std.proofs.Common.{◌≡◌, ℕ, List, subst, sym, arith}
 use Rattle.wgsl_source.specs.Orders.{times_in, places_with}
 use Rattle.wgsl_source.specs.declared.places.Mark.TheVariants.{Done}
 use Rattle.std.proofs.Common.{set, slice_get}
-use Rattle.wgsl_source.proofs.OrderLemmas.{done-once, done-kept, slice_get-set_same}
+use Rattle.wgsl_source.proofs.OrderLemmas.{done-once, done-kept}
 use Rattle.wgsl_source.proofs.places.Places.place.Goals as goal
+use Rattle.wgsl_rules.proofs.lemmas.Slices.{slice_get-set_same}
 
 pub invariant_of-self-2 : goal.invariant_of-self-2
 invariant_of-self-2 c =

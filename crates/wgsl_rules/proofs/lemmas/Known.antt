@@ -1,9 +1,10 @@
 -- What is so where a size, an alignment or an offset is known.
-use Rattle.std.proofs.Common.{◌≡◌, ℕ, ◌+◌, ◌*◌, ◌^◌, ◌<◌, ◌≤◌, List, [], ◌∷◌, Option, Some, None, is_some, Bool, true, false, refl, ap, subst, arith}
+use Rattle.std.proofs.Common.{◌≡◌, ℕ, ◌+◌, ◌*◌, ◌^◌, ◌<◌, ◌≤◌, List, [], ◌∷◌, Option, Some, None, is_some, Bool, true, false, refl, sym, ap, ◌∙◌, subst, arith}
 use Rattle.std.specs.Prelude.{nat_lt, ◌&&◌, if◌then◌else◌}
 use Rattle.std.specs.Int.{next_multiple_of}
 use Rattle.std.proofs.lemmas.Bool.{false≢true}
 use Rattle.std.proofs.lemmas.Bool.Decides.{nat_tests}
+use Rattle.std.proofs.lemmas.Option.{same_Some}
 use Rattle.wgsl_rules.specs.Size.{fitting, sum_of, round_up, with_both, times, stride_of, Extent, offset_after, end_after, end_of_members}
 
 pub and-both : (a b : Bool) → (a && b) ≡ true → (a ≡ true) × (b ≡ true)
@@ -86,3 +87,13 @@ end-none (m ∷ ms) x e = end-none ms x (subst (λ (o : Option ℕ). end_of_memb
 pub ends-known : (o : Option ℕ) (ms : List Extent) (x : ℕ) → end_of_members o ms ≡ Some x → (e : ℕ) × (o ≡ Some e)
 ends-known None ms x e = absurd (end-none ms x e)
 ends-known (Some n) ms x e = (n, refl)
+
+-- the end of members is no earlier than where they begin
+pub end-later : (ms : List Extent) (x e : ℕ) → end_of_members (Some x) ms ≡ Some e → x ≤ e
+end-later [] x e h = let s = same_Some x e h in omega arith
+end-later (m ∷ ms) x e h =
+    let g = ends-known (end_after (Some x) m) ms e h in
+    let k = end-known x m g.0 g.1 in
+    let rest = end-later ms g.0 e (ap (λ (o : Option ℕ). end_of_members o ms) (sym g.1) ∙ h) in
+    let le = k.4 in let eq = k.5 in
+    omega arith
