@@ -19,7 +19,14 @@ impl Ty for LiteralInstance {
     }
 
     fn has_ty(&self, ty: &Type) -> bool {
-        self.literal_ty() == *ty
+        match self {
+            LiteralInstance::Bool(_) => matches!(ty, Type::Bool),
+            LiteralInstance::AbstractInt(_) => matches!(ty, Type::AbstractInt),
+            LiteralInstance::I32(_) => matches!(ty, Type::I32),
+            LiteralInstance::U32(_) => matches!(ty, Type::U32),
+            LiteralInstance::I64(_) => matches!(ty, Type::I64),
+            LiteralInstance::U64(_) => matches!(ty, Type::U64),
+        }
     }
 }
 
