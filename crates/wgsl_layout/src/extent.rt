@@ -109,11 +109,15 @@ impl Extent {
         Extent::Fixed(usize::from(n) * *far as usize)
     }
 
-    // Of the values of a type that is no structure and no array.
-    fn of_size(ty: &Type) -> Extent
+    /// Of the values of a type that is no structure and no array.
+    pub(crate) fn of_size(ty: &Type) -> Extent
         ensures { result ≡ Extent.Fixed (size (type_view ty.now)) }
     {
-        Extent::Fixed(ty.measures().size.unwrap_or(0) as usize)
+        match ty {
+            Type::I32 | Type::U32 => Extent::Fixed(4),
+            Type::I64 | Type::U64 => Extent::Fixed(8),
+            _ => Extent::Fixed(ty.measures().size.unwrap_or(0) as usize),
+        }
     }
 
     /// How many bytes a value takes; `None` where the type does not tell it.

@@ -105,7 +105,7 @@ impl<'a> Located<'a> {
         match self.shape {
             Shape::Whole(ty, plan) => Extent::of(ty, plan),
             Shape::Column(n, component, plan) => Extent::of_vector(n, component, plan),
-            Shape::Component(ty) => Extent::Fixed(ty.measures().size.unwrap_or(0) as usize),
+            Shape::Component(ty) => Extent::of_size(ty),
         }
     }
 
@@ -257,6 +257,10 @@ impl<'a> Located<'a> {
         requires alike { layout_of (value_of value.now) ≡ (part_range self).layout }
         ensures { bytes.new ≡ overwritten bytes.old self.entry.start (buffer (value_of value.now)) }
     {
+        // A number has no padding.
+        if let Instance::Literal(number) = value {
+            return write_literal(bytes, self.start, *number);
+        }
         let end = self.start + self.size();
         bytes[self.start..end].fill(0);
         self.write(bytes, value);

@@ -6,5 +6,5 @@ use Rattle.wgsl_layout.specs.declared.extent.Extent.TheVariants as extents
 use Rattle.wgsl_layout.proofs.Making.{amount-is}
 use Rattle.wgsl_layout.proofs.extent.Extent.of_size.Goals as goal
 
-pub returns : goal.returns
-returns c = ap extents.Fixed (c.unwrap_or.ensures ∙ ap (λ (o : Option ℕ). unwrap_or o 0) c.measures.ensures.size ∙ amount-is (size_of (type_view c.args.ty.now)))
+pub returns-in_default : goal.returns-in_default
+returns-in_default c = ap extents.Fixed (c.unwrap_or.ensures ∙ ap (λ (o : Option ℕ). unwrap_or o 0) c.measures.ensures.size ∙ amount-is (size_of (type_view c.args.ty.now)))
