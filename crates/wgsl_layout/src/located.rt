@@ -67,6 +67,7 @@ pub(crate) enum Shape<'a> {
 impl<'a> Located<'a> {
     /// The first member of the name; `None` where there is none: structures alone have members. The condition:
     /// this part stands in its whole, and its plan is that of its type.
+    #[inline(always)]
     pub(crate) fn member(self, name: &str) -> Option<Located<'a>>
         requires { IsLocated self }
         ensures range { option_map part_range result ≡ step_range (member_step name.now) self.entry }
@@ -80,6 +81,7 @@ impl<'a> Located<'a> {
 
     /// The part of the index; `None` past the end, or where no part has an index: those of arrays, vectors and
     /// matrices have. The condition: this part stands in its whole, and its plan is that of its type.
+    #[inline(always)]
     pub(crate) fn index(self, i: usize) -> Option<Located<'a>>
         requires { IsLocated self }
         ensures range { option_map part_range result ≡ step_range (index_step i) self.entry }
@@ -93,6 +95,7 @@ impl<'a> Located<'a> {
     }
 
     // The member of the name, where the part is of the type and the plan is that of the type.
+    #[inline(always)]
     fn member_of_type(self, ty: &'a Type, plan: &'a Plan, name: &str) -> Option<Located<'a>>
         requires { IsThere self.count (type_view ty.now) (plan_view plan.now) self.start self.len }
         ensures range { option_map part_range result ≡ range_behind (member_step name.now) self.entry.count (type_view ty.now) self.entry.start }
@@ -110,6 +113,7 @@ impl<'a> Located<'a> {
     }
 
     // The member of the name, where the part is of the structure type.
+    #[inline(always)]
     fn member_of_struct(self, ty: &'a StructType, plan: &'a Plan, name: &str) -> Option<Located<'a>>
         requires { IsThere self.count (struct_view ty.now) (plan_view plan.now) self.start self.len }
         ensures range { option_map part_range result ≡ range_behind (member_step name.now) self.entry.count (struct_view ty.now) self.entry.start }
@@ -147,6 +151,7 @@ impl<'a> Located<'a> {
     }
 
     // The part of the index, where the part is of the type and the plan is that of the type.
+    #[inline(always)]
     fn part_of_type(self, ty: &'a Type, plan: &'a Plan, i: usize) -> Option<Located<'a>>
         requires { IsThere self.count (type_view ty.now) (plan_view plan.now) self.start self.len }
         ensures range { option_map part_range result ≡ range_behind (index_step i) self.entry.count (type_view ty.now) self.entry.start }
