@@ -327,15 +327,17 @@ impl References for RefInstance {
     }
 
     fn write(&self, alloc: Global, store: &mut Store, mut value: Instance) -> Result<(), Error> {
-        let answer = if !self.access().is_write() {
-            Err(Error::NotWrite)
-        } else if store.put(self, &mut value) {
-            Ok(())
-        } else {
-            Err(misfit(alloc, self, &value).unwrap_or(Error::Memory))
-        };
+        if !self.access().is_write() {
+            drop(value);
+            return Err(Error::NotWrite);
+        }
+        if store.put(self, &mut value) {
+            drop(value);
+            return Ok(());
+        }
+        let refusal = misfit(alloc, self, &value).unwrap_or(Error::Memory);
         drop(value);
-        answer
+        Err(refusal)
     }
 
     fn copy_to(&self, alloc: Global, store: &mut Store, target: &RefInstance) -> Result<(), Error> {
