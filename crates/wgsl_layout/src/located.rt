@@ -64,6 +64,8 @@ pub(crate) enum Shape<'a> {
     Component(&'a Type),
 }
 
+// The steps are compiled into the loop that follows a view (`viewed`): a part is many words, and one that is handed from call to
+// call is copied at each.
 impl<'a> Located<'a> {
     /// The first member of the name; `None` where there is none: structures alone have members. The condition:
     /// this part stands in its whole, and its plan is that of its type.

@@ -62,6 +62,8 @@ impl<'a> Located<'a> {
     }
 
     /// The part that the view leads to; `None` where it leads nowhere.
+    // Compiled by itself: within its callers it would make them too large to be compiled into the calls on whole cells, which
+    // have nothing to follow.
     #[inline(never)]
     pub(crate) fn viewed(self, view: &MemView) -> Option<Located<'a>>
         requires { IsLocated self }
