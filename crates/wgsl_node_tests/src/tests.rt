@@ -1,5 +1,6 @@
 //! What tables tell.
 
+mod asserts;
 mod depth;
 mod growth;
 mod mangled;

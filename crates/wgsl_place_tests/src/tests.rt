@@ -1,5 +1,6 @@
 //! Places, and the numbers there.
 
+mod asserts;
 mod depth;
 mod growth;
 mod memory;

@@ -1,5 +1,6 @@
 //! What sources declare.
 
+mod asserts;
 mod compared;
 mod declarations;
 mod directives;

@@ -1,6 +1,7 @@
 //! Tables of types of as many levels as `DEPTH` in the environment says. `tools/depths` runs these with the levels and the
 //! stack of `docs/DEPTH.md`.
 
+use crate::tests::asserts::{assert_same, assert_that};
 use crate::tests::samples::{boxed, member, structure};
 use std::alloc::Global;
 use std::process::Abort;
@@ -27,9 +28,9 @@ fn assert_table(rt: &impl Abort, alloc: Global, ty: Type, levels: usize) {
     let made = nodes_of(alloc, &ty).expect(rt, "memory");
     drop(ty);
     let nodes = made.expect(rt, "a table");
-    assert_eq!(rt; nodes.len(), levels.saturating_add(1));
-    assert!(rt; is_table(nodes.as_slice()));
-    assert!(rt; place(nodes.as_slice(), b"", 4, b"").is_some());
+    assert_same(rt, nodes.len(), levels.saturating_add(1));
+    assert_that(rt, is_table(nodes.as_slice()));
+    assert_that(rt, place(nodes.as_slice(), b"", 4, b"").is_some());
     drop(nodes);
 }
 

@@ -1,5 +1,6 @@
 //! Tables where memory is wanting.
 
+use crate::tests::asserts::{assert_same, assert_that};
 use crate::tests::samples::scene;
 use std::alloc::AllocError;
 use wgsl_nodes::{is_table, nodes_of};
@@ -14,7 +15,7 @@ fn a_table_is_made_or_memory_is_wanting(rt: HostRuntime) {
     };
     drop(ty);
     let nodes = made.expect(&rt, "a table");
-    assert_eq!(rt; nodes.len(), 14);
-    assert!(rt; is_table(nodes.as_slice()));
+    assert_same(&rt, nodes.len(), 14);
+    assert_that(&rt, is_table(nodes.as_slice()));
     drop(nodes);
 }

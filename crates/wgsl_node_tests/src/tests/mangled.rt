@@ -1,5 +1,6 @@
 //! A table with one field of one record set to another number.
 
+use crate::tests::asserts::{assert_same, assert_that};
 use crate::tests::samples::{NAMES, scene_table};
 use std::process::Abort;
 use wgsl_nodes::{Node, count_in, first_difference, is_table, part, place, size_with, whole};
@@ -53,11 +54,11 @@ fn assert_difference(
     is_same: bool,
 ) {
     let difference = first_difference(table, mangled);
-    assert_eq!(rt; difference.is_none(), is_same);
+    assert_same(rt, difference.is_none(), is_same);
     if let Some(difference) = difference {
-        assert_eq!(rt; difference.of_first as usize, i);
-        assert_eq!(rt; difference.of_second as usize, i);
-        assert_eq!(rt; difference.what, what);
+        assert_same(rt, difference.of_first as usize, i);
+        assert_same(rt, difference.of_second as usize, i);
+        assert_same(rt, difference.what, what);
     }
 }
 
@@ -83,7 +84,7 @@ fn assert_looked_at(
 ) {
     let node = *nodes.get(i).expect(rt, "a record");
     *nodes.get_mut(i).expect(rt, "a record") = with_field(node, what, number);
-    assert_eq!(rt; is_table(nodes), is_kept(node, what, number));
+    assert_same(rt, is_table(nodes), is_kept(node, what, number));
     assert_difference(rt, table, nodes, i, what, field(node, what) == number);
     look_into(nodes);
     *nodes.get_mut(i).expect(rt, "a record") = node;
@@ -93,7 +94,7 @@ fn assert_looked_at(
 fn each_field_is_looked_at(rt: HostRuntime) {
     let mut nodes = scene_table(&rt, rt.alloc());
     let table = scene_table(&rt, rt.alloc());
-    assert!(rt; is_table(table.as_slice()));
+    assert_that(&rt, is_table(table.as_slice()));
     for i in 0..nodes.len() {
         for what in 0..10 {
             for number in [0, 1, u32::MAX] {
@@ -110,10 +111,10 @@ fn each_field_is_looked_at(rt: HostRuntime) {
 fn a_shorter_table_differs(rt: HostRuntime) {
     let table = scene_table(&rt, rt.alloc());
     let shorter = table.as_slice().get(..13).expect(&rt, "there are 14");
-    assert!(rt; !is_table(shorter));
-    assert!(rt; !is_table(&[]));
+    assert_that(&rt, !is_table(shorter));
+    assert_that(&rt, !is_table(&[]));
     let difference = first_difference(table.as_slice(), shorter).expect(&rt, "one is longer");
-    assert_eq!(rt; difference.of_first, 13);
-    assert_eq!(rt; difference.what, 10);
+    assert_same(&rt, difference.of_first, 13);
+    assert_same(&rt, difference.what, 10);
     drop(table);
 }

@@ -1,5 +1,6 @@
 //! Numbers that are read and written in bytes.
 
+use crate::tests::asserts::{assert_same, assert_that};
 use crate::tests::samples::boxed;
 use std::alloc::Global;
 use std::process::Abort;
@@ -34,8 +35,8 @@ const LOADED: &[(u64, u32, Option<u64>)] = &[
 fn numbers_are_loaded(rt: HostRuntime) {
     let bytes: [u8; 12] = [1, 2, 3, 4, 5, 6, 7, 8, 9, 10, 11, 12];
     for (offset, kind, wanted) in LOADED {
-        assert_eq!(rt; load(&bytes, at(*offset, *kind, 1)), *wanted);
-        assert_eq!(rt; load(&bytes, at(*offset, *kind, 2)), None);
+        assert_same(&rt, load(&bytes, at(*offset, *kind, 1)), *wanted);
+        assert_same(&rt, load(&bytes, at(*offset, *kind, 2)), None);
     }
 }
 
@@ -52,8 +53,8 @@ fn numbers_are_stored(rt: HostRuntime) {
     let mut bytes: [u8; 6] = [0; 6];
     for (offset, kind, number, is_stored) in STORED {
         let stored = store(&mut bytes, at(*offset, *kind, 1), *number);
-        assert_eq!(rt; stored, *is_stored);
-        assert_eq!(rt; bytes, [0, 0x50, 0x60, 0x70, 0x80, 0]);
+        assert_same(&rt, stored, *is_stored);
+        assert_same(&rt, bytes, [0, 0x50, 0x60, 0x70, 0x80, 0]);
     }
 }
 
@@ -80,10 +81,10 @@ fn a_vector_of_f16(rt: HostRuntime) {
     let place = vector_place(&rt, rt.alloc());
     let mut bytes: [u8; 8] = [9; 8];
     for (numbers, is_stored) in VECTORS {
-        assert_eq!(rt; store_vec(&mut bytes, place, numbers), *is_stored);
-        assert_eq!(rt; bytes, [1, 0, 3, 2, 0xff, 0xff, 9, 9]);
+        assert_same(&rt, store_vec(&mut bytes, place, numbers), *is_stored);
+        assert_same(&rt, bytes, [1, 0, 3, 2, 0xff, 0xff, 9, 9]);
     }
     let mut numbers: [u64; 3] = [0; 3];
-    assert!(rt; load_vec(&bytes, place, &mut numbers));
-    assert_eq!(rt; numbers, [1, 0x203, 0xffff]);
+    assert_that(&rt, load_vec(&bytes, place, &mut numbers));
+    assert_same(&rt, numbers, [1, 0x203, 0xffff]);
 }

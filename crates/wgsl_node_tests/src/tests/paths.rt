@@ -1,5 +1,6 @@
 //! Paths in the table of a structure, and where they lead.
 
+use crate::tests::asserts::{assert_same, assert_that};
 use crate::tests::samples::{NAMES, boxed, scene_table};
 use wgsl_nodes::{Place, count_in, nodes_of, part, place, size_with, whole};
 use wgsl_rules::Type;
@@ -65,7 +66,7 @@ const LEN: u64 = 128 + 3 * 32;
 #[test]
 fn paths_lead_to_places(rt: HostRuntime) {
     let nodes = scene_table(&rt, rt.alloc());
-    assert_eq!(rt; nodes.len(), 14);
+    assert_same(&rt, nodes.len(), 14);
     for (path, offset, node, kind, count) in PLACES {
         let wanted = Place {
             offset: *offset,
@@ -74,7 +75,7 @@ fn paths_lead_to_places(rt: HostRuntime) {
             count: *count,
             spare: 0,
         };
-        assert_eq!(rt; place(nodes.as_slice(), NAMES, LEN, path), Some(wanted));
+        assert_same(&rt, place(nodes.as_slice(), NAMES, LEN, path), Some(wanted));
     }
     drop(nodes);
 }
@@ -83,7 +84,7 @@ fn paths_lead_to_places(rt: HostRuntime) {
 fn other_paths_are_refused(rt: HostRuntime) {
     let nodes = scene_table(&rt, rt.alloc());
     for path in REFUSED {
-        assert!(rt; place(nodes.as_slice(), NAMES, LEN, path).is_none());
+        assert_that(&rt, place(nodes.as_slice(), NAMES, LEN, path).is_none());
     }
     drop(nodes);
 }
@@ -94,11 +95,11 @@ fn positions_lead_on(rt: HostRuntime) {
     let start = whole(nodes.as_slice()).expect(&rt, "a root");
     let lights = part(nodes.as_slice(), start, 3, LEN).expect(&rt, "a member");
     let light = part(nodes.as_slice(), lights, 2, LEN).expect(&rt, "an element");
-    assert_eq!(rt; light.offset, 192);
-    assert_eq!(rt; light.node, 9);
-    assert!(rt; part(nodes.as_slice(), start, 4, LEN).is_none());
-    assert!(rt; part(nodes.as_slice(), lights, 3, LEN).is_none());
-    assert!(rt; part(nodes.as_slice(), lights, 2, LEN - 1).is_none());
+    assert_same(&rt, light.offset, 192);
+    assert_same(&rt, light.node, 9);
+    assert_that(&rt, part(nodes.as_slice(), start, 4, LEN).is_none());
+    assert_that(&rt, part(nodes.as_slice(), lights, 3, LEN).is_none());
+    assert_that(&rt, part(nodes.as_slice(), lights, 2, LEN - 1).is_none());
     drop(nodes);
 }
 
@@ -122,10 +123,10 @@ const COUNTS: &[(u32, u64, Option<u64>)] = &[
 fn lengths_and_counts(rt: HostRuntime) {
     let nodes = scene_table(&rt, rt.alloc());
     for (node, count, wanted) in SIZES {
-        assert_eq!(rt; size_with(nodes.as_slice(), *node, *count), *wanted);
+        assert_same(&rt, size_with(nodes.as_slice(), *node, *count), *wanted);
     }
     for (node, len, wanted) in COUNTS {
-        assert_eq!(rt; count_in(nodes.as_slice(), *node, *len), *wanted);
+        assert_same(&rt, count_in(nodes.as_slice(), *node, *len), *wanted);
     }
     drop(nodes);
 }
@@ -135,7 +136,7 @@ fn a_type_without_a_table(rt: HostRuntime) {
     let alloc = rt.alloc();
     let ty = Type::Vec(3, boxed(alloc, Type::F64).expect(&rt, "memory"));
     let made = nodes_of(alloc, &ty).expect(&rt, "memory");
-    assert!(rt; made.is_none());
+    assert_that(&rt, made.is_none());
     drop(made);
     drop(ty);
 }

@@ -1,5 +1,6 @@
 //! The types that the tests look at, and their tables.
 
+use crate::tests::asserts::assert_that;
 use std::alloc::{AllocError, Global};
 use std::process::Abort;
 use wgsl_nodes::{Node, nodes_of, set_name};
@@ -107,7 +108,7 @@ pub(super) fn scene_table(rt: &impl Abort, alloc: Global) -> Vec<Node> {
     drop(ty);
     let mut nodes = made.expect(rt, "a table");
     for (number, start, end) in NAMED {
-        assert!(rt; set_name(nodes.as_mut_slice(), *number, *start, *end));
+        assert_that(rt, set_name(nodes.as_mut_slice(), *number, *start, *end));
     }
     nodes
 }

@@ -1,6 +1,7 @@
 //! Places in types of as many levels as `DEPTH` in the environment says. `tools/depths` runs these with the levels and the
 //! stack of `docs/DEPTH.md`.
 
+use crate::tests::asserts::assert_same;
 use crate::tests::samples::{Step, view_of};
 use std::alloc::Global;
 use std::process::Abort;
@@ -47,7 +48,7 @@ fn assert_bottom(rt: &impl Abort, alloc: Global, ty: Type, step: Step, levels: u
     let view = deep_view(rt, alloc, step, levels);
     let place = places.place(4, &view).expect(rt, "a part");
     let seven = LiteralInstance::U32(7);
-    assert_eq!(rt; places.load(&[7, 0, 0, 0], place), Some(seven));
+    assert_same(rt, places.load(&[7, 0, 0, 0], place), Some(seven));
     drop((ty, places, view));
 }
 

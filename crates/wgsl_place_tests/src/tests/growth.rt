@@ -1,5 +1,6 @@
 //! Places where memory is wanting.
 
+use crate::tests::asserts::assert_that;
 use crate::tests::samples::{LEN, scene};
 use std::alloc::AllocError;
 use wgsl_places::Places;
@@ -14,7 +15,7 @@ fn places_are_made_or_memory_is_wanting(rt: HostRuntime) {
         Err(AllocError) => Places::of(alloc, &ty).expect(&rt, "one growth alone is refused"),
     };
     let places = made.expect(&rt, "a layout");
-    assert!(rt; places.ty() == &ty);
-    assert!(rt; places.place(LEN, &MemView::Whole).is_ok());
+    assert_that(&rt, places.ty() == &ty);
+    assert_that(&rt, places.place(LEN, &MemView::Whole).is_ok());
     drop((ty, places));
 }

@@ -4,6 +4,7 @@ ghost use Rattle.wgsl_places.specs.Memory.{IsPlaceOf};
 ghost use Rattle.wgsl_store.specs.Memory.{IsKept};
 ghost use Rattle.wgsl_values.specs.View.{reference_of};
 
+use crate::tests::asserts::{assert_same, assert_that};
 use crate::tests::numbers::literal;
 use crate::tests::samples::Step::{self, Index, Member};
 use crate::tests::samples::{LEN, ROWS, scene, scene_places, stepped, view_of};
@@ -101,7 +102,7 @@ fn each_number_of_a_cell_is_found_stored_and_loaded(rt: HostRuntime) {
     for row in ROWS {
         let cell = zeros(&rt, alloc, &mut store, ReadWrite);
         let place = place_at(&rt, alloc, &places, &store, &cell, row.steps);
-        assert_eq!(rt; place, Some(stepped(&rt, &places, row.steps)));
+        assert_same(&rt, place, Some(stepped(&rt, &places, row.steps)));
         let number = literal(&rt, row.kind, 0xfedc_ba98_7654_3210);
         let stored = is_stored(&rt, alloc, &places, &mut store, &cell, row.steps, number);
         assert!(rt; stored, "at {}", row.start);
@@ -127,10 +128,16 @@ fn a_number_of_another_kind_is_not_stored(rt: HostRuntime) {
     let mut store = Store::new(alloc);
     let cell = zeros(&rt, alloc, &mut store, ReadWrite);
     let number = [Member("a", 0)];
-    assert!(rt; !is_stored(&rt, alloc, &places, &mut store, &cell, &number, I32(1)));
-    assert!(rt; !is_stored(&rt, alloc, &places, &mut store, &cell, &[], U32(1)));
-    assert_eq!(rt; loaded(&rt, alloc, &places, &store, &cell, &[]), None);
-    assert_eq!(rt; bytes_of(&rt, &store, &cell), [0; LEN]);
+    assert_that(
+        &rt,
+        !is_stored(&rt, alloc, &places, &mut store, &cell, &number, I32(1)),
+    );
+    assert_that(
+        &rt,
+        !is_stored(&rt, alloc, &places, &mut store, &cell, &[], U32(1)),
+    );
+    assert_same(&rt, loaded(&rt, alloc, &places, &store, &cell, &[]), None);
+    assert_same(&rt, bytes_of(&rt, &store, &cell), [0; LEN]);
     drop((places, store, cell));
 }
 
@@ -141,14 +148,20 @@ fn leave_to_read_and_to_write_is_asked(rt: HostRuntime) {
     let mut store = Store::new(alloc);
     let number = [Member("a", 0)];
     let written = zeros(&rt, alloc, &mut store, Write);
-    assert!(rt; is_stored(&rt, alloc, &places, &mut store, &written, &number, U32(7)));
+    assert_that(
+        &rt,
+        is_stored(&rt, alloc, &places, &mut store, &written, &number, U32(7)),
+    );
     assert_eq!(rt;
         loaded(&rt, alloc, &places, &store, &written, &number),
         None
     );
-    assert_eq!(rt; bytes_of(&rt, &store, &written)[0], 7);
+    assert_same(&rt, bytes_of(&rt, &store, &written)[0], 7);
     let read = zeros(&rt, alloc, &mut store, Read);
-    assert!(rt; !is_stored(&rt, alloc, &places, &mut store, &read, &number, U32(7)));
+    assert_that(
+        &rt,
+        !is_stored(&rt, alloc, &places, &mut store, &read, &number, U32(7)),
+    );
     assert_eq!(rt;
         loaded(&rt, alloc, &places, &store, &read, &number),
         Some(U32(0))
@@ -196,9 +209,12 @@ fn a_place_stays_while_another_cell_is_written(rt: HostRuntime) {
     assert!(rt; store.holds(&other));
     let here = first_member(&rt, &places, &store, &one);
     let there = first_member(&rt, &places, &store, &other);
-    assert!(rt; store_both(&places, &mut store, (&one, &other), (here, there), U32(7)));
-    assert_eq!(rt; bytes_of(&rt, &store, &one)[0], 7);
-    assert_eq!(rt; bytes_of(&rt, &store, &other)[0], 7);
+    assert_that(
+        &rt,
+        store_both(&places, &mut store, (&one, &other), (here, there), U32(7)),
+    );
+    assert_same(&rt, bytes_of(&rt, &store, &one)[0], 7);
+    assert_same(&rt, bytes_of(&rt, &store, &other)[0], 7);
     drop((places, store, one, other));
 }
 
@@ -225,13 +241,16 @@ fn a_cell_that_is_no_bytes_has_no_places(rt: HostRuntime) {
     assert!(rt; store.holds(&part));
     let places = Places::of(alloc, part.target_ty()).expect(&rt, "no memory to make it");
     let places = places.expect(&rt, "a layout");
-    assert!(rt; place_at(&rt, alloc, &places, &store, &part, &[]).is_none());
+    assert_that(
+        &rt,
+        place_at(&rt, alloc, &places, &store, &part, &[]).is_none(),
+    );
     let whole = places.place(8, &MemView::Whole).expect(&rt, "the whole");
     let first = places.part(whole, 0).expect(&rt, "an element");
-    assert_eq!(rt; places.load_in(&store, &part, first), None);
-    assert_eq!(rt; places.load_vec_in(&store, &part, first), None);
-    assert!(rt; store.bytes_of(&part).is_none());
-    assert!(rt; store.bytes_from(&part).is_none());
+    assert_same(&rt, places.load_in(&store, &part, first), None);
+    assert_same(&rt, places.load_vec_in(&store, &part, first), None);
+    assert_that(&rt, store.bytes_of(&part).is_none());
+    assert_that(&rt, store.bytes_from(&part).is_none());
     drop((places, store, part));
 }
 
@@ -242,7 +261,10 @@ fn a_view_that_leads_nowhere_has_no_place(rt: HostRuntime) {
     let mut store = Store::new(alloc);
     let cell = zeros(&rt, alloc, &mut store, ReadWrite);
     let steps = [Member("tail", 5), Index(3)];
-    assert!(rt; place_at(&rt, alloc, &places, &store, &cell, &steps).is_none());
+    assert_that(
+        &rt,
+        place_at(&rt, alloc, &places, &store, &cell, &steps).is_none(),
+    );
     drop((places, store, cell));
 }
 
@@ -280,11 +302,14 @@ fn numbers_of_a_cell_are_found_loaded_and_stored_without_memory(rt: HostRuntime)
     );
     let cell = zeros(&rt, alloc, &mut store, ReadWrite);
     let steps = [Member("tail", 5), Index(2)];
-    assert!(rt; is_stored(&rt, alloc, &places, &mut store, &cell, &steps, U32(7)));
+    assert_that(
+        &rt,
+        is_stored(&rt, alloc, &places, &mut store, &cell, &steps, U32(7)),
+    );
     assert_eq!(rt;
         loaded(&rt, alloc, &places, &store, &cell, &steps),
         Some(U32(7))
     );
-    assert_eq!(rt; bytes_of(&rt, &store, &cell)[108], 7);
+    assert_same(&rt, bytes_of(&rt, &store, &cell)[108], 7);
     drop((places, store, number, cell));
 }

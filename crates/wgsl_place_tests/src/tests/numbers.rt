@@ -1,5 +1,6 @@
 //! Numbers are found by views and step by step, and are loaded and stored where they stand.
 
+use crate::tests::asserts::assert_same;
 use crate::tests::samples::{LEN, ROWS, Row, place_of, scene_places, stepped};
 use std::process::Abort;
 use wgsl_scalar::LiteralInstance;
@@ -48,8 +49,8 @@ fn each_number_is_found_and_loaded(rt: HostRuntime) {
     let bytes = sample_bytes();
     for row in ROWS {
         let place = place_of(&rt, alloc, &places, row.steps);
-        assert_eq!(rt; place, stepped(&rt, &places, row.steps));
-        assert_eq!(rt; place.start(), row.start);
+        assert_same(&rt, place, stepped(&rt, &places, row.steps));
+        assert_same(&rt, place.start(), row.start);
         let wanted = reckoned(&rt, &bytes, row);
         assert_eq!(rt;
             places.load(&bytes, place),
@@ -76,7 +77,7 @@ fn each_number_is_stored_in_its_own_bytes(rt: HostRuntime) {
             wanted[row.start + 4..row.start + 8].copy_from_slice(&[0x98, 0xba, 0xdc, 0xfe]);
         }
         assert_eq!(rt; bytes, wanted, "at {}", row.start);
-        assert_eq!(rt; places.load(&bytes, place), Some(number));
+        assert_same(&rt, places.load(&bytes, place), Some(number));
     }
     drop(places);
 }

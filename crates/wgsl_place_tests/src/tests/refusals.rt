@@ -1,5 +1,6 @@
 //! What has no place, and what is not loaded or stored.
 
+use crate::tests::asserts::{assert_same, assert_that};
 use crate::tests::samples::Step::{self, Index, Member};
 use crate::tests::samples::{LEN, ROWS, place_of, scene_places, stepped, view_of};
 use std::alloc::Global;
@@ -61,8 +62,8 @@ fn views_that_lead_nowhere_have_no_place(rt: HostRuntime) {
     let places = scene_places(&rt, alloc);
     for steps in NOWHERE {
         let view = view_of(&rt, alloc, steps);
-        assert_eq!(rt; places.place(LEN, &view), Err(NoPart));
-        assert_eq!(rt; places.place(103, &view), Err(TooFewBytes));
+        assert_same(&rt, places.place(LEN, &view), Err(NoPart));
+        assert_same(&rt, places.place(103, &view), Err(TooFewBytes));
         drop(view);
     }
     drop(places);
@@ -74,13 +75,13 @@ fn positions_past_the_last_have_no_place(rt: HostRuntime) {
     let places = scene_places(&rt, alloc);
     for (steps, count) in COMPOSITES.iter().zip([6, 3, 2, 3, 2, 2, 3]) {
         let place = stepped(&rt, &places, steps);
-        assert!(rt; places.part(place, count - 1).is_some());
-        assert_eq!(rt; places.part(place, count), None);
-        assert_eq!(rt; places.part(place, usize::MAX), None);
+        assert_that(&rt, places.part(place, count - 1).is_some());
+        assert_same(&rt, places.part(place, count), None);
+        assert_same(&rt, places.part(place, usize::MAX), None);
     }
     for row in ROWS {
         let place = stepped(&rt, &places, row.steps);
-        assert_eq!(rt; places.part(place, 0), None);
+        assert_same(&rt, places.part(place, 0), None);
     }
     drop(places);
 }
@@ -92,11 +93,11 @@ fn what_is_no_number_is_neither_loaded_nor_stored(rt: HostRuntime) {
     for steps in COMPOSITES {
         let place = place_of(&rt, alloc, &places, steps);
         let mut bytes = [0x55; LEN];
-        assert_eq!(rt; places.load(&bytes, place), None);
+        assert_same(&rt, places.load(&bytes, place), None);
         for number in NUMBERS {
-            assert!(rt; !places.store(&mut bytes, place, *number));
+            assert_that(&rt, !places.store(&mut bytes, place, *number));
         }
-        assert_eq!(rt; bytes, [0x55; LEN]);
+        assert_same(&rt, bytes, [0x55; LEN]);
     }
     drop(places);
 }
@@ -110,8 +111,8 @@ fn a_number_of_another_kind_is_not_stored(rt: HostRuntime) {
         for number in NUMBERS {
             let mut bytes = [0x55; LEN];
             let is_of_kind = kind_of(*number) == row.kind;
-            assert_eq!(rt; places.store(&mut bytes, place, *number), is_of_kind);
-            assert_eq!(rt; bytes == [0x55; LEN], !is_of_kind);
+            assert_same(&rt, places.store(&mut bytes, place, *number), is_of_kind);
+            assert_same(&rt, bytes == [0x55; LEN], !is_of_kind);
         }
     }
     drop(places);
@@ -125,11 +126,11 @@ fn a_number_lies_in_the_bytes_whole(rt: HostRuntime) {
         let place = stepped(&rt, &places, row.steps);
         let mut bytes = [0x55; LEN];
         let short = row.start + 3;
-        assert_eq!(rt; places.load(&bytes[..short], place), None);
+        assert_same(&rt, places.load(&bytes[..short], place), None);
         for number in NUMBERS {
-            assert!(rt; !places.store(&mut bytes[..short], place, *number));
+            assert_that(&rt, !places.store(&mut bytes[..short], place, *number));
         }
-        assert_eq!(rt; bytes, [0x55; LEN]);
+        assert_same(&rt, bytes, [0x55; LEN]);
     }
     drop(places);
 }
@@ -137,7 +138,7 @@ fn a_number_lies_in_the_bytes_whole(rt: HostRuntime) {
 /// Asserts that the type has no places.
 fn assert_no_places(rt: &impl Abort, alloc: Global, ty: Type) {
     let places = Places::of(alloc, &ty).expect(rt, "memory");
-    assert!(rt; places.is_none());
+    assert_that(rt, places.is_none());
     drop((ty, places));
 }
 
@@ -158,9 +159,12 @@ fn places_of_another_type_are_refused_or_lie_inside(rt: HostRuntime) {
     let word = made.expect(&rt, "a layout");
     for row in ROWS {
         let place = stepped(&rt, &scene, row.steps);
-        assert_eq!(rt; word.part(place, 0), None);
-        assert_eq!(rt; word.load(&[1, 2, 3], place), None);
-        assert!(rt; !word.store(&mut [1, 2, 3], place, LiteralInstance::U32(7)));
+        assert_same(&rt, word.part(place, 0), None);
+        assert_same(&rt, word.load(&[1, 2, 3], place), None);
+        assert_that(
+            &rt,
+            !word.store(&mut [1, 2, 3], place, LiteralInstance::U32(7)),
+        );
     }
     drop((scene, word));
 }

@@ -1,5 +1,6 @@
 //! Vectors are loaded and stored where they stand, whole or not at all.
 
+use crate::tests::asserts::{assert_same, assert_that};
 use crate::tests::samples::Step::{self, Index, Member};
 use crate::tests::samples::{add_member, stepped_in};
 use std::alloc::{AllocError, Global};
@@ -143,8 +144,8 @@ fn assert_refused(
 ) {
     let place = stepped_in(rt, places, LEN, steps);
     let mut bytes = [0x55; LEN];
-    assert!(rt; !places.store_vec(&mut bytes, place, components));
-    assert_eq!(rt; bytes, [0x55; LEN]);
+    assert_that(rt, !places.store_vec(&mut bytes, place, components));
+    assert_same(rt, bytes, [0x55; LEN]);
 }
 
 #[test]
@@ -153,7 +154,7 @@ fn each_vector_is_loaded(rt: HostRuntime) {
     let bytes = counted();
     for row in ROWS {
         let place = stepped_in(&rt, &places, LEN, row.steps);
-        assert_eq!(rt; place.start(), row.start);
+        assert_same(&rt, place.start(), row.start);
         let loaded = places.load_vec(&bytes, place).expect(&rt, "a vector");
         assert_eq!(rt; loaded.as_slice(), row.components, "at {}", row.start);
     }
@@ -166,7 +167,7 @@ fn each_vector_is_stored_in_its_own_bytes(rt: HostRuntime) {
     for row in ROWS {
         let place = stepped_in(&rt, &places, LEN, row.steps);
         let mut bytes = [0x55; LEN];
-        assert!(rt; places.store_vec(&mut bytes, place, row.components));
+        assert_that(&rt, places.store_vec(&mut bytes, place, row.components));
         let mut wanted = [0x55; LEN];
         wanted[row.start..row.end].copy_from_slice(&counted()[row.start..row.end]);
         assert_eq!(rt; bytes, wanted, "at {}", row.start);
@@ -181,10 +182,13 @@ fn a_vector_lies_in_the_bytes_whole(rt: HostRuntime) {
         let place = stepped_in(&rt, &places, LEN, row.steps);
         let mut bytes = [0x55; LEN];
         let short = row.end - 1;
-        assert_eq!(rt; places.load_vec(&bytes[..short], place), None);
+        assert_same(&rt, places.load_vec(&bytes[..short], place), None);
         let components = row.components;
-        assert!(rt; !places.store_vec(&mut bytes[..short], place, components));
-        assert_eq!(rt; bytes, [0x55; LEN]);
+        assert_that(
+            &rt,
+            !places.store_vec(&mut bytes[..short], place, components),
+        );
+        assert_same(&rt, bytes, [0x55; LEN]);
     }
     drop(places);
 }
@@ -194,7 +198,7 @@ fn what_is_no_vector_is_neither_loaded_nor_stored(rt: HostRuntime) {
     let places = lot_places(&rt, rt.alloc());
     for steps in OTHERS {
         let place = stepped_in(&rt, &places, LEN, steps);
-        assert_eq!(rt; places.load_vec(&counted(), place), None);
+        assert_same(&rt, places.load_vec(&counted(), place), None);
         for count in 0..5 {
             assert_refused(&rt, &places, steps, &[U32(7); 5][..count]);
         }
@@ -247,9 +251,9 @@ fn places_of_another_type_are_refused_or_lie_inside(rt: HostRuntime) {
     let word = made.expect(&rt, "a layout");
     for row in ROWS {
         let place = stepped_in(&rt, &lot, LEN, row.steps);
-        assert_eq!(rt; word.load_vec(&[1, 2, 3, 4], place), None);
+        assert_same(&rt, word.load_vec(&[1, 2, 3, 4], place), None);
         let components = row.components;
-        assert!(rt; !word.store_vec(&mut [1, 2, 3, 4], place, components));
+        assert_that(&rt, !word.store_vec(&mut [1, 2, 3, 4], place, components));
     }
     drop((lot, word));
 }

@@ -1,5 +1,6 @@
 //! Vectors in what references name are loaded and stored by places, whole or not at all.
 
+use crate::tests::asserts::{assert_same, assert_that};
 use crate::tests::memory::{bytes_of, place_at, zeros};
 use crate::tests::samples::Step::{self, Index, Member};
 use crate::tests::samples::{LEN, scene_places, view_of};
@@ -125,8 +126,11 @@ fn a_vector_of_another_count_or_kind_is_not_stored(rt: HostRuntime) {
         [U32(1), U32(2), U32(3)].as_slice(),
         [I32(1), I32(2), U32(3)].as_slice(),
     ] {
-        assert!(rt; !is_stored(&rt, alloc, &places, &mut store, &cell, &vector, components));
-        assert_eq!(rt; bytes_of(&rt, &store, &cell), [0; LEN]);
+        assert_that(
+            &rt,
+            !is_stored(&rt, alloc, &places, &mut store, &cell, &vector, components),
+        );
+        assert_same(&rt, bytes_of(&rt, &store, &cell), [0; LEN]);
     }
     drop((places, store, cell));
 }
@@ -139,10 +143,16 @@ fn what_is_no_vector_is_neither_loaded_nor_stored(rt: HostRuntime) {
     let cell = zeros(&rt, alloc, &mut store, ReadWrite);
     for steps in OTHERS {
         let (one, three) = ([U32(1)], [U32(1), U32(2), U32(3)]);
-        assert!(rt; !is_stored(&rt, alloc, &places, &mut store, &cell, steps, &one));
-        assert!(rt; !is_stored(&rt, alloc, &places, &mut store, &cell, steps, &three));
-        assert_eq!(rt; bytes_of(&rt, &store, &cell), [0; LEN]);
-        assert_eq!(rt; loaded(&rt, alloc, &places, &store, &cell, steps), None);
+        assert_that(
+            &rt,
+            !is_stored(&rt, alloc, &places, &mut store, &cell, steps, &one),
+        );
+        assert_that(
+            &rt,
+            !is_stored(&rt, alloc, &places, &mut store, &cell, steps, &three),
+        );
+        assert_same(&rt, bytes_of(&rt, &store, &cell), [0; LEN]);
+        assert_same(&rt, loaded(&rt, alloc, &places, &store, &cell, steps), None);
     }
     drop((places, store, cell));
 }
@@ -155,14 +165,20 @@ fn leave_to_read_and_to_write_vectors_is_asked(rt: HostRuntime) {
     let column = [Member("grid", 2), Index(1)];
     let numbers = [U32(7), U32(8), U32(9)];
     let written = zeros(&rt, alloc, &mut store, Write);
-    assert!(rt; is_stored(&rt, alloc, &places, &mut store, &written, &column, &numbers));
+    assert_that(
+        &rt,
+        is_stored(&rt, alloc, &places, &mut store, &written, &column, &numbers),
+    );
     assert_eq!(rt;
         loaded(&rt, alloc, &places, &store, &written, &column),
         None
     );
-    assert_eq!(rt; bytes_of(&rt, &store, &written)[56], 9);
+    assert_same(&rt, bytes_of(&rt, &store, &written)[56], 9);
     let read = zeros(&rt, alloc, &mut store, Read);
-    assert!(rt; !is_stored(&rt, alloc, &places, &mut store, &read, &column, &numbers));
+    assert_that(
+        &rt,
+        !is_stored(&rt, alloc, &places, &mut store, &read, &column, &numbers),
+    );
     assert_eq!(rt;
         loaded(&rt, alloc, &places, &store, &read, &column),
         Some(Components::Three([U32(0); 3]))
@@ -178,11 +194,14 @@ fn vectors_of_a_cell_are_loaded_and_stored_without_memory(rt: HostRuntime) {
     let cell = zeros(&rt, alloc, &mut store, ReadWrite);
     let column = [Member("grid", 2), Index(1)];
     let numbers = [U32(1), U32(2), U32(3)];
-    assert!(rt; is_stored(&rt, alloc, &places, &mut store, &cell, &column, &numbers));
+    assert_that(
+        &rt,
+        is_stored(&rt, alloc, &places, &mut store, &cell, &column, &numbers),
+    );
     assert_eq!(rt;
         loaded(&rt, alloc, &places, &store, &cell, &column),
         Some(Components::Three(numbers))
     );
-    assert_eq!(rt; bytes_of(&rt, &store, &cell)[56], 3);
+    assert_same(&rt, bytes_of(&rt, &store, &cell)[56], 3);
     drop((places, store, cell));
 }

@@ -1,5 +1,6 @@
 //! Sources where memory is wanting: they are read as they stand, or not at all.
 
+use crate::tests::asserts::{assert_same, assert_that};
 use crate::tests::texts::text_of;
 use std::alloc::AllocError;
 use wgsl_source::{Declared, Reading};
@@ -27,7 +28,7 @@ fn a_source_is_read_or_memory_is_wanting(rt: HostRuntime) {
         Ok(text) => text,
         Err(AllocError) => text_of(alloc, SOURCE).expect(&rt, "one growth alone is refused"),
     };
-    assert_eq!(rt; text.as_str(), WANTED);
+    assert_same(&rt, text.as_str(), WANTED);
 }
 
 const MODULE: &str = "\
@@ -47,11 +48,11 @@ fn a_module_is_shown_or_memory_is_wanting(rt: HostRuntime) {
             Reading::of_module(alloc, MODULE).expect(&rt, "one growth alone is refused")
         }
     };
-    assert_eq!(rt; reading.len(), 4);
-    assert_eq!(rt; reading.order().len(), 4);
-    assert_eq!(rt; reading.asserts().len(), 1);
-    assert_eq!(rt; reading.number_of("C"), Some(3));
-    assert_eq!(rt; reading.faults().len(), 1);
+    assert_same(&rt, reading.len(), 4);
+    assert_same(&rt, reading.order().len(), 4);
+    assert_same(&rt, reading.asserts().len(), 1);
+    assert_same(&rt, reading.number_of("C"), Some(3));
+    assert_same(&rt, reading.faults().len(), 1);
     drop(reading);
 }
 
@@ -65,14 +66,14 @@ fn an_expression_is_shown_or_memory_is_wanting(rt: HostRuntime) {
             "one growth alone is refused",
         ),
     };
-    assert_eq!(rt; reading.len(), 1);
-    assert_eq!(rt; reading.order(), [0].as_slice());
+    assert_same(&rt, reading.len(), 1);
+    assert_same(&rt, reading.order(), [0].as_slice());
     let steps = match reading.declared(0) {
         Some(Declared::Const { value, .. }) => reading.steps(value).len(),
         _ => 0,
     };
-    assert_eq!(rt; steps, 6);
-    assert!(rt; reading.faults().is_empty());
+    assert_same(&rt, steps, 6);
+    assert_that(&rt, reading.faults().is_empty());
     drop(reading);
 }
 
@@ -93,10 +94,10 @@ fn uses_are_found_or_memory_is_wanting(rt: HostRuntime) {
             .expect(&rt, "one growth alone is refused"),
     };
     drop(reading);
-    assert_eq!(rt; uses.len(), 3);
+    assert_same(&rt, uses.len(), 3);
     let of_function = uses.last().expect(&rt, "there are three");
-    assert_eq!(rt; of_function.as_slice(), [1].as_slice());
+    assert_same(&rt, of_function.as_slice(), [1].as_slice());
     let of_variable = uses.get(1).expect(&rt, "there are three");
-    assert_eq!(rt; of_variable.as_slice(), [0].as_slice());
+    assert_same(&rt, of_variable.as_slice(), [0].as_slice());
     drop(uses);
 }

@@ -1,5 +1,6 @@
 //! Which declarations a declaration names, by WGSL's rules of scope.
 
+use crate::tests::asserts::assert_that;
 use crate::tests::texts::{assert_text, reading_of, separate};
 use std::alloc::{AllocError, Global};
 use std::process::Abort;
@@ -169,7 +170,7 @@ fn names_of_functions_are_known_in_their_blocks(rt: HostRuntime) {
 fn expressions_name_nothing(rt: HostRuntime) {
     let reading = Reading::of_expression(rt.alloc(), "a + b").expect(&rt, "memory");
     let lists = reading.uses(rt.alloc()).expect(&rt, "memory");
-    assert!(rt; lists.is_empty());
+    assert_that(&rt, lists.is_empty());
     drop(lists);
     drop(reading);
 }

@@ -9,6 +9,11 @@ pub(super) fn assert_same<T: PartialEq + Debug + Drop>(rt: &impl Abort, value: T
     assert_eq!(rt; value, wanted);
 }
 
+/// Asserts that it is so.
+pub(super) fn assert_that(rt: &impl Abort, is_so: bool) {
+    assert!(rt; is_so);
+}
+
 /// Asserts that the answer is the wanted one.
 pub(super) fn assert_gives<T: PartialEq + Debug + Drop, E: Debug + Drop>(
     rt: &impl Abort,

@@ -1,6 +1,7 @@
 //! Calls that call themselves for each level of a type, on types of as many levels as `DEPTH` in the environment says.
 //! `tools/depths` runs them with the levels and the stack of `docs/DEPTH.md`.
 
+use crate::tests::asserts::{assert_same, assert_that};
 use crate::tests::samples::array;
 use std::alloc::Global;
 use std::process::Abort;
@@ -56,17 +57,21 @@ fn structures(rt: &impl Abort, alloc: Global, levels: usize, inside: Type) -> Ty
 /// Asserts what is told of a type whose innermost part is a bool, and how long the path of that part is.
 fn assert_of_bool(rt: &impl Abort, alloc: Global, ty: Type, length: usize) {
     let faults = share_faults(alloc, &ty, Storage, None).expect(rt, "memory");
-    assert_eq!(rt; faults.len(), 1);
-    assert_eq!(rt; faults.first().map(|fault| fault.path.len()), Some(length));
-    assert!(rt; may_be_of(&ty, Private, None));
-    assert!(rt; !may_be_of(&ty, Storage, None));
-    assert!(rt; is_plain(&ty));
-    assert!(rt; is_concrete(&ty));
-    assert!(rt; is_storable(&ty));
-    assert!(rt; is_constructible(&ty));
-    assert!(rt; !is_host_shareable(&ty));
-    assert!(rt; has_fixed_footprint(&ty));
-    assert!(rt; has_creation_fixed_footprint(&ty));
+    assert_same(rt, faults.len(), 1);
+    assert_same(
+        rt,
+        faults.first().map(|fault| fault.path.len()),
+        Some(length),
+    );
+    assert_that(rt, may_be_of(&ty, Private, None));
+    assert_that(rt, !may_be_of(&ty, Storage, None));
+    assert_that(rt, is_plain(&ty));
+    assert_that(rt, is_concrete(&ty));
+    assert_that(rt, is_storable(&ty));
+    assert_that(rt, is_constructible(&ty));
+    assert_that(rt, !is_host_shareable(&ty));
+    assert_that(rt, has_fixed_footprint(&ty));
+    assert_that(rt, has_creation_fixed_footprint(&ty));
 }
 
 #[test]
@@ -88,8 +93,12 @@ fn a_bool_in_structures(rt: HostRuntime) {
 /// Asserts how long the path of the one fault is that is told of the structure.
 fn assert_declared(rt: &impl Abort, alloc: Global, ty: StructType, length: usize) {
     let faults = struct_faults(alloc, &ty).expect(rt, "memory");
-    assert_eq!(rt; faults.len(), 1);
-    assert_eq!(rt; faults.first().map(|fault| fault.path.len()), Some(length));
+    assert_same(rt, faults.len(), 1);
+    assert_same(
+        rt,
+        faults.first().map(|fault| fault.path.len()),
+        Some(length),
+    );
 }
 
 #[test]

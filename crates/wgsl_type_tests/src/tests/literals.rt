@@ -1,6 +1,6 @@
 //! Literals: conversions and payloads.
 
-use crate::tests::asserts::{assert_is, assert_same};
+use crate::tests::asserts::{assert_is, assert_same, assert_that};
 use std::alloc::Global;
 use std::process::Abort;
 use wgsl_rules::{Ty, Type};
@@ -30,14 +30,14 @@ fn conversions(rt: HostRuntime) {
 
 #[test]
 fn payloads(rt: HostRuntime) {
-    assert!(rt; LiteralInstance::from(true).unwrap_bool());
+    assert_that(&rt, LiteralInstance::from(true).unwrap_bool());
     assert_same(&rt, LiteralInstance::from(-4i64).unwrap_abstract_int(), -4);
     assert_same(&rt, LiteralInstance::from(-5i32).unwrap_i32(), -5);
     assert_same(&rt, LiteralInstance::from(6u32).unwrap_u32(), 6);
     assert_same(&rt, I64(-7).unwrap_i64(), -7);
     assert_same(&rt, U64(8).unwrap_u64(), 8);
-    assert!(rt; I64(7).is_finite());
-    assert!(rt; !I64(7).is_infinite());
+    assert_that(&rt, I64(7).is_finite());
+    assert_that(&rt, !I64(7).is_infinite());
 }
 
 // `literal_ty` ensures that the number is one of its kind, which `has_ty` asks for.

@@ -1,6 +1,6 @@
 //! Sizes, alignments and layouts of types, also of types that no shader has.
 
-use crate::tests::asserts::{assert_row, assert_same};
+use crate::tests::asserts::{assert_row, assert_same, assert_that};
 use crate::tests::reading::{asked, boxed, declared, is_true, number, parted, ty};
 use crate::tests::samples::{array, vector};
 use std::alloc::Global;
@@ -163,11 +163,11 @@ fn measures_of_members_and_of_their_structure(rt: HostRuntime) {
     let second = vector.of_member(None, None);
     assert_same(&rt, one.offset_of(second), Some(16));
     let both = one.with(second);
-    assert!(rt; both.have_layout());
+    assert_that(&rt, both.have_layout());
     let whole = both.of_struct();
     assert_same(&rt, whole.size, Some(32));
     assert_same(&rt, whole.align, Some(16));
-    assert!(rt; whole.is_fixed && !whole.is_runtime_array);
+    assert_that(&rt, whole.is_fixed && !whole.is_runtime_array);
 }
 
 #[test]
@@ -176,12 +176,12 @@ fn measures_of_arrays_and_of_what_comes_after_them(rt: HostRuntime) {
     assert_same(&rt, vector.stride(), Some(16));
     let two = vector.of_array(Some(2));
     assert_same(&rt, two.size, Some(32));
-    assert!(rt; two.is_fixed && !two.is_runtime_array);
+    assert_that(&rt, two.is_fixed && !two.is_runtime_array);
     let endless = vector.of_array(None);
     assert_same(&rt, endless.size, None);
-    assert!(rt; endless.is_runtime_array && !endless.is_fixed);
+    assert_that(&rt, endless.is_runtime_array && !endless.is_fixed);
     let ends = MemberMeasures::NONE.with(endless.of_member(None, None));
-    assert!(rt; ends.have_layout());
+    assert_that(&rt, ends.have_layout());
     let after = ends.with(measures_of(Type::U32).of_member(None, None));
-    assert!(rt; !after.have_layout());
+    assert_that(&rt, !after.have_layout());
 }

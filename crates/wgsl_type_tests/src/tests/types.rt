@@ -1,6 +1,6 @@
 //! Types: what modes allow, sizes, copies, the types inside, ranks of conversions and common types.
 
-use crate::tests::asserts::{assert_copied, assert_gives, assert_row, assert_same};
+use crate::tests::asserts::{assert_copied, assert_gives, assert_row, assert_same, assert_that};
 use crate::tests::reading::{asked, declared, number, parted, ty};
 use crate::tests::samples::{array, matrix, member, nested, pair, pair_type, reference, vector};
 use std::process::Abort;
@@ -111,18 +111,18 @@ fn types_inside_composites(rt: HostRuntime) {
     let list = array(&rt, alloc, Type::I32, Some(3));
     assert_array(&rt, &list, Type::I32, Some(3));
     assert_inner(&rt, &list, Type::I32);
-    assert!(rt; list.as_struct().is_none());
+    assert_that(&rt, list.as_struct().is_none());
     let endless = array(&rt, alloc, Type::I32, None);
     assert_array(&rt, &endless, Type::I32, None);
     let three = vector(&rt, alloc, 3, Type::U32);
     assert_vector(&rt, &three, 3, Type::U32);
     assert_inner(&rt, &three, Type::U32);
-    assert!(rt; three.as_array().is_none());
+    assert_that(&rt, three.as_array().is_none());
     let grid = matrix(&rt, alloc, Type::F32);
     assert_matrix(&rt, &grid, 2, 3, Type::F32);
     assert_inner(&rt, &grid, Type::F32);
-    assert!(rt; grid.as_vec().is_none());
-    assert!(rt; three.as_mat().is_none());
+    assert_that(&rt, grid.as_vec().is_none());
+    assert_that(&rt, three.as_mat().is_none());
     drop((record, list, endless, three, grid));
 }
 
@@ -153,7 +153,7 @@ fn types_inside_atomics_pointers_and_references(rt: HostRuntime) {
     let atomic = Type::Atomic(Box::new(alloc, Type::U32).expect(&rt, "memory"));
     assert_atomic(&rt, &atomic, Type::U32);
     assert_inner(&rt, &atomic, Type::U32);
-    assert!(rt; Type::U32.as_atomic().is_none());
+    assert_that(&rt, Type::U32.as_atomic().is_none());
     let target = Box::new(alloc, Type::I32).expect(&rt, "memory");
     let pointer = Type::Ptr(AddressSpace::Function, target, AccessMode::Write);
     assert_pointer(
@@ -164,7 +164,7 @@ fn types_inside_atomics_pointers_and_references(rt: HostRuntime) {
         AccessMode::Write,
     );
     assert_inner(&rt, &pointer, Type::I32);
-    assert!(rt; pointer.as_reference().is_none());
+    assert_that(&rt, pointer.as_reference().is_none());
     let readable = reference(&rt, alloc, Type::U32, AccessMode::Read);
     assert_reference(
         &rt,
@@ -174,7 +174,7 @@ fn types_inside_atomics_pointers_and_references(rt: HostRuntime) {
         AccessMode::Read,
     );
     assert_inner(&rt, &readable, Type::U32);
-    assert!(rt; readable.as_ptr().is_none());
+    assert_that(&rt, readable.as_ptr().is_none());
     drop((atomic, pointer, readable));
 }
 
@@ -247,7 +247,7 @@ fn common_types(rt: HostRuntime) {
     let types = vec![in alloc; Type::AbstractInt, Type::F32, Type::AbstractFloat];
     let types = types.expect(&rt, "memory");
     assert_same(&rt, convert_all_ty(&types), Some(&Type::F32));
-    assert!(rt; convert_all_ty(&[]).is_none());
+    assert_that(&rt, convert_all_ty(&[]).is_none());
     drop((readable, types));
 }
 

@@ -32,8 +32,8 @@ fn of_faults_inside(alloc: Global) -> Result<Type, AllocError> {
 /// Asserts that the fault is this one.
 fn assert_fault(rt: &impl Abort, fault: Option<&ShareFault>, path: &str, rule: ShareRule) {
     let fault = fault.expect(rt, "a fault");
-    assert_eq!(rt; fault.path.as_str(), path);
-    assert_eq!(rt; fault.rule, rule);
+    assert_same(rt, fault.path.as_str(), path);
+    assert_same(rt, fault.rule, rule);
 }
 
 /// Asserts what the type breaks, where one growth alone may be refused.
@@ -129,7 +129,7 @@ fn assert_reached(rt: &impl Abort, alloc: Global, uses: &[Vec<usize>]) {
         Err(_) => reached(alloc, uses, 0).expect(rt, "memory"),
     };
     let wanted: &[usize] = &[0, 1, 2, 3, 4, 5, 6, 7, 8, 9];
-    assert_eq!(rt; found.as_slice(), wanted);
+    assert_same(rt, found.as_slice(), wanted);
 }
 
 #[test]

@@ -1,5 +1,6 @@
 //! Copies and texts of types.
 
+use crate::tests::asserts::assert_same;
 use std::alloc::Global;
 use std::process::Abort;
 use wgsl_rules::Type;
@@ -11,7 +12,7 @@ fn assert_copy(rt: &impl Abort, alloc: Global, ty: Type) {
         Ok(copy) => copy,
         Err(_) => ty.clone(alloc).expect(rt, "memory"),
     };
-    assert_eq!(rt; copy, ty);
+    assert_same(rt, copy, ty);
 }
 
 #[test]
@@ -28,7 +29,7 @@ fn assert_text(rt: &impl Abort, alloc: Global, ty: Type, wanted: &str) {
         Ok(text) => text,
         Err(_) => ty.to_string(alloc).expect(rt, "memory"),
     };
-    assert_eq!(rt; text.as_str(), wanted);
+    assert_same(rt, text.as_str(), wanted);
 }
 
 #[test]
