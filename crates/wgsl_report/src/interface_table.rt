@@ -66,8 +66,9 @@ fn add_memory(text: &mut String, memory: &Memory<'_>) -> Result<(), AllocError> 
     match memory.ty {
         Some(ty) => {
             write!(text, ": {ty}, ")?;
-            add_size(text, ty.size_of(), None)?;
-            add_align(text, ty.align_of())
+            let measures = ty.measures();
+            add_size(text, measures.size, None)?;
+            add_align(text, measures.align)
         }
         None if words.is_empty() => text.push_str(", no size here\n"),
         None => writeln!(text, ": {words}, no size here"),

@@ -188,13 +188,14 @@ fn add_variable(
     write!(text, "{{\"name\": \"{name}\", \"type\": \"{ty}\"")?;
     let (space, access) = (space_word(variable), access_word(variable));
     write!(text, ", \"space\": \"{space}\", \"access\": \"{access}\"")?;
+    let measures = ty.measures();
     add_numbers(
         text,
         &[
             ("group", variable.group),
             ("binding", variable.binding),
-            ("size", ty.size_of()),
-            ("align", ty.align_of()),
+            ("size", measures.size),
+            ("align", measures.align),
             ("least_binding", ty.least_binding()),
             ("stride", ty.stride()),
         ],

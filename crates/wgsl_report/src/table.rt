@@ -94,12 +94,13 @@ fn add_measures(alloc: Global, text: &mut String, ty: &StructType) -> Result<(),
 
 fn add_type_measures(alloc: Global, text: &mut String, ty: &Type) -> Result<(), AllocError> {
     let runtime = runtime_part(alloc, ty)?;
-    add_size(text, ty.size_of(), runtime)?;
+    let measures = ty.measures();
+    add_size(text, measures.size, runtime)?;
     add_least(text, runtime, ty.least_binding())?;
     if let Some(stride) = ty.stride() {
         write!(text, ", stride {stride}")?;
     }
-    add_align(text, ty.align_of())
+    add_align(text, measures.align)
 }
 
 /// The size, or that of what ends in a runtime-sized array.
