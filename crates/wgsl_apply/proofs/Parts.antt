@@ -1,13 +1,14 @@
 -- Zero values, part by part.
-use Rattle.std.proofs.Common.{◌≡◌, ℕ, zero, suc, ◌+◌, ◌<◌, List, [], ◌∷◌, ◌++◌, map, take, length, get_or, Option, Some, None, refl, sym, ap, ap₂, subst, arith, rules, add-one, length-append}
+use Rattle.std.proofs.Common.{◌≡◌, ℕ, zero, suc, ◌+◌, ◌<◌, List, [], ◌∷◌, ◌++◌, map, take, length, get_or, Option, Some, None, refl, sym, ap, ap₂, subst, arith, add-one, length-append}
 use Rattle.std.specs.Prelude.{option_map, IfSome, IfOk, Result, Ok, Err}
 use Rattle.wgsl_rules.specs.Converted.{joined}
 use Rattle.wgsl_rules.specs.Types.{Ty}
 use Rattle.wgsl_rules.specs.Values.{Val, Vals, no_vals, val, type_of, IsStorable}
 use Rattle.wgsl_rules.specs.View.{type_view, member_view, members_view}
 use Rattle.wgsl_rules.specs.declared.ty.StructMemberType.{StructMemberType}
-use Rattle.wgsl_rules.specs.declared.ty.Type.{the_lemmas as type_lemmas}
+use Rattle.wgsl_rules.proofs.lemmas.Views.{member-type}
 use Rattle.wgsl_values.specs.View.{vals_of}
+use Rattle.wgsl_values.proofs.Conversions.{joined-none}
 use Rattle.wgsl_apply.specs.Zeros.{copies, zero_of, zeros_of}
 use Rattle.wgsl_apply.proofs.Zeros.{zero-is}
 
@@ -27,13 +28,6 @@ pub copies-more : {X : Type 0} (view : X → Val) (xs : List X) (y : X) (v : Val
 copies-more view xs y v e is = rw (length-append xs (y ∷ [])) (copies-push view xs y (length xs) v e is)
 
 -- ---- members
-
-member-type : (m : StructMemberType) → (member_view m).ty ≡ type_view m.ty
-member-type m = search (rules, type_lemmas)
-
-joined-none : (o : Option Val) → joined o None ≡ None
-joined-none None = refl
-joined-none (Some x) = refl
 
 joined-step : {X : Type 0} (view : X → Val) (o : Option Val) (p q : Option Vals) (ws : List X) (y : X) → joined o p ≡ Some (vals_of (map view ws))
     → ((rest : List X) → p ≡ Some (vals_of (map view rest)) → q ≡ Some (vals_of (map view (rest ++ (y ∷ []))))) → joined o q ≡ Some (vals_of (map view (ws ++ (y ∷ []))))

@@ -8,6 +8,7 @@ use Rattle.wgsl_rules.specs.Types as types
 use Rattle.wgsl_rules.specs.Types.{Ty, Fields, no_fields, field}
 use Rattle.wgsl_rules.specs.Values.{Val, truth, record_of, array_of, vector, matrix, Vals, no_vals, count, type_of, first_type, AllOfType, HaveTypes, IsLiteral, AreLiterals, IsVector, AreVectors, IsStorable, AreStorable}
 use Rattle.wgsl_rules.proofs.lemmas.Converted.{joins}
+use Rattle.wgsl_rules.proofs.lemmas.Tests.{at-least-2, at-most-4}
 use Rattle.wgsl_apply.specs.Zeros.{zero_scalar, copies, zero_vector, zero_matrix, zero_array, zero_of, zeros_of}
 
 -- ---- copies of a value
@@ -41,12 +42,6 @@ first-copies zero v h = absurd (omega arith)
 first-copies (suc n) v h = refl
 
 -- ---- what a whole is made of
-
-at-least : (n : ℕ) → is_from_2_to_4 n ≡ true → 2 ≤ n
-at-least n e = grind (arith, nat_tests)
-
-at-most : (n : ℕ) → is_from_2_to_4 n ≡ true → n ≤ 4
-at-most n e = grind (arith, nat_tests)
 
 within : (n : ℕ) → 2 ≤ n → n ≤ 4 → is_from_2_to_4 n ≡ true
 within n low high = grind (arith, nat_tests)
@@ -92,12 +87,12 @@ scalar-zero t v e = absurd (cc)
 pub vector-storable : (n : ℕ) (v : Val) → IsLiteral v → IsStorable v → is_from_2_to_4 n ≡ true → IsStorable (vector (copies n v))
 vector-storable n v literal storable e =
     let counted = count-copies n v in
-    (rw counted (at-least n e), rw counted (at-most n e), copies-literals n v literal, copies-of_first n v, copies-storable n v storable)
+    (rw counted (at-least-2 n e), rw counted (at-most-4 n e), copies-literals n v literal, copies-of_first n v, copies-storable n v storable)
 
 pub matrix-storable : (n : ℕ) (v : Val) → IsVector v → IsStorable v → is_from_2_to_4 n ≡ true → IsStorable (matrix (copies n v))
 matrix-storable n v columns storable e =
     let counted = count-copies n v in
-    (rw counted (at-least n e), rw counted (at-most n e), copies-vectors n v columns, copies-of_first n v, copies-storable n v storable)
+    (rw counted (at-least-2 n e), rw counted (at-most-4 n e), copies-vectors n v columns, copies-of_first n v, copies-storable n v storable)
 
 pub array-storable : (n : ℕ) (v : Val) → IsStorable v → nat_le 1 n ≡ true → IsStorable (array_of false (copies n v))
 array-storable n v storable e =
@@ -124,7 +119,7 @@ vector-zero n t v e =
     let b = tested (is_from_2_to_4 n) (option_map (λ v. vector (copies n v)) (zero_scalar t)) v e in
     let m = mapped (λ v. vector (copies n v)) (zero_scalar t) v b.is in
     let s = scalar-zero t m.own m.was in
-    let many : 1 ≤ n = omega (arith, at-least n b.test) in
+    let many : 1 ≤ n = omega (arith, at-least-2 n b.test) in
     subst (IsZeroVector n t) m.is (record {
       vector = tt;
       storable = vector-storable n m.own s.literal s.storable b.test;
@@ -145,7 +140,7 @@ matrix-zero c r t v e =
     let b = tested (is_from_2_to_4 c) (option_map (λ v. matrix (copies c v)) (zero_vector r t)) v e in
     let m = mapped (λ v. matrix (copies c v)) (zero_vector r t) v b.is in
     let s = vector-zero r t m.own m.was in
-    let many : 1 ≤ c = omega (arith, at-least c b.test) in
+    let many : 1 ≤ c = omega (arith, at-least-2 c b.test) in
     subst (IsZero (types.mat c r t)) m.is (record {
       storable = matrix-storable c m.own s.vector s.storable b.test;
       typed = matrix-typed c r t m.own many s.typed;

@@ -13,7 +13,8 @@ use Rattle.wgsl_values.specs.declared.instance.Instance.{Instance, Array, Mat, S
 use Rattle.wgsl_values.specs.declared.matrix.MatInstance.{MatInstance}
 use Rattle.wgsl_values.specs.declared.structure.StructInstance.{StructInstance}
 use Rattle.wgsl_values.specs.declared.vector.VecInstance.{VecInstance}
-use Rattle.wgsl_values.specs.declared.view.MemView.{MemView, Whole, Member, Index, the_lemmas as view_lemmas}
+use Rattle.wgsl_values.specs.declared.view.MemView.{MemView, Whole, Member, Index}
+use Rattle.wgsl_values.proofs.Turned.{steps_of_whole}
 use Rattle.wgsl_eval.proofs.Answered.{fault-with, faults-with, value-with, with-mapped}
 use Rattle.wgsl_eval.specs.Answers.{IsFault, IsSoundValue, IsValueWith, value_in}
 use Rattle.wgsl_eval.specs.Parts.{IsElement, IsMember, IsSwizzle, position_in}
@@ -22,14 +23,11 @@ use Rattle.wgsl_eval.specs.declared.answer.Value.{Value}
 
 -- ---- views of one step
 
-steps_of-Whole : steps_of Whole ≡ []
-steps_of-Whole = search (rules, view_lemmas)
-
 pub one_index : (i : ℕ) (b : Box MemView Global) → b.value ≡ Whole → steps_of (Index i b) ≡ index i ∷ []
-one_index i b h = steps_of-Index i b ∙ ap (λ (v : MemView). index i ∷ steps_of v) h ∙ ap (λ steps. index i ∷ steps) steps_of-Whole
+one_index i b h = steps_of-Index i b ∙ ap (λ (v : MemView). index i ∷ steps_of v) h ∙ ap (λ steps. index i ∷ steps) steps_of_whole
 
 pub one_member : (n : String Global) (b : Box MemView Global) → b.value ≡ Whole → steps_of (Member n b) ≡ member (string_bytes n) ∷ []
-one_member n b h = steps_of-Member n b ∙ ap (λ (v : MemView). member (string_bytes n) ∷ steps_of v) h ∙ ap (λ steps. member (string_bytes n) ∷ steps) steps_of-Whole
+one_member n b h = steps_of-Member n b ∙ ap (λ (v : MemView). member (string_bytes n) ∷ steps_of v) h ∙ ap (λ steps. member (string_bytes n) ∷ steps) steps_of_whole
 
 -- ---- elements
 

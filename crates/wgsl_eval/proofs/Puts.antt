@@ -105,13 +105,10 @@ found_first (Err x) s t v u n len m others e f counted placed there faults decla
 pub told_wrong : (s t : Setting) (m : Message) (guard : Guard) → t ≡ with_fault s m → t ≡ with_faults s (answers.Wrong m guard)
 told_wrong s t m guard e = e
 
-told_not : (s : Setting) (a : Answer) → ((m : Message) (guard : Guard) → a ≡ answers.Wrong m guard → ⊥) → s ≡ with_faults s a
-told_not s (answers.Wrong m guard) n = absurd (n m guard refl)
-told_not s a n = refl
-
 -- nothing is told of an answer that is no fault
 pub told_nothing : (s : Setting) (a : Answer) → ((m : Message) (guard : Guard) → a ≡ answers.Wrong m guard → ⊥) → s ≡ with_faults s a
-told_nothing s a n = told_not s a n
+told_nothing s (answers.Wrong m guard) n = absurd (n m guard refl)
+told_nothing s a n = refl
 
 -- a message that is a fault
 pub told_fault : (s t : Setting) (m : Message) → IsFaultMessage m → t ≡ with_fault s m → IsTold s t

@@ -1,18 +1,15 @@
 -- The members of a structure, each in its type.
-use Rattle.std.proofs.Common.{◌≡◌, ℕ, zero, suc, ◌+◌, ◌<◌, List, [], ◌∷◌, ◌++◌, length, get_or, take, map, Some, refl, arith, rules, add-one}
+use Rattle.std.proofs.Common.{◌≡◌, ℕ, zero, suc, ◌+◌, ◌<◌, List, [], ◌∷◌, ◌++◌, length, get_or, take, map, Some, refl, arith, add-one}
 use Rattle.std.proofs.lemmas.List.{map-append}
 use Rattle.wgsl_rules.specs.Converted.{converted}
 use Rattle.wgsl_rules.specs.Values.{Val}
 use Rattle.wgsl_rules.specs.View.{member_view, members_view, type_view}
 use Rattle.wgsl_rules.specs.declared.ty.StructMemberType.{StructMemberType}
-use Rattle.wgsl_rules.specs.declared.ty.Type.{the_lemmas as type_lemmas}
 use Rattle.wgsl_rules.proofs.Lists.{prepended-step}
+use Rattle.wgsl_rules.proofs.lemmas.Views.{member-type}
 use Rattle.wgsl_values.specs.View.{value_of}
 use Rattle.wgsl_values.specs.declared.instance.Instance.{Instance}
 use Rattle.wgsl_eval.specs.Constructors.{members_made}
-
-member-type : (m : StructMemberType) → (member_view m).ty ≡ type_view m.ty
-member-type m = search (rules, type_lemmas)
 
 members-step : (ms : List StructMemberType) (vs : List Instance) (i : ℕ) (m : StructMemberType) (d : Instance) (ws : List Val) (w : Val)
     → i < length vs → length vs ≡ length ms → members_made (members_view (take i ms)) (map value_of (take i vs)) ≡ Some ws

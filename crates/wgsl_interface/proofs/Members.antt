@@ -4,9 +4,9 @@ use Rattle.std.specs.Prelude.{◌&&◌, ◌||◌, ◌==◌}
 use Rattle.std.proofs.Math.Dec.{eqb, eqb-suc-suc, eqb-zero-suc, eqb-suc-zero}
 use Rattle.wgsl_rules.specs.Types.{Fields, no_fields}
 use Rattle.wgsl_rules.specs.Layout.{have_none}
-use Rattle.wgsl_rules.specs.View.{Field, type_view, member_view, members_view}
+use Rattle.wgsl_rules.specs.View.{Field, type_view, members_view}
 use Rattle.wgsl_rules.specs.declared.ty.StructMemberType.{StructMemberType}
-use Rattle.wgsl_rules.proofs.lemmas.Views.{member_view-is}
+use Rattle.wgsl_rules.proofs.lemmas.Views.{member-type}
 use Rattle.wgsl_rules.proofs.lemmas.Members.{first}
 use Rattle.wgsl_interface.specs.Faults.{is_last_runtime_sized}
 use Rattle.wgsl_interface.specs.Natures.{IsNatureOf}
@@ -36,9 +36,6 @@ at_end P false e h = refl
 pub or_at_end : (P : Fields → Bool) (a : Bool) {fs : Fields} → fs ≡ no_fields → P no_fields ≡ false → a ≡ (a || P fs)
 or_at_end P true e h = refl
 or_at_end P false e h = sym (ap P e ∙ h)
-
-pub ty-of : (m : StructMemberType) → (member_view m).ty ≡ type_view m.ty
-ty-of m = ap (λ (f : Field). f.ty) (member_view-is m)
 
 -- what holds of some members, with the nature of the next one
 pub record IsNext (f : Field) (fs : Fields) (last : Bool) (n : Nature) : Type 0 where
@@ -74,7 +71,7 @@ next f fs last n is e =
 
 last-at : (ms : List StructMemberType) (i : ℕ) (m : StructMemberType) → suc i ≡ length ms → m ≡ get_or ms i m → is_runtime_sized (type_view m.ty) ≡ is_last_runtime_sized (members_view ms)
 last-at [] i m e h = absurd (omega arith)
-last-at (x ∷ []) zero m e h = ap (λ (y : StructMemberType). is_runtime_sized (type_view y.ty)) h ∙ ap is_runtime_sized (sym (ty-of x))
+last-at (x ∷ []) zero m e h = ap (λ (y : StructMemberType). is_runtime_sized (type_view y.ty)) h ∙ ap is_runtime_sized (sym (member-type x))
 last-at (x ∷ []) (suc i) m e h = absurd (omega arith)
 last-at (x ∷ (y ∷ ms)) zero m e h = absurd (omega arith)
 last-at (x ∷ (y ∷ ms)) (suc i) m e h = last-at (y ∷ ms) i m (omega arith) h

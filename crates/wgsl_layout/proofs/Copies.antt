@@ -7,7 +7,8 @@ use Rattle.wgsl_rules.specs.Paths.{fits, put_tree, put_viewed, viewed, FitsPlace
 use Rattle.wgsl_rules.specs.Refusals.{Outcome}
 use Rattle.wgsl_rules.specs.Values.{Step, Val, type_of, IsStorable}
 use Rattle.wgsl_rules.proofs.lemmas.Paths.{fits-Decides}
-use Rattle.wgsl_values.proofs.lemmas.Replaced.{a_part_replaced}
+use Rattle.wgsl_values.proofs.lemmas.Replaced.{a_part_replaced, part-storable, put-type}
+use Rattle.wgsl_values.proofs.lemmas.ViewedPaths.{has-path, HasPath}
 use Rattle.wgsl_layout.specs.Buffers.{buffer, decoded}
 use Rattle.wgsl_layout.specs.Copies.{IsCopied}
 use Rattle.wgsl_layout.specs.FlatCells.{Holds, IsPartAt, flat_value}
@@ -21,9 +22,8 @@ use Rattle.wgsl_layout.proofs.HeldBytes.{part-bytes}
 use Rattle.wgsl_layout.proofs.LayoutParts.{alike-by-length}
 use Rattle.wgsl_layout.proofs.lemmas.Flat.{IsLaid, IsPut, there-laid}
 use Rattle.wgsl_layout.proofs.lemmas.Follows.{follows}
-use Rattle.wgsl_layout.proofs.lemmas.ViewedPaths.{HasPath, has-path}
 use Rattle.wgsl_layout.proofs.lemmas.Overwritten.{put-overwritten}
-use Rattle.wgsl_layout.proofs.lemmas.Places.{part-storable, put-type, put-count}
+use Rattle.wgsl_layout.proofs.lemmas.Places.{put-count}
 use Rattle.wgsl_layout.proofs.lemmas.ViewPaths.{layout-type, path-in-is}
 
 -- ---- bytes that are written over others

@@ -9,8 +9,8 @@ use Rattle.wgsl_layout.specs.Buffers.{buffer}
 use Rattle.wgsl_layout.specs.Ranges.{Range, bytes_in, range_in, view_range}
 use Rattle.wgsl_layout.proofs.lemmas.Compose.{compose}
 use Rattle.wgsl_layout.proofs.lemmas.Follows.{follows}
-use Rattle.wgsl_layout.proofs.lemmas.ViewedPaths.{has-path}
 use Rattle.wgsl_layout.proofs.lemmas.ViewPaths.{path-in-is}
+use Rattle.wgsl_values.proofs.lemmas.ViewedPaths.{has-path}
 
 -- the bytes in the range that a view leads to are the buffer of the part
 pub part-bytes : (v x : Val) (steps : List Step) (r : Range) → IsStorable v → has_layout (type_of v) ≡ true → viewed steps v ≡ Ok x → view_range steps (layout_of v) ≡ Some r → bytes_in (buffer v) r ≡ buffer x

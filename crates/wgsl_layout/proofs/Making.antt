@@ -1,7 +1,7 @@
 -- One step of the walk that makes the plan of a type.
 use Rattle.std.specs.Option.{unwrap_or}
 use Rattle.std.specs.Prelude.{◌&&◌, ◌||◌}
-use Rattle.std.proofs.Common.{◌≡◌, ℕ, ◌+◌, ◌<◌, ◌≤◌, List, [], ◌∷◌, ◌++◌, length, get_or, drop, Option, Some, None, Bool, true, false, is_some, Vec, Global, string_bytes, refl, sym, ap, subst, ◌∙◌, arith}
+use Rattle.std.proofs.Common.{◌≡◌, ℕ, ◌+◌, ◌<◌, ◌≤◌, List, [], ◌∷◌, ◌++◌, length, get_or, drop, Option, Some, None, Bool, true, false, is_some, Vec, Global, refl, sym, ap, subst, ◌∙◌, arith}
 use Rattle.std.proofs.Math.ListN.{drop_of_length-le}
 use Rattle.wgsl_rules.specs.Types.{Ty, struct, Fields, no_fields}
 use Rattle.wgsl_rules.specs.Size.{Extent, extent_of, extents, with_both, round_up, struct_size, struct_align, offset_after, end_after, end_of_members, align_after, greatest_align}
@@ -47,12 +47,6 @@ pub record AreMade (ms : List StructMemberType) (i : ℕ) (xs : List CodePlace) 
   pub align : greatest_align so_far.align (extents (members_view (drop i ms))) ≡ greatest_align (Some 0) (extents (members_view ms))
   pub fixed : (so_far.are_fixed && have_fixed_layouts (members_view (drop i ms))) ≡ have_fixed_layouts (members_view ms)
   pub runtime : ends so_far.end_in_runtime_array so_far.are_fixed so_far.end (members_view (drop i ms)) ≡ end_in_runtime_array (Some 0) (members_view ms)
-
--- the measures of a member with its attributes
-pub of-member : (x : StructMemberType) (own all : Measures) → AreMeasuresOf (type_view x.ty) own
-    → ((n : List ℕ) (t : Ty) → AreMeasuresOf t own → AreMeasuresOfMember (record { name = n; ty = t; size = x.size; align = x.align }) all)
-    → AreMeasuresOfMember (member_view x) all
-of-member x own all is next = subst (λ (f : Field). AreMeasuresOfMember f all) (sym (member_view-is x)) (next (string_bytes x.name) (type_view x.ty) is)
 
 pub amount-is : (o : Option ℕ) → unwrap_or o 0 ≡ amount o
 amount-is None = refl

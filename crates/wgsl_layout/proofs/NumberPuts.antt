@@ -25,10 +25,10 @@ use Rattle.wgsl_layout.specs.declared.located.Located.{Located}
 use Rattle.wgsl_layout.proofs.Outcomes.{answered}
 use Rattle.wgsl_layout.proofs.lemmas.Compose.{compose, value-below}
 use Rattle.wgsl_layout.proofs.lemmas.Flat.{IsPut, fits-laid, put-at-path}
-use Rattle.wgsl_layout.proofs.lemmas.ViewedPaths.{has-path}
 use Rattle.wgsl_layout.proofs.lemmas.PathRanges.{range_in-append, view-path}
-use Rattle.wgsl_layout.proofs.lemmas.Places.{part-storable}
 use Rattle.wgsl_layout.proofs.lemmas.Standing.{stands}
+use Rattle.wgsl_values.proofs.lemmas.ViewedPaths.{has-path}
+use Rattle.wgsl_values.proofs.lemmas.Replaced.{part-storable}
 
 -- ---- a path that goes on
 

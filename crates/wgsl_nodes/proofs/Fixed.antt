@@ -9,7 +9,8 @@ use Rattle.wgsl_rules.specs.Types as types
 use Rattle.wgsl_rules.specs.Types.{Ty, struct, array, vec, mat, atomic, Fields, no_fields, field}
 use Rattle.wgsl_rules.specs.Size.{size_of, align_of, round_up, vec_align, vec3_align, times, offset_after, end_after, end_of_members, extents, struct_align, extent_in}
 use Rattle.wgsl_rules.specs.Layout.{amount, known_stride, stride, is_from_2_to_4, is_size_valid, is_align_valid, are_attributes_valid, Tail, tail_at, tail_of, last_tail}
-use Rattle.wgsl_rules.proofs.lemmas.Known.{and-both, some-of, both-known, fits, fitting-is, times-known, rounded-known, stride-known, end-known, ends-known, end-later}
+use Rattle.wgsl_rules.proofs.lemmas.Known.{and-both, some-of, both-known, fits, fitting-is, times-known, rounded-known, stride-known, end-known, ends-known, end-later, unaligned}
+use Rattle.wgsl_rules.proofs.lemmas.Tests.{product}
 use Rattle.wgsl_nodes.specs.HostTypes.{is_scalar, has_fixed_nodes, have_fixed_nodes, is_runtime_array, end_in_runtime_array, has_runtime_nodes, has_nodes}
 use Rattle.wgsl_nodes.specs.Nodes.{stride_of}
 
@@ -97,9 +98,6 @@ pub record IsSized (t : Ty) : Type 0 where
   pub aligned : 1 ≤ align
   pub size_fits : size < 2 ^ 32
 
-product : (a b : ℕ) → 1 ≤ a → 1 ≤ b → 1 ≤ a * b
-product a b h k = grind arith
-
 from-2 : (n : ℕ) → is_from_2_to_4 n ≡ true → (1 ≤ n) × (n ≤ 4)
 from-2 n h =
     let both = and-both (nat_le 2 n) (nat_le n 4) h in
@@ -150,9 +148,6 @@ vector-size n t c k =
 
 pub vector-fits : (n : ℕ) (t : Ty) → is_from_2_to_4 n ≡ true → (k : is_scalar t ≡ true) → n * (scalar-is t k).size < 2 ^ 32
 vector-fits n t c k = small n (scalar-is t k).size (from-2 n c).1 (scalar-is t k).few
-
-nothing : (b s : ℕ) → round_up 0 b ≡ Some s → ⊥
-nothing b s f = cc
 
 -- a member is no smaller than its type
 pub member-size : (attribute : Option ℕ) (own : Option ℕ) (n s : ℕ) → own ≡ Some n → is_size_valid attribute own ≡ true → (extent_size : Option ℕ) → extent_size ≡ Some s → (extent_size ≡ elim attribute [ None ↦ own | Some k ↦ Some k ]) → n ≤ s
@@ -229,7 +224,7 @@ fixed-sized (struct name no_fields) h =
     let s = some-of (size_of (struct name no_fields)) both.1 in
     let b = both-known round_up (struct_align []) (end_of_members (Some 0) []) s.0 s.1 in
     let zero : 0 ≡ b.0 = same_Some 0 b.0 b.2 in
-    absurd (nothing b.1 s.0 (rw (← zero) at b.4))
+    absurd (unaligned b.1 s.0 (rw (← zero) at b.4))
 fixed-sized (struct name (field n t z a fs)) h =
     let both = and-both (have_fixed_nodes (field n t z a fs)) (is_some (size_of (struct name (field n t z a fs)))) h in
     let made = first-is t z a (have_fixed_nodes fs) both.0 in

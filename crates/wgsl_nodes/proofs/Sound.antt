@@ -10,6 +10,7 @@ use Rattle.wgsl_rules.specs.Types.{Ty, struct, array, vec, mat, atomic, Fields, 
 use Rattle.wgsl_rules.specs.Size.{size_of, align_of, round_up, with_both, vec3_align, times, greatest_align, struct_align, extents, extent_in, offset_after, end_after, end_of_members}
 use Rattle.wgsl_rules.specs.Layout.{amount, size, align, stride, known_stride, is_from_2_to_4, are_attributes_valid, Tail, tail_at, tail_of, last_tail}
 use Rattle.wgsl_rules.proofs.lemmas.Known.{and-both, some-of, both-known, times-known, rounded-known, end-known, ends-known}
+use Rattle.wgsl_rules.proofs.lemmas.Tests.{both, or-false}
 use Rattle.wgsl_nodes.specs.HostTypes.{kind_of, is_scalar, has_nodes, has_fixed_nodes, have_fixed_nodes, is_runtime_array, end_in_runtime_array}
 use Rattle.wgsl_nodes.specs.Nodes as nodes
 use Rattle.wgsl_nodes.specs.Nodes.{Says, Stands, LeadsTo, MembersStand, Describes, sort_of, members_in, count_of, part_stride, start_of, bytes_before}
@@ -22,9 +23,6 @@ use Rattle.wgsl_nodes.proofs.Members.{runtime-none}
 use Rattle.wgsl_nodes.proofs.Powers.{power-positive, power-divides, multiple-through, rounded-multiple, IsAlignedMember, AreAligned, placed-by, align-next, greatest-later, greatest-known, struct-power, fields-aligned, ended-aligned}
 
 -- ---- tests
-
-both : (a b : Bool) → a ≡ true → b ≡ true → (a && b) ≡ true
-both a b p q = rw (p, q) refl
 
 has-no-tail : (r : Node) → r.tail_start ≡ 0 → r.tail_stride ≡ 0 → no_tail r ≡ true
 has-no-tail r s t = both (r.tail_start == 0) (r.tail_stride == 0) (eq-eqb r.tail_start 0 s) (eq-eqb r.tail_stride 0 t)
@@ -373,10 +371,6 @@ ended-structure-sound table low number r name fs ended says leads lt =
         omega arith
 
 -- ---- any type
-
-pub or-false : (b : Bool) → (b || false) ≡ true → b ≡ true
-or-false true h = refl
-or-false false h = h
 
 no-members : (name : List ℕ) → has_nodes (struct name no_fields) ≡ false
 no-members name = refl

@@ -10,6 +10,7 @@ use Rattle.wgsl_rules.specs.Types.{Ty, struct, array, vec, mat, Fields, no_field
 use Rattle.wgsl_rules.specs.Size.{size_of, align_of, with_both, round_up, sum_of, extent_in, extents, offset_after, end_after, end_of_members, struct_align, vec_align}
 use Rattle.wgsl_rules.specs.Layout.{is_align_valid, is_size_valid}
 use Rattle.wgsl_rules.proofs.lemmas.Known.{and-both, some-of, both-known, times-known, end-known, ends-known}
+use Rattle.wgsl_rules.proofs.lemmas.Tests.{or-false}
 use Rattle.wgsl_nodes.specs.Canonical.{node_of, below, table}
 use Rattle.wgsl_nodes.specs.HostTypes.{has_nodes, has_fixed_nodes, have_fixed_nodes, end_in_runtime_array, is_runtime_array, is_number, is_scalar}
 use Rattle.wgsl_nodes.specs.Making.{Keeps, IsAdded, IsNumberOf, empty_node, structure_node}
@@ -22,7 +23,7 @@ use Rattle.wgsl_nodes.proofs.Exact.{AreExact, none-exact, next-exact}
 use Rattle.wgsl_nodes.proofs.Filled.{none-filled, filled-next}
 use Rattle.wgsl_nodes.proofs.Fixed.{vector-is, matrix-is, first-is, last-runtime}
 use Rattle.wgsl_nodes.proofs.Members.{AreMade, none-made, member-made, end-of, structure-made}
-use Rattle.wgsl_nodes.proofs.Sound.{scalar-sort, known-from, or-false}
+use Rattle.wgsl_nodes.proofs.Sound.{scalar-sort, known-from}
 use Rattle.wgsl_nodes.proofs.Typed.{AreFilled, no-children}
 use Rattle.wgsl_nodes.proofs.Walk.{fixed-part-of, runtime-aligned, ended}
 

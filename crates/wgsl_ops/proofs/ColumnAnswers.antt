@@ -1,5 +1,5 @@
 -- What a closure has answered so far, in a loop over the columns of matrices.
-use Rattle.std.proofs.Common.{◌≡◌, ◌≢◌, inl, inr, ⊎_elim, ℕ, zero, suc, ◌+◌, ◌<◌, ◌≤◌, List, [], ◌∷◌, ◌++◌, length, drop, map, Result, Ok, Err, Option, Some, None, IfSome, IsSomeAnd, IsTrue, option_map, rules, Bool, true, false, ◌&&◌, refl, ap, ap₂, sym, ◌∙◌, subst, arith, add-one, append_assoc, append-nil}
+use Rattle.std.proofs.Common.{◌≡◌, ◌≢◌, inl, inr, ⊎_elim, ℕ, zero, suc, ◌+◌, ◌<◌, ◌≤◌, List, [], ◌∷◌, ◌++◌, length, drop, map, Result, Ok, Err, Option, Some, None, IfSome, IsSomeAnd, IsTrue, option_map, rules, Bool, true, false, refl, ap, ap₂, sym, ◌∙◌, subst, arith, add-one, append_assoc, append-nil}
 use Rattle.std.proofs.lemmas.Bool.{eq-eqb, eqb-true, true≢false}
 use Rattle.std.proofs.lemmas.List.{drop_all}
 use Rattle.std.specs.Option.{IsSome}
@@ -11,9 +11,10 @@ use Rattle.wgsl_rules.specs.Paths.{parts, same_paths, all_same_paths}
 use Rattle.wgsl_rules.specs.Types.{Ty}
 use Rattle.wgsl_rules.specs.Values.{Val, vector, matrix, Vals, no_vals, val, count, item, first_type, AllOfType, AreLiterals, AreStorable, AreVectors, IsStorable, IsVector, IsWellFormed}
 use Rattle.wgsl_rules.proofs.lemmas.Slices.{slice_get-append}
+use Rattle.wgsl_rules.proofs.lemmas.Known.{and-both}
 use Rattle.wgsl_scalar.specs.declared.error.Error.{Error}
 use Rattle.wgsl_scalar.specs.declared.literal.LiteralInstance.{LiteralInstance}
-use Rattle.wgsl_values.proofs.Columns.{Each, Each-item, item-within, AreColumns, IsColumn, IsComponent, component_type, storable-columns, columns-storable}
+use Rattle.wgsl_values.proofs.Columns.{Each, Each-item, item-within, AreColumns, IsColumn, component_type, storable-columns, columns-storable, are_literals, to_components, columns_vectors}
 use Rattle.wgsl_values.proofs.lemmas.Views.{mat_view-is, value_of-Vec}
 use Rattle.wgsl_values.specs.Iterators.{listed, all_components}
 use Rattle.wgsl_values.specs.Matrices.{row_count}
@@ -22,9 +23,9 @@ use Rattle.wgsl_values.specs.View.{value_of, vals_of, vals_view, mat_view, vec_v
 use Rattle.wgsl_values.specs.declared.instance.Instance.{Instance, Vec}
 use Rattle.wgsl_values.specs.declared.matrix.MatInstance.{MatInstance}
 use Rattle.wgsl_values.specs.declared.vector.VecInstance.{VecInstance}
+use Rattle.wgsl_values.proofs.Listed.{length-listed}
 use Rattle.wgsl_ops.specs.Closures.{Answered, Refused, AnswersEach, AnswersOneKind, AnswersPairs, IsCallableAt, IsCallableAtPairs, components_of, pairs_of}
 use Rattle.wgsl_ops.proofs.Answering.{GivesLiterals, answered-length, answered-one-type, answers-storable, both-true, count-of, length-pairs, length-values, listed-values, literals-paths, values-append}
-use Rattle.wgsl_ops.proofs.InPlace.{length-listed}
 
 -- ---- lists that are joined
 
@@ -106,10 +107,6 @@ matrix-known m w =
     let same : mat_view m ≡ matrix (parts (mat_view m)) = is ∙ ap matrix (sym (ap parts is)) in
     record { is = same; are = storable-columns (parts (mat_view m)) (subst IsWellFormed same w) }
 
-component-literals : (t : Ty) (vs : Vals) → Each (IsComponent t) vs → AreLiterals vs
-component-literals t no_vals h = tt
-component-literals t (val v vs) h = (h.0.literal, component-literals t vs h.1)
-
 -- a column that exists
 pub column_there : (o : Option (Bor Instance)) (vs : Vals) (i : ℕ) → option_map (λ v. value_of v.now) o ≡ item i vs → i < count vs → IsSome o
 column_there None vs i e h = absurd (subst (λ o. IsSomeAnd o (λ v. Unit {0})) (sym e) (item-within vs i h))
@@ -146,7 +143,7 @@ column-known m i s k e =
     let column : IsColumn n t (vector (vals_view s)) = subst (λ o. IfSome o (IsColumn n t)) e (Each-item (IsColumn n t) (parts (mat_view m)) k.are.each i) in
     record {
       rows = omega (arith, count-of (map value_of s), length-values s, column.0);
-      literals = component-literals t (vals_view s) column.1;
+      literals = are_literals t (vals_view s) column.1;
       split = rw add-one (drop-columns (parts (mat_view m)) i s e);
     }
 
@@ -210,10 +207,6 @@ behind-typed : (t : Ty) (vs : Vals) (later : List Val) → AllOfType t (vals_of 
 behind-typed t no_vals later a = a
 behind-typed t (val v vs) later a = behind-typed t vs later a.1
 
-to_components : (t : Ty) (vs : Vals) → AreLiterals vs → AllOfType t vs → AreStorable vs → Each (IsComponent t) vs
-to_components t no_vals l a s = tt
-to_components t (val v vs) l a s = (record { literal = l.0; ty = a.0; storable = s.0 }, to_components t vs l.1 a.1 s.1)
-
 typed-columns : (n : ℕ) (t : Ty) (columns : Vals) → Each (IsTall n) columns → AllOfType t (vals_of (all_components (listed columns))) → Each (IsColumn n t) columns
 typed-columns n t no_vals h a = tt
 typed-columns n t (val (vector xs) vs) h a = (
@@ -228,7 +221,7 @@ columns-paths n t u no_vals no_vals h k e = refl
 columns-paths n t u no_vals (val w ws) h k e = absurd (omega arith)
 columns-paths n t u (val v vs) no_vals h k e = absurd (omega arith)
 columns-paths n t u (val (vector xs) vs) (val (vector ys) ws) h k e =
-    both-true _ _ (literals-paths xs ys (component-literals t xs h.0.1) (component-literals u ys k.0.1) (h.0.0 ∙ sym k.0.0)) (columns-paths n t u vs ws h.1 k.1 (omega arith))
+    both-true _ _ (literals-paths xs ys (are_literals t xs h.0.1) (are_literals u ys k.0.1) (h.0.0 ∙ sym k.0.0)) (columns-paths n t u vs ws h.1 k.1 (omega arith))
 columns-paths n t u (val (vector xs) vs) (val w ws) h k e = absurd k.0
 columns-paths n t u (val v vs) ws h k e = absurd h.0
 
@@ -276,32 +269,19 @@ same_truth true q h k = sym (h refl)
 same_truth false true h k = k refl
 same_truth false false h k = refl
 
-and-first : (a b : Bool) → IsTrue (a && b) → IsTrue a
-and-first true b h = refl
-and-first false b h = cc
-
-and-second : (a b : Bool) → IsTrue (a && b) → IsTrue b
-and-second true b h = h
-and-second false b h = cc
-
 paths-count : (vs ws : Vals) → IsTrue (all_same_paths vs ws) → count vs ≡ count ws
 paths-count no_vals no_vals h = refl
 paths-count no_vals (val w ws) h = cc
 paths-count (val v vs) no_vals h = cc
-paths-count (val v vs) (val w ws) h = ap suc (paths-count vs ws (and-second _ _ h))
+paths-count (val v vs) (val w ws) h = ap suc (paths-count vs ws (and-both (same_paths v w) (all_same_paths vs ws) h).1)
 
 paths-rows : (vs ws : Vals) → AreVectors vs → AreVectors ws → IsTrue (all_same_paths vs ws) → row_count vs ≡ row_count ws
 paths-rows no_vals no_vals k l h = refl
 paths-rows no_vals (val w ws) k l h = cc
 paths-rows (val v vs) no_vals k l h = cc
-paths-rows (val (vector xs) vs) (val (vector ys) ws) k l h = paths-count xs ys (and-first _ _ h)
+paths-rows (val (vector xs) vs) (val (vector ys) ws) k l h = paths-count xs ys (and-both (same_paths (vector xs) (vector ys)) (all_same_paths vs ws) h).0
 paths-rows (val (vector xs) vs) (val w ws) k l h = absurd l.0
 paths-rows (val v vs) ws k l h = absurd k.0
-
-columns-vectors : (n : ℕ) (t : Ty) (vs : Vals) → Each (IsColumn n t) vs → AreVectors vs
-columns-vectors n t no_vals h = tt
-columns-vectors n t (val (vector xs) vs) h = (tt, columns-vectors n t vs h.1)
-columns-vectors n t (val v vs) h = absurd h.0
 
 -- the pairs of components from a column on
 abbrev pub pairs_from : ℕ → MatInstance → MatInstance → List (Val × Val)
@@ -337,7 +317,7 @@ module _ (m w : MatInstance) (k : IsMatrix m) (l : IsMatrix w) where
       let t = component_type (parts (mat_view m)) in
       let u = component_type (parts (mat_view w)) in
       paths-rows (parts (mat_view m)) (parts (mat_view w))
-      (columns-vectors (row_count (parts (mat_view m))) t (parts (mat_view m)) k.are.each) (columns-vectors (row_count (parts (mat_view w))) u (parts (mat_view w)) l.are.each) (same-columns h)
+      (columns_vectors (row_count (parts (mat_view m))) t (parts (mat_view m)) k.are.each) (columns_vectors (row_count (parts (mat_view w))) u (parts (mat_view w)) l.are.each) (same-columns h)
 
   module _ (shape : IsTrue (same_paths (mat_view m) (mat_view w))) where
     pub column-pair-known : (i : ℕ) (s t : List Instance) → item i (parts (mat_view m)) ≡ Some (vector (vals_view s)) → item i (parts (mat_view w)) ≡ Some (vector (vals_view t)) → AreColumnsOf m w i s t

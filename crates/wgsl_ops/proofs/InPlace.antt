@@ -14,6 +14,7 @@ use Rattle.wgsl_values.specs.View.{value_of, vals_of, vals_view, vec_view}
 use Rattle.wgsl_values.specs.Written.{with_part}
 use Rattle.wgsl_values.specs.declared.instance.Instance.{Instance}
 use Rattle.wgsl_values.specs.declared.vector.VecInstance.{VecInstance}
+use Rattle.wgsl_values.proofs.Listed.{length-listed}
 use Rattle.wgsl_ops.specs.Closures.{Answered, Refused, AnswersEach, AnswersOneKind, components_of}
 use Rattle.wgsl_ops.proofs.Answering.{GivesLiterals, IsSoFar, IsVectorOf, answered-length, answered-literals, answered-one-type, count-of, drop-pairs, drop-values, length-pairs, length-values, literals-paths, so_far_more}
 
@@ -86,10 +87,6 @@ written-next olds ls i d h k =
     (ap (λ l. replace_item i (λ _. literal_of (get_or ls i d)) (vals_of (map literal_of (take i ls) ++ l))) next.1 ∙ placed
     ∙ ap vals_of (sym (ap (λ l. l ++ drop (i + 1) olds) more ∙ append_assoc (map literal_of (take i ls)) (literal_of (get_or ls i d) ∷ []) (drop (i + 1) olds)
     ∙ ap (λ n. map literal_of (take i ls) ++ literal_of (get_or ls i d) ∷ drop n olds) (add-one i))))
-
-pub length-listed : (vs : Vals) → length (listed vs) ≡ count vs
-length-listed no_vals = refl
-length-listed (val v vs) = ap suc (length-listed vs)
 
 pub written-count : (olds : Vals) (ls : List LiteralInstance) (i : ℕ) → i ≤ count olds → i ≤ length ls → count (vals_of (written ls i (listed olds))) ≡ count olds
 written-count olds ls i h k =

@@ -8,14 +8,11 @@ use Rattle.wgsl_rules.specs.Size.{size_of, align_of, extent_in, offset_after, en
 use Rattle.wgsl_rules.specs.Layout as rules
 use Rattle.wgsl_rules.specs.Layout.{scalar_kind, known_stride, is_from_2_to_4, is_align_valid, are_attributes_valid, has_fixed_layout, have_fixed_layouts, has_runtime_layout, has_layout, have_none}
 use Rattle.wgsl_rules.proofs.lemmas.Known.{and-both}
+use Rattle.wgsl_rules.proofs.lemmas.Tests.{both}
 use Rattle.wgsl_nodes.specs.HostTypes as nodes
 use Rattle.wgsl_nodes.specs.HostTypes.{is_scalar, has_fixed_nodes, have_fixed_nodes, has_runtime_nodes, has_nodes}
 use Rattle.wgsl_layout.proofs.lemmas.Tidy.{counts}
 use Rattle.wgsl_layout.proofs.lemmas.Fixed.{fixed-array, fixed-mat}
-
-pub both : (a b : Bool) → a ≡ true → b ≡ true → (a && b) ≡ true
-both true b h k = k
-both false b h k = h
 
 scalar-host : (t : Ty) → is_some (scalar_kind t) ≡ true → is_scalar t ≡ true
 scalar-host types.i32 h = refl

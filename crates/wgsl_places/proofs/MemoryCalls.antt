@@ -20,7 +20,6 @@ use Rattle.wgsl_layout.specs.NumbersIn.{AreFrom, HasNumberAt, IsNumberAt, number
 use Rattle.wgsl_layout.specs.Ranges.{Range, path_in, range_in, view_range}
 use Rattle.wgsl_layout.specs.declared.layout.LayoutRefusal.TheVariants.{TooFewBytes, NoPart}
 use Rattle.wgsl_layout.proofs.lemmas.Compose.{compose}
-use Rattle.wgsl_layout.proofs.lemmas.ViewedPaths.{has-path}
 use Rattle.wgsl_store.proofs.lemmas.Held.{has-cell, held-value, kept-is, sound-at}
 use Rattle.wgsl_layout.proofs.lemmas.Roundtrip.{lays-itself}
 use Rattle.wgsl_places.specs.Memory.{IsPlaceAt, IsPlaceIn, IsPlaceOf, range_viewed}
@@ -30,6 +29,7 @@ use Rattle.wgsl_places.specs.declared.place.Place.{Place}
 use Rattle.wgsl_places.proofs.MemoryPlaces.{number-there-is, takes-told}
 use Rattle.wgsl_layout.proofs.Outcomes.{answered}
 use Rattle.wgsl_layout.proofs.NumberPuts.{led-is}
+use Rattle.wgsl_values.proofs.lemmas.ViewedPaths.{has-path}
 
 -- ---- what a reference names
 

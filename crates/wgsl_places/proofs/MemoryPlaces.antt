@@ -13,6 +13,7 @@ use Rattle.wgsl_rules.specs.Paths.{parts, value_at}
 use Rattle.wgsl_rules.specs.Refusals.{Outcome, and_then}
 use Rattle.wgsl_rules.specs.Layout.{has_fixed_layout, has_layout, Layout, scalar, composite, Parts, no_parts, part, is_from_2_to_4, length_in, layout, layout_of, runtime_count, scalar_kind, type_in}
 use Rattle.wgsl_rules.proofs.lemmas.Known.{and-both}
+use Rattle.wgsl_rules.proofs.lemmas.Tests.{or-false}
 use Rattle.wgsl_scalar.specs.Literals.{literal_of}
 use Rattle.wgsl_scalar.specs.declared.literal.LiteralInstance.{LiteralInstance}
 use Rattle.wgsl_scalar.specs.declared.literal.LiteralInstance.TheVariants as literals
@@ -28,7 +29,6 @@ use Rattle.wgsl_layout.proofs.lemmas.Follows.{Follows, FollowAll, follows, parts
 use Rattle.wgsl_store.proofs.lemmas.Held.{kept-is}
 use Rattle.wgsl_layout.proofs.lemmas.InRange.{there-decodes}
 use Rattle.wgsl_layout.proofs.lemmas.PathRanges.{range_in-append}
-use Rattle.wgsl_layout.proofs.lemmas.Places.{part-storable}
 use Rattle.wgsl_layout.proofs.lemmas.Roundtrip.{lays-itself}
 use Rattle.wgsl_layout.proofs.lemmas.Tidy.{counts}
 use Rattle.wgsl_layout.proofs.lemmas.ViewPaths.{layout-type}
@@ -39,6 +39,7 @@ use Rattle.wgsl_places.specs.Places.{ArePlaces, IsPlace, is_inside, loaded, numb
 use Rattle.wgsl_places.specs.declared.place.Place.{Place}
 use Rattle.wgsl_layout.proofs.NumberPuts.{some-is, led-is}
 use Rattle.wgsl_layout.proofs.Outcomes.{answered}
+use Rattle.wgsl_values.proofs.lemmas.Replaced.{part-storable}
 
 -- ---- the place of a part of a part
 
@@ -231,10 +232,6 @@ told-atomic-i32 l = refl
 told-atomic-u32 : (l : LiteralInstance) → takes (type_of (literal_of l)) (scalar (atomic types.u32) kinds.u32) ≡ is_some (width_with 258 (literal_of l))
 told-atomic-u32 (literals.U32 z) = refl
 told-atomic-u32 l = refl
-
-pub or-false : (b : Bool) → (b || false) ≡ true → b ≡ true
-or-false true h = refl
-or-false false h = h
 
 vector-many : (m : ℕ) (u : Ty) → has_layout (vec m u) ≡ true → 2 ≤ m
 vector-many m u h = (counts m (and-both (is_from_2_to_4 m) (is_some (scalar_kind u)) (or-false (has_fixed_layout (vec m u)) h)).0).0

@@ -15,6 +15,8 @@ use Rattle.wgsl_scalar.specs.declared.literal.LiteralInstance.{LiteralInstance}
 use Rattle.wgsl_values.specs.Iterators.{listed}
 use Rattle.wgsl_values.specs.View.{vals_of}
 use Rattle.wgsl_values.proofs.lemmas.PutTwice.{put-twice}
+use Rattle.wgsl_values.proofs.lemmas.Replaced.{part-storable, put-type}
+use Rattle.wgsl_values.proofs.Listed.{length-listed}
 use Rattle.wgsl_layout.specs.Buffers.{buffer}
 use Rattle.wgsl_store.specs.Copies.{in_bytes, is_bytes}
 use Rattle.wgsl_store.specs.Memory.{held, IsKept, IsSound, put_cells}
@@ -26,7 +28,6 @@ use Rattle.wgsl_layout.specs.Walk.{put}
 use Rattle.wgsl_layout.proofs.lemmas.Compose.{value-below}
 use Rattle.wgsl_layout.proofs.lemmas.Flat.{IsPut, fits-laid, put-at-path}
 use Rattle.wgsl_store.proofs.lemmas.Held.{held-value}
-use Rattle.wgsl_layout.proofs.lemmas.Places.{part-storable, put-type}
 use Rattle.wgsl_layout.proofs.lemmas.ViewPaths.{layout-type}
 use Rattle.wgsl_store.proofs.lemmas.Writes.{accepts, at-own, held-after, put-cell, written-back, put-own, fits-own, at-twice}
 use Rattle.wgsl_places.specs.Laws.{components_in}
@@ -134,15 +135,11 @@ record IsVectorAt (x : Val) (path : List ℕ) (n : ℕ) : Type 0 where
   there : value_at path x ≡ Some (vector components)
   many : count components ≡ n
 
-pub count-listed : (vs : Vals) → length (listed vs) ≡ count vs
-count-listed no_vals = refl
-count-listed (val v vs) = ap (λ (n : ℕ). suc n) (count-listed vs)
-
 vector-there : (x : Val) (path : List ℕ) (n : ℕ) → option_map length (option_and_then components_in (value_at path x)) ≡ Some n → IsVectorAt x path n
 vector-there x path n e = by (value_at path x) refl e
   where
     at : (v : Val) → value_at path x ≡ Some v → option_map length (components_in v) ≡ Some n → IsVectorAt x path n
-    at (vector vs) is e = let long : length (listed vs) ≡ n = cc (e) in record { components = vs; there = is; many = sym (count-listed vs) ∙ long }
+    at (vector vs) is e = let long : length (listed vs) ≡ n = cc (e) in record { components = vs; there = is; many = sym (length-listed vs) ∙ long }
     at v is e = absurd (cc (e))
 
     by : (o : Option Val) → value_at path x ≡ o → option_map length (option_and_then components_in o) ≡ Some n → IsVectorAt x path n

@@ -14,11 +14,13 @@ use Rattle.wgsl_rules.specs.Types as types
 use Rattle.wgsl_rules.specs.Types.{Ty, vec}
 use Rattle.wgsl_rules.specs.Values.{Reference, Val, vector, Vals, no_vals, val, count, type_of, IsStorable}
 use Rattle.wgsl_rules.proofs.lemmas.Known.{and-both}
+use Rattle.wgsl_rules.proofs.lemmas.Tests.{or-false}
 use Rattle.wgsl_scalar.specs.Literals.{literal_of}
 use Rattle.wgsl_scalar.specs.declared.literal.LiteralInstance.{LiteralInstance}
 use Rattle.wgsl_nodes.specs.HostTypes.{is_number, kind_of}
 use Rattle.wgsl_nodes.specs.Places.{number_kind, numbers_in}
 use Rattle.wgsl_values.specs.View.{vals_of}
+use Rattle.wgsl_values.proofs.Listed.{length-listed}
 use Rattle.wgsl_layout.specs.Buffers.{buffer}
 use Rattle.wgsl_store.specs.Memory.{held, IsSound, put_cells}
 use Rattle.wgsl_layout.specs.NumbersIn.{IsNumberAt}
@@ -34,11 +36,10 @@ use Rattle.wgsl_places.specs.Rows.{HasRow, IsRow}
 use Rattle.wgsl_places.specs.Vectors.{is_vector, loaded_parts, loaded_vec}
 use Rattle.wgsl_places.specs.declared.place.Place.{Place}
 use Rattle.wgsl_places.proofs.MemoryCalls.{fact-of}
-use Rattle.wgsl_places.proofs.MemoryPlaces.{number-in-range, or-false, part-path, part-type, range-inside, range-leads, stands-there, told-i32, told-i64, told-u32, told-u64}
+use Rattle.wgsl_places.proofs.MemoryPlaces.{number-in-range, part-path, part-type, range-inside, range-leads, stands-there, told-i32, told-i64, told-u32, told-u64}
 use Rattle.wgsl_layout.proofs.Outcomes.{answered}
 use Rattle.wgsl_layout.proofs.NumberPuts.{led-is}
 use Rattle.wgsl_layout.proofs.NumberPuts.{some-is}
-use Rattle.wgsl_places.proofs.MemoryRows.{count-listed}
 use Rattle.wgsl_places.proofs.VectorValues.{vector-loads-are-reads}
 use Rattle.wgsl_places.proofs.Vectors.{IsVector, one-or-none, vector-is}
 
@@ -189,7 +190,7 @@ vector-row x path r m n far t ls s h there is laid e = record { row = record { m
         let f : Follows (layout m (vec n t)) y.0 = subst (λ (l : Layout). Follows l y.0) is y.2 in
         ap (λ (o : Option Val). option_map length (option_and_then components_in o)) y.1
         ∙ ap (λ (z : Val). option_map length (components_in z)) f.0
-        ∙ ap (λ (k : ℕ). Some k) (count-listed (parts y.0) ∙ follow-count (layout m t) (size t) 0 n (parts y.0) f.1 ∙ sym as_many ∙ sym (length-map ls literal_of))
+        ∙ ap (λ (k : ℕ). Some k) (length-listed (parts y.0) ∙ follow-count (layout m t) (size t) 0 n (parts y.0) f.1 ∙ sym as_many ∙ sym (length-map ls literal_of))
 
     each : (i : ℕ) (o : Option Val) → slice_get (map literal_of ls) i ≡ o → IfSome o (IsNumberAt x (path ++ i ∷ []) (r.start + i * far))
     each i None e = tt

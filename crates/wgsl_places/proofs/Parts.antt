@@ -8,6 +8,7 @@ use Rattle.wgsl_rules.specs.Types.{Ty, struct, array, vec, mat, Fields, no_field
 use Rattle.wgsl_rules.specs.Size.{size_of, extent_in, end_after}
 use Rattle.wgsl_rules.specs.Layout.{size, align, stride, scalar_kind, known_stride, is_from_2_to_4, has_fixed_layout, have_fixed_layouts, is_runtime_array, end_in_runtime_array, has_runtime_layout, has_layout, Layout, scalar, composite, Parts, no_parts, part, length_in, type_in, repeated, leaf, leaf_kind, layout, member_parts}
 use Rattle.wgsl_rules.proofs.lemmas.Known.{and-both}
+use Rattle.wgsl_rules.proofs.lemmas.Tests.{or-false as left}
 use Rattle.wgsl_nodes.specs.Canonical.{table}
 use Rattle.wgsl_nodes.specs.Places.{Part, part_if, part_with, member_in, IsPartAt, IsPlaceOf}
 use Rattle.wgsl_nodes.specs.declared.places.Place.{«Place» as NodePlace}
@@ -20,7 +21,6 @@ use Rattle.wgsl_layout.proofs.lemmas.ViewPaths.{layout-type}
 use Rattle.wgsl_places.specs.Places.{IsPlace, ArePlaces}
 use Rattle.wgsl_places.specs.declared.place.Place.{Place}
 use Rattle.wgsl_layout.proofs.Locating.{nth-part}
-use Rattle.wgsl_places.proofs.MemoryPlaces.{or-false as left}
 
 -- ---- the parts of a layout are those of the type
 

@@ -9,6 +9,7 @@ use Rattle.wgsl_rules.specs.Types.{Ty, vec}
 use Rattle.wgsl_rules.specs.Values.{Val}
 use Rattle.wgsl_rules.specs.Layout.{size, scalar_kind, is_from_2_to_4, has_layout, has_fixed_layout, Layout, scalar, Parts, layout, repeated, type_in}
 use Rattle.wgsl_rules.proofs.lemmas.Known.{and-both}
+use Rattle.wgsl_rules.proofs.lemmas.Tests.{or-false as left}
 use Rattle.wgsl_scalar.specs.Literals.{literal_of}
 use Rattle.wgsl_scalar.specs.declared.literal.LiteralInstance.{LiteralInstance}
 use Rattle.wgsl_nodes.specs.HostTypes.{is_number, kind_of}
@@ -19,7 +20,6 @@ use Rattle.wgsl_places.specs.Places.{IsPlace, loaded, stored}
 use Rattle.wgsl_places.specs.Vectors.{is_vector, loaded_parts, loaded_vec, stored_parts, stored_vec}
 use Rattle.wgsl_places.specs.declared.place.Place.{Place}
 use Rattle.wgsl_places.proofs.ComponentTypes.{IsComponent, component, range_at}
-use Rattle.wgsl_places.proofs.MemoryPlaces.{or-false as left}
 
 -- ---- rows are parts
 

@@ -5,4 +5,5 @@ pub mod Known
 pub mod Members
 pub mod Paths
 pub mod Slices
+pub mod Tests
 pub mod Views

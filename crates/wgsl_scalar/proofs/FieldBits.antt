@@ -12,6 +12,7 @@ use Rattle.std.proofs.lemmas.Nat.{pow_pos, shr_split}
 use Rattle.std.proofs.lemmas.Nat.Bits.{bit_at_cat_low, bit_at_cat_high, bit_at_not, bit_at_and, bit_at_or, bit_at-lt, bit_at-zero, shr_and_one, bit_at_ones, bit_at_ones_above, bit_at_lowest, bit_at-suc}
 use Rattle.wgsl_rules.specs.Kinds as kinds
 use Rattle.wgsl_rules.specs.Kinds.{Kind, InKind, width, is_signed, wrap, modulo}
+use Rattle.wgsl_rules.proofs.lemmas.Tests.{inside}
 use Rattle.wgsl_scalar.specs.Bits.{bit, from_bits}
 use Rattle.wgsl_scalar.specs.BitFields.{bit_above, turned}
 use Rattle.wgsl_scalar.specs.Counts.{bit_length, leading_zeros_in}
@@ -26,9 +27,6 @@ choose false z x y f g = g refl
 both : {A : Type 0} (b : Bool) (x y u v : A) → (b ≡ true → x ≡ u) → (b ≡ false → y ≡ v) → (if b then x else y) ≡ (if b then u else v)
 both true x y u v f g = f refl
 both false x y u v f g = g refl
-
-inside : (o w i : ℕ) → (nat_le o i && nat_lt i (o + w)) ≡ true → (o ≤ i) × (i < o + w)
-inside o w i h = grind (arith, nat_tests)
 
 outside : (o w i : ℕ) → (nat_le o i && nat_lt i (o + w)) ≡ false → o ≤ i → o + w ≤ i
 outside o w i h l = grind (arith, nat_tests)

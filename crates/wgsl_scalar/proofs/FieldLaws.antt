@@ -9,6 +9,7 @@ use Rattle.wgsl_rules.specs.Kinds as kinds
 use Rattle.wgsl_rules.specs.Kinds.{Kind, InKind, in_kind, width, is_signed, wrap}
 use Rattle.wgsl_rules.specs.Refusals.{Outcome, and_then, builtin}
 use Rattle.wgsl_rules.specs.Values.{Val, number}
+use Rattle.wgsl_rules.proofs.lemmas.Tests.{both}
 use Rattle.wgsl_scalar.specs.BitFields.{on_word, extracted_in, inserted, inserted_in, field_start, field_width, bit_above, with_field_in}
 use Rattle.wgsl_scalar.specs.Bits.{bit, from_bits}
 use Rattle.wgsl_scalar.specs.Counts.{bit_length}
@@ -61,10 +62,6 @@ put-back o w k z e h =
     ∙ ap (bit z) back)
     refl))
 
-both_true : (a b : Bool) → a ≡ true → b ≡ true → (a && b) ≡ true
-both_true true b h g = g
-both_true false b h g = absurd (cc)
-
 -- the word with the bits of a field
 abbrev field_word : ℕ → ℕ → Kind → ℤ → ℤ
 field_word offset count k z = pos (from_bits (width k) (field_bits (field_start offset) (field_width offset count) k z))
@@ -79,14 +76,14 @@ signed-back : (offset count : ℕ) (z : ℤ) → InKind kinds.i32 z → Inserted
 signed-back offset count z h =
     let y = field_word offset count kinds.i32 z in
     let p : Operands = record { kind = kinds.i32; left = z; right = wrap kinds.i32 y } in
-    picked (in_kind kinds.i32 z && in_kind kinds.i32 (wrap kinds.i32 y)) p (put offset count) (both_true _ _ h (wrap-in kinds.i32 y))
+    picked (in_kind kinds.i32 z && in_kind kinds.i32 (wrap kinds.i32 y)) p (put offset count) (both _ _ h (wrap-in kinds.i32 y))
     ∙ ap ok (put-back (field_start offset) (field_width offset count) kinds.i32 z refl h)
 
 unsigned-back : (offset count : ℕ) (z : ℤ) → InKind kinds.u32 z → InsertedBack offset count kinds.u32 z
 unsigned-back offset count z h =
     let y = field_word offset count kinds.u32 z in
     let p : Operands = record { kind = kinds.u32; left = z; right = wrap kinds.u32 y } in
-    picked (in_kind kinds.u32 z && in_kind kinds.u32 (wrap kinds.u32 y)) p (put offset count) (both_true _ _ h (wrap-in kinds.u32 y))
+    picked (in_kind kinds.u32 z && in_kind kinds.u32 (wrap kinds.u32 y)) p (put offset count) (both _ _ h (wrap-in kinds.u32 y))
     ∙ ap ok (put-back (field_start offset) (field_width offset count) kinds.u32 z refl h)
 
 pub inserting_back : InsertingBackChangesNothing

@@ -11,15 +11,15 @@ use Rattle.wgsl_rules.specs.Layout.{has_layout, amount, layout, layout_of, runti
 use Rattle.wgsl_layout.specs.Buffers.{buffer, decode}
 use Rattle.wgsl_layout.specs.Ranges.{Range, range_in, view_range, bytes_in, overwritten}
 use Rattle.wgsl_layout.proofs.lemmas.Follows.{follows}
-use Rattle.wgsl_layout.proofs.lemmas.Places.{part-storable, put-type}
 use Rattle.wgsl_layout.proofs.lemmas.Counts.{counted-in}
 use Rattle.wgsl_layout.proofs.lemmas.Positive.{tail-stride}
 use Rattle.wgsl_layout.proofs.lemmas.Compose.{laid-decodes, compose}
 use Rattle.wgsl_layout.proofs.lemmas.Roundtrip.{length-buffer, lays-itself}
 use Rattle.wgsl_layout.proofs.lemmas.Overwritten.{put-overwritten}
 use Rattle.wgsl_layout.proofs.lemmas.ViewPaths.{path-in-is, layout-type}
-use Rattle.wgsl_layout.proofs.lemmas.ViewedPaths.{HasPath, has-path}
 use Rattle.wgsl_session.specs.Flat.{bytes, tree, cell_of, layout_in, decoded_at, of_type, found_in, put_in}
+use Rattle.wgsl_values.proofs.lemmas.ViewedPaths.{has-path, HasPath}
+use Rattle.wgsl_values.proofs.lemmas.Replaced.{part-storable, put-type}
 
 same-own : (t u : Ty) → t ≡ u → same t u ≡ true
 same-own t u e = (same-Decides t u).1 e

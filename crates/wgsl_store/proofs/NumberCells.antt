@@ -16,10 +16,10 @@ use Rattle.wgsl_layout.proofs.NumberPuts.{number-changed, some-is}
 use Rattle.wgsl_layout.proofs.Outcomes.{answered}
 use Rattle.wgsl_store.proofs.StoreCells.{cell-is, held-there, replaced-cells, replaced-good, same-cells}
 use Rattle.wgsl_layout.proofs.lemmas.Compose.{compose}
-use Rattle.wgsl_layout.proofs.lemmas.ViewedPaths.{has-path}
 use Rattle.wgsl_store.proofs.lemmas.Held.{has-cell, kept-is, held-value, sound-at}
 use Rattle.wgsl_store.proofs.lemmas.KeptLayouts.{put-layouts}
 use Rattle.wgsl_store.proofs.lemmas.Sound.{put-kept}
+use Rattle.wgsl_values.proofs.lemmas.ViewedPaths.{has-path}
 
 -- a number holds no references, nor does an atomic
 no-references : (cells : List Val) (w y : Val) → IsLiteral w → IsLikeNumber w y → AllKept cells (references (with_number w y))

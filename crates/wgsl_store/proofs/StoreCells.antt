@@ -15,11 +15,11 @@ use Rattle.wgsl_layout.specs.Fitting.{FitsAt}
 use Rattle.wgsl_store.specs.Exchanges.{AreExchanged}
 use Rattle.wgsl_layout.proofs.Outcomes.{answered}
 use Rattle.wgsl_store.specs.Memory.{held, references, IsContent, IsSound, at_position, put_cells}
-use Rattle.wgsl_layout.proofs.lemmas.ViewedPaths.{has-path}
 use Rattle.wgsl_store.proofs.lemmas.Held.{has-cell, held-value}
-use Rattle.wgsl_layout.proofs.lemmas.Places.{put-type}
 use Rattle.wgsl_store.proofs.lemmas.Sound.{append-sound, append-keeps, put-good, all-keep}
 use Rattle.wgsl_store.specs.MemoryLaws.{StaysKept}
+use Rattle.wgsl_values.proofs.lemmas.ViewedPaths.{has-path}
+use Rattle.wgsl_values.proofs.lemmas.Replaced.{put-type}
 
 -- ---- a tree stays of a type without a layout
 

@@ -1,6 +1,5 @@
 -- A bitcast to a type of the same size and back gives the value again.
 use Rattle.std.proofs.Common.{◌≡◌, ◌∙◌, ℕ, zero, suc, ◌+◌, ◌<◌, ◌≤◌, List, [], ◌∷◌, map, length, get_or, ℤ, Bool, true, false, if◌then◌else◌, Option, Some, option_map, IsTrue, Ok, arith, refl, sym, ap, ap₂, subst}
-use Rattle.std.proofs.lemmas.Bool.Decides.{nat_tests}
 use Rattle.std.proofs.lemmas.List.{same_lists, get_or_default}
 use Rattle.std.proofs.lemmas.List.FromFn.{get_or-map-range_with_len, length-map-range_with_len}
 use Rattle.std.specs.List.{range_with_len}
@@ -13,6 +12,7 @@ use Rattle.wgsl_rules.specs.Types as types
 use Rattle.wgsl_rules.specs.Types.{Ty}
 use Rattle.wgsl_rules.specs.Values.{Val, truth, number, record_of, array_of, vector, matrix, atomic_of, pointer, reference, deferred, Vals, no_vals, val, count, first_type, matrix_type, type_of, AllOfType, AreLiterals, IsLiteral, IsStorable}
 use Rattle.wgsl_rules.proofs.lemmas.Known.{and-both}
+use Rattle.wgsl_rules.proofs.lemmas.Tests.{at-least-2, at-most-4}
 use Rattle.wgsl_scalar.specs.Operands.{ok_or}
 use Rattle.wgsl_layout.proofs.lemmas.Compose.{laid-decodes}
 use Rattle.wgsl_layout.proofs.lemmas.Counts.{count-fixed}
@@ -153,16 +153,10 @@ whole_vec (suc (suc (suc zero))) u l g w = whole_3 u w
 whole_vec (suc (suc (suc (suc zero)))) u l g w = whole_4 u w
 whole_vec (suc (suc (suc (suc (suc n))))) u l g w = absurd (omega arith)
 
-at-least : (n : ℕ) → is_from_2_to_4 n ≡ true → 2 ≤ n
-at-least n h = grind (arith, nat_tests)
-
-at-most : (n : ℕ) → is_from_2_to_4 n ≡ true → n ≤ 4
-at-most n h = grind (arith, nat_tests)
-
 whole : (t : Ty) → IsBitcastTarget t → IsWhole t
 whole types.i32 h = whole_i32
 whole types.u32 h = whole_u32
-whole (types.vec n u) h = let b = and-both (is_from_2_to_4 n) (is_word_type u) h in whole_vec n u (at-least n b.0) (at-most n b.0) b.1
+whole (types.vec n u) h = let b = and-both (is_from_2_to_4 n) (is_word_type u) h in whole_vec n u (at-least-2 n b.0) (at-most-4 n b.0) b.1
 whole t h = absurd (cc)
 
 fixed-laid : (t : Ty) → has_fixed_layout t ≡ true → HasLayout t

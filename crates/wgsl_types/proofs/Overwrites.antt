@@ -1,5 +1,5 @@
 -- The bytes that an atomic's new number overwrites.
-use Rattle.std.proofs.Common.{◌≡◌, ◌≢◌, ℕ, zero, suc, List, [], ◌∷◌, length, slice_get, Option, Some, Ok, refl, ap, ◌∙◌, subst}
+use Rattle.std.proofs.Common.{◌≡◌, ℕ, List, [], length, slice_get, Option, Some, Ok, refl, ap, ◌∙◌, subst}
 use Rattle.std.specs.Prelude.{◌⊎◌, Bool, true, false, if◌then◌else◌, IfOk}
 use mathlib.Core.Logic.{inl, inr}
 use Rattle.wgsl_rules.proofs.lemmas.Paths.{fits-Decides}
@@ -13,7 +13,8 @@ use Rattle.wgsl_layout.proofs.lemmas.Overwritten.{put-overwritten}
 use Rattle.wgsl_layout.proofs.lemmas.ViewPaths.{view-range-is}
 use Rattle.wgsl_store.proofs.lemmas.Writes.{PutCell, at-own, put-cell, held-after}
 use Rattle.wgsl_layout.specs.Buffers.{buffer}
-use Rattle.wgsl_store.specs.Memory.{IsSound, held, at_position, put_cells}
+use Rattle.wgsl_store.specs.Memory.{IsSound, held, put_cells}
+use Rattle.wgsl_store.proofs.lemmas.WritesApart.{at-other}
 use Rattle.wgsl_layout.specs.Ranges.{range, view_range}
 use Rattle.wgsl_values.specs.Same.{same_value}
 use Rattle.wgsl_types.proofs.MemoryAnswers.{exchange-is, of-changes}
@@ -21,13 +22,6 @@ use Rattle.wgsl_ops.proofs.Outcomes.{ok-is}
 use Rattle.wgsl_types.proofs.Stored.{IsArgument, IsNew, argument-of, argument-new, atomic-fits, store-is}
 use Rattle.wgsl_types.specs.Atomics.{writable, atomic_stored, Changed, atomic_compare_exchanged}
 use Rattle.wgsl_types.specs.Laws.{IsOverwritten, OverwritesNumber, AtomicsOverwriteTheirBytes}
-
-at-other : (cells : List Val) (i j : ℕ) (g : Val → Val) → j ≢ i → slice_get (at_position i g cells) j ≡ slice_get cells j
-at-other [] i j g n = refl
-at-other (y ∷ ys) zero zero g n = absurd (n refl)
-at-other (y ∷ ys) zero (suc j) g n = refl
-at-other (y ∷ ys) (suc i) zero g n = refl
-at-other (y ∷ ys) (suc i) (suc j) g n = at-other ys i j g (λ e. n (ap suc e))
 
 four-bytes : (w : Val) → IsAtomicContent w → length (buffer (atomic_of w)) ≡ 4
 four-bytes (number kinds.i32 z) h = refl
@@ -55,7 +49,7 @@ put-overwrites cells r w old s h n =
       number = w;
       four_bytes = four-bytes w n.content;
       holds = held-after cells r (atomic_of w) (atomic_of old) s (n.content, n.storable) h fits;
-      others = λ i other. at-other cells r.cell i (put_viewed r.view (atomic_of w)) other;
+      others = λ i other. at-other cells r.cell i (put_viewed r.view (atomic_of w)) (λ e. other (sym e));
       own = λ v u before after laid.
           let same = some-is (slice_get cells r.cell) put.cell v put.there before in
           let new = some-is (slice_get (put_cells cells r (atomic_of w)) r.cell) (put_tree put.path (atomic_of w) put.cell) u

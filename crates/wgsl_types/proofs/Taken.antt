@@ -12,6 +12,7 @@ use Rattle.wgsl_rules.specs.TypeParts.{inner_type}
 use Rattle.wgsl_rules.specs.Types as types
 use Rattle.wgsl_rules.specs.Types.{Ty}
 use Rattle.wgsl_rules.specs.Values.{Val, truth, number, vector, Vals, no_vals, val, count, first_type, type_of, type_of_kind, IsLiteral, IsStorable, IsWellFormed}
+use Rattle.wgsl_rules.proofs.lemmas.Known.{and-both}
 use Rattle.wgsl_scalar.specs.Operands.{ok_or}
 use Rattle.wgsl_types.proofs.Lifted.{AreLiteralsOf, IsLiteralOf, GivesLiteral, lifted-literals, number-literal, vector-storable}
 use Rattle.wgsl_ops.proofs.Outcomes.{then-is, some-of}
@@ -109,13 +110,9 @@ value-taken t (vector vs) w p h e =
     subst IsTaken same (record { storable = s; laid = vec-laid (count a.first) (first_type a.first) s.0 s.1 (first-laid t vs a.first p h a.is) })
 value-taken t v w p h e = absurd (cc)
 
-both-true : (a b : Bool) → IsTrue (a && b) → IsTrue b
-both-true true b h = h
-both-true false b h = absurd (cc)
-
 -- the scalar of a template
 pub inner-word : (t : Ty) → IsBitcastTarget t → IsTrue (is_word_type (inner_type t))
-inner-word (types.vec n u) h = both-true (is_from_2_to_4 n) (is_word_type u) h
+inner-word (types.vec n u) h = (and-both (is_from_2_to_4 n) (is_word_type u) h).1
 inner-word types.i32 h = refl
 inner-word types.u32 h = refl
 inner-word t h = absurd (cc)

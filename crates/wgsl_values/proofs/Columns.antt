@@ -35,11 +35,11 @@ pub record IsComponent (t : Ty) (v : Val) : Type 0 where
   pub ty : type_of v ≡ t
   pub storable : IsStorable v
 
-to_components : (t : Ty) (vs : Vals) → AreLiterals vs → AllOfType t vs → AreStorable vs → Each (IsComponent t) vs
+pub to_components : (t : Ty) (vs : Vals) → AreLiterals vs → AllOfType t vs → AreStorable vs → Each (IsComponent t) vs
 to_components t no_vals l a s = tt
 to_components t (val v vs) l a s = (record { literal = l.0; ty = a.0; storable = s.0 }, to_components t vs l.1 a.1 s.1)
 
-are_literals : (t : Ty) (vs : Vals) → Each (IsComponent t) vs → AreLiterals vs
+pub are_literals : (t : Ty) (vs : Vals) → Each (IsComponent t) vs → AreLiterals vs
 are_literals t no_vals h = tt
 are_literals t (val v vs) h = (h.0.literal, are_literals t vs h.1)
 
@@ -70,7 +70,7 @@ pub record AreColumns (n : ℕ) (t : Ty) (vs : Vals) : Type 0 where
   pub narrow : count vs ≤ 4
   pub each : Each (IsColumn n t) vs
 
-columns_vectors : (n : ℕ) (t : Ty) (vs : Vals) → Each (IsColumn n t) vs → AreVectors vs
+pub columns_vectors : (n : ℕ) (t : Ty) (vs : Vals) → Each (IsColumn n t) vs → AreVectors vs
 columns_vectors n t no_vals h = tt
 columns_vectors n t (val (vector xs) vs) h = (tt, columns_vectors n t vs h.1)
 columns_vectors n t (val v vs) h = absurd h.0

@@ -48,7 +48,7 @@ joined-step (Some x) (Some xs) q (w ∷ ws) y h k =
     let f : xs ≡ vals_view ws = cc in
     rw (k ws (ap Some f), e) refl
 
-joined-none : (o : Option Val) → joined o None ≡ None
+pub joined-none : (o : Option Val) → joined o None ≡ None
 joined-none None = refl
 joined-none (Some x) = refl
 

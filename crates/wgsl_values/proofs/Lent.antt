@@ -1,8 +1,8 @@
 -- What is lent of a composite to be written, and the composite after that.
-use Rattle.std.proofs.Common.{◌≡◌, ℕ, zero, suc, Bool, true, false, List, [], ◌∷◌, Option, Some, None, option_map, option_and_then, Ok, Err, IsSomeAnd, MatchResult, MutBor, refl, sym, ap, ◌∙◌, subst}
+use Rattle.std.proofs.Common.{◌≡◌, ℕ, zero, suc, Bool, true, false, List, [], ◌∷◌, Option, Some, None, option_map, option_and_then, Ok, Err, MutBor, refl, sym, ap, ◌∙◌, subst}
 use Rattle.std.specs.Option.{IfSome}
 use Rattle.wgsl_rules.proofs.lemmas.Converted.{storable-well_formed}
-use Rattle.wgsl_rules.proofs.lemmas.Paths.{member_named-item, view-leads}
+use Rattle.wgsl_rules.proofs.lemmas.Paths.{member_named-item}
 use Rattle.wgsl_rules.specs.Paths.{member_named, parts, value_at, path_of, viewed, put_tree, put_viewed}
 use Rattle.wgsl_rules.specs.Refusals.{Outcome}
 use Rattle.wgsl_rules.specs.Types as types
@@ -21,6 +21,7 @@ use Rattle.wgsl_values.proofs.lemmas.Replaced.{content-kept, part-kept, part-sou
 use Rattle.wgsl_values.proofs.lemmas.Steps.{item-storable}
 use Rattle.wgsl_values.proofs.lemmas.Views.{array_view-is, mat_view-is, vec_view-is}
 use Rattle.wgsl_values.proofs.Written.{on_some}
+use Rattle.wgsl_values.proofs.lemmas.ViewedPaths.{has-path}
 
 abbrev pub lent_value : Option (MutBor Instance) → Option Val
 lent_value = option_map (λ part. value_of part.now)
@@ -154,23 +155,6 @@ holding-typed a x t e is = let inner : types.atomic (type_of x) ≡ types.atomic
 
 -- ---- what a view leads to
 
--- a path along a view, and what stands there
-record HasPath (steps : List Step) (v x : Val) : Type 0 where
-  path : List ℕ
-  there : path_of steps v ≡ Ok path
-  is : value_at path v ≡ Some x
-
-has-path : (steps : List Step) (v x : Val) → viewed steps v ≡ Ok x → HasPath steps v x
-has-path steps v x e = by (path_of steps v) refl (view-leads steps v)
-  where
-    at : (p : List ℕ) (o : Option Val) → path_of steps v ≡ Ok p → value_at p v ≡ o → IsSomeAnd o (λ y. viewed steps v ≡ Ok y) → HasPath steps v x
-    at p None there is k = absurd k
-    at p (Some y) there is k = let same : y ≡ x = cc in record { path = p; there = there; is = is ∙ ap Some same }
-
-    by : (o : Outcome (List ℕ)) → path_of steps v ≡ o → MatchResult o (λ p. IsSomeAnd (value_at p v) (λ y. viewed steps v ≡ Ok y)) (λ r. viewed steps v ≡ Err r) → HasPath steps v x
-    by (Ok p) there k = at p (value_at p v) there refl k
-    by (Err r) there k = absurd (cc)
-
 put-along : (o : Outcome (List ℕ)) (p : List ℕ) (w v : Val) → o ≡ Ok p → (elim o [ Ok q ↦ put_tree q w v | Err e ↦ v ]) ≡ put_tree p w v
 put-along (Ok q) p w v e = let same : q ≡ p = cc in ap (λ (r : List ℕ). put_tree r w v) same
 put-along (Err r) p w v e = absurd (cc)
@@ -178,10 +162,10 @@ put-along (Err r) p w v e = absurd (cc)
 pub view-kept : (steps : List Step) (w v x : Val) → viewed steps v ≡ Ok x → IsStorable w → type_of w ≡ type_of x → IsKept (put_viewed steps w v) v
 view-kept steps w v x e s t =
     let k = has-path steps v x e in
-    rw (put-along (path_of steps v) k.path w v k.there) (part-kept k.path v w x k.is s t)
+    rw (put-along (path_of steps v) k.path w v k.there) (part-kept k.path v w x k.stands s t)
 
 pub view-sound : (steps : List Step) (v x : Val) → viewed steps v ≡ Ok x → IsAsSound x v
-view-sound steps v x e = let k = has-path steps v x e in part-sound k.path v x k.is
+view-sound steps v x e = let k = has-path steps v x e in part-sound k.path v x k.stands
 
 pub keeps-whole : (put : Val → Val) (t : Ty) (old : Val) → ((w : Val) → IsStorable w → type_of w ≡ t → IsKept (put w) old) → KeepsWhole put t old
 keeps-whole put t old kept = record {

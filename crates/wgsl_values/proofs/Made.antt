@@ -1,14 +1,14 @@
 -- Values made of others: when the parts are as the whole asks.
-use Rattle.std.proofs.Common.{◌≡◌, ◌↔◌, ℕ, zero, suc, ◌+◌, ◌<◌, ◌≤◌, List, [], ◌∷◌, length, get_or, drop, take, map, Bool, true, false, IsTrue, is_some, refl, sym, ap, ap₂, subst, ◌∙◌, arith, rules, ◌==◌, add-one}
+use Rattle.std.proofs.Common.{◌≡◌, ◌↔◌, ℕ, zero, suc, ◌+◌, ◌<◌, ◌≤◌, List, [], ◌∷◌, length, get_or, drop, take, map, Bool, true, false, IsTrue, is_some, refl, sym, ap, ap₂, subst, ◌∙◌, arith, ◌==◌, add-one}
 use Rattle.std.proofs.lemmas.Bool.{false≢true}
 use Rattle.wgsl_rules.specs.Kinds as kinds
 use Rattle.wgsl_rules.specs.Types as types
 use Rattle.wgsl_rules.specs.Types.{Ty}
 use Rattle.wgsl_rules.specs.TypeParts.{vec_part}
 use Rattle.wgsl_rules.specs.Values.{Val, truth, number, record_of, array_of, vector, matrix, deferred, Vals, no_vals, val, count, IsStorable, AreStorable, AllOfType, HaveTypes, IsLiteral, AreLiterals, IsVector, AreVectors, type_of, first_type, matrix_type}
-use Rattle.wgsl_rules.specs.View.{members_view, member_view, type_view}
+use Rattle.wgsl_rules.specs.View.{members_view, type_view}
 use Rattle.wgsl_rules.specs.declared.ty.StructMemberType.{StructMemberType}
-use Rattle.wgsl_rules.specs.declared.ty.Type.{the_lemmas as type_lemmas}
+use Rattle.wgsl_rules.proofs.lemmas.Views.{member-type}
 use Rattle.wgsl_scalar.specs.declared.literal.LiteralInstance.{LiteralInstance}
 use Rattle.wgsl_values.specs.Make.{literals_view}
 use Rattle.wgsl_values.specs.View.{value_of, vals_view}
@@ -79,9 +79,6 @@ of_members-counts [] [] h = refl
 of_members-counts [] (v ∷ vs) h = absurd h
 of_members-counts (m ∷ ms) [] h = absurd h
 of_members-counts (m ∷ ms) (v ∷ vs) h = ap suc (of_members-counts ms vs h.1)
-
-member-type : (m : StructMemberType) → (member_view m).ty ≡ type_view m.ty
-member-type m = search (rules, type_lemmas)
 
 abbrev IsMember : StructMemberType → Instance → Type 0
 IsMember m v = (type_of (value_of v) ≡ type_view m.ty) × IsStorable (value_of v)

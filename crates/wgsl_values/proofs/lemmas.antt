@@ -3,4 +3,5 @@ pub mod Nodes
 pub mod PutTwice
 pub mod Replaced
 pub mod Steps
+pub mod ViewedPaths
 pub mod Views

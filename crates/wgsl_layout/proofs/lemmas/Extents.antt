@@ -3,7 +3,6 @@ use Rattle.std.proofs.Common.{◌≡◌, ℕ, ◌*◌, ◌^◌, ◌<◌, ◌≤�
 use Rattle.std.specs.Prelude.{◌||◌, option_map, if◌then◌else◌}
 use Rattle.std.specs.Option.{unwrap_or}
 use Rattle.std.proofs.lemmas.Bool.{false≢true}
-use Rattle.std.proofs.lemmas.Bool.Decides.{nat_tests}
 use Rattle.std.proofs.Math.Bool.{or-false}
 use Rattle.wgsl_rules.specs.Kinds as kinds
 use Rattle.wgsl_rules.specs.Kinds.{Kind, bytes_of}
@@ -11,6 +10,7 @@ use Rattle.wgsl_rules.specs.Types.{Ty, struct, array, vec, Fields, no_fields, fi
 use Rattle.wgsl_rules.specs.Size.{size_of, times, offset_after, end_after, extent_in}
 use Rattle.wgsl_rules.specs.Layout.{amount, size, known_stride, stride, scalar_kind, is_from_2_to_4, has_fixed_layout, has_runtime_layout, has_layout, is_runtime_array, end_in_runtime_array, Tail, tail_at, last_tail as last_tail_of, tail_of, layout_len}
 use Rattle.wgsl_rules.proofs.lemmas.Known.{and-both, fits, fitting-is, some-of, times-known}
+use Rattle.wgsl_rules.proofs.lemmas.Tests.{at-most-4}
 use Rattle.wgsl_layout.specs.Extents.{kept, row_tail, last_tail, plan_tail, no_tail}
 use Rattle.wgsl_layout.specs.Plan.{Plan, fixed_size, plan_of, places_of}
 use Rattle.wgsl_layout.specs.declared.extent.Tail.{Tail as CodeTail}
@@ -100,15 +100,12 @@ times-small n kinds.u32 h = omega arith
 times-small n kinds.i64 h = omega arith
 times-small n kinds.u64 h = omega arith
 
-up-to-4 : (n : ℕ) → is_from_2_to_4 n ≡ true → n ≤ 4
-up-to-4 n h = grind (arith, nat_tests)
-
 pub vector-size : (n far : ℕ) (t : Ty) → has_layout (vec n t) ≡ true → far ≡ size t → n * far ≡ size (vec n t)
 vector-size n far t h is =
     let both = and-both (is_from_2_to_4 n) (is_some (scalar_kind t)) (sym (or-false (has_fixed_layout (vec n t))) ∙ h) in
     let g = some-of (scalar_kind t) both.1 in
     let sized = (scalar-is t g.0 g.1).sized in
-    let few = times-small n g.0 (up-to-4 n both.0) in
+    let few = times-small n g.0 (at-most-4 n both.0) in
     ap (λ (m : ℕ). n * m) (is ∙ ap amount sized) ∙ sym (ap amount (ap (times n) sized ∙ fits (n * bytes_of g.0) few))
 
 -- what ends in such an array has no size of its own

@@ -9,7 +9,8 @@ use Rattle.wgsl_rules.specs.Values.{Step, Val, Vals, no_vals, val, item, type_of
 use Rattle.wgsl_rules.specs.Refusals.{Outcome}
 use Rattle.wgsl_rules.specs.Paths.{parts, value_at, viewed, put_tree, put_viewed, fits, FitsPlace}
 use Rattle.wgsl_rules.proofs.lemmas.Paths.{fits-Decides}
-use Rattle.wgsl_values.proofs.lemmas.Replaced.{a_part_replaced}
+use Rattle.wgsl_values.proofs.lemmas.Replaced.{a_part_replaced, part-storable, put-type}
+use Rattle.wgsl_values.proofs.lemmas.ViewedPaths.{has-path}
 use Rattle.wgsl_rules.specs.Layout.{has_fixed_layout, has_runtime_layout, has_layout, layout, layout_of, runtime_count, count_in, length_in, type_in, Layout, Parts, no_parts, part, leaves}
 use Rattle.wgsl_layout.specs.Buffers.{number_at, byte_at, buffer, decoded, decode}
 use Rattle.wgsl_layout.specs.Plan.{Plan, plan_of}
@@ -25,10 +26,9 @@ use Rattle.wgsl_layout.proofs.lemmas.Compose.{compose, laid-decodes}
 use Rattle.wgsl_layout.proofs.lemmas.Roundtrip.{lays-itself}
 use Rattle.wgsl_layout.proofs.lemmas.Leaves.{IsPaddingZero, layout-bytes-over, padding-byte}
 use Rattle.wgsl_layout.proofs.lemmas.Standing.{put-leaves, stands}
-use Rattle.wgsl_layout.proofs.lemmas.Places.{fits-count, part-storable, put-type, put-count}
+use Rattle.wgsl_layout.proofs.lemmas.Places.{fits-count, put-count}
 use Rattle.wgsl_layout.proofs.lemmas.Overwritten.{put-overwritten}
 use Rattle.wgsl_layout.proofs.lemmas.ViewPaths.{path-in-is, layout-type}
-use Rattle.wgsl_layout.proofs.lemmas.ViewedPaths.{has-path}
 
 -- ---- what bytes lay out
 

@@ -10,10 +10,11 @@ use native.Mathlib.Decide.{dec_lt}
 use mathlib.Core.Logic.{inl, inr, ◌⊎◌}
 use Rattle.wgsl_rules.specs.Kinds.{Kind, bytes_of}
 use Rattle.wgsl_rules.specs.Layout.{Layout, length_in, Leaf, under, leaves}
+use Rattle.wgsl_rules.proofs.lemmas.Tests.{inside}
 use Rattle.wgsl_layout.specs.Buffers.{covers, byte_of, byte_at, bytes_with, is_covered}
 use Rattle.wgsl_layout.specs.Ranges.{overwritten}
 use Rattle.wgsl_layout.specs.Laws.{AreInOrder}
-use Rattle.wgsl_layout.proofs.lemmas.Ranges.{IsTidy, before, behind, covered-in, leaves-order, order-bound}
+use Rattle.wgsl_layout.proofs.lemmas.Ranges.{IsTidy, before, behind, leaves-order, order-bound}
 use Rattle.wgsl_layout.specs.Walk.{number_bytes, written_leaves}
 
 -- ---- lists of leaves
@@ -90,7 +91,7 @@ leaf-byte : (f : List ℕ → ℤ) (l : Leaf) (ls : List Leaf) (to o : ℕ) (b :
     → (if is_covered ls j then byte_at f ls j else slice_index (overwritten b (o + l.offset) (number_bytes l.kind (f l.path))) (o + j))
     ≡ (if t || is_covered ls j then (if t then byte_of (f l.path) (j - l.offset) else byte_at f ls j) else slice_index b (o + j))
 leaf-byte f l ls to o b j true h le e =
-    let i = covered-in l.offset (bytes_of l.kind) j e in
+    let i = inside l.offset (bytes_of l.kind) j e in
     let few = bytes-length l.kind (f l.path) in
     let none = uncovered ls (l.offset + bytes_of l.kind) to j h i.1 in
     let here : o + j ≡ o + l.offset + (j - l.offset) = omega (arith, i.0) in

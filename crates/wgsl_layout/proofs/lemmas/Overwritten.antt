@@ -11,8 +11,9 @@ use Rattle.wgsl_layout.proofs.lemmas.Ranges.{range-is, length-bytes}
 use Rattle.wgsl_layout.proofs.lemmas.Puts.{put-overwrites}
 use Rattle.wgsl_rules.proofs.lemmas.Paths.{put-held, put-apart}
 use Rattle.wgsl_layout.proofs.lemmas.Follows.{follows, path-leads}
-use Rattle.wgsl_layout.proofs.lemmas.Places.{put-type, put-count, fits-count, part-storable}
+use Rattle.wgsl_layout.proofs.lemmas.Places.{put-count, fits-count}
 use Rattle.wgsl_layout.proofs.lemmas.Compose.{numbers-below}
+use Rattle.wgsl_values.proofs.lemmas.Replaced.{part-storable, put-type}
 
 pub put-layout : (p : List ℕ) (v w x : Val) → IsStorable w → IsStorable x → value_at p v ≡ Some x → FitsPlace w x → layout_of (put_tree p w v) ≡ layout_of v
 put-layout p v w x s t e h = ap (λ (n : ℕ). layout n (type_of (put_tree p w v))) (put-count p w v x s t e h) ∙ ap (layout (runtime_count v)) (put-type p w v x e h.0)

@@ -8,10 +8,11 @@ use native.Mathlib.Nat.{pow-suc}
 use Rattle.wgsl_rules.specs.Kinds as kinds
 use Rattle.wgsl_rules.specs.Kinds.{Kind, bytes_of, wrap}
 use Rattle.wgsl_rules.specs.Layout.{Leaf, leaves, layout_of, length_in}
+use Rattle.wgsl_rules.proofs.lemmas.Tests.{inside}
 use Rattle.wgsl_layout.specs.Buffers.{covers, byte_of, byte_at, number_at, number_from, read_number, Reads, IsReadOf, is_covered}
 use Rattle.wgsl_layout.specs.Laws.{AreBytes, AReadValueHasTheBytes}
 use Rattle.wgsl_layout.proofs.lemmas.Numbers.{next-byte}
-use Rattle.wgsl_layout.proofs.lemmas.Ranges.{alike, covered-in}
+use Rattle.wgsl_layout.proofs.lemmas.Ranges.{alike}
 use Rattle.wgsl_layout.proofs.lemmas.Decoded.{decoding-is-reading}
 
 -- ---- the bytes of a number that was read
@@ -97,7 +98,7 @@ byte-is f b (l ∷ ls) j h r = by (byte-is f b ls j h r.1) (covers l j) refl
   where
     by : byte_at f ls j ≡ (if is_covered ls j then slice_index b j else 0) → (c : Bool) → covers l j ≡ c → (if c then byte_of (f l.path) (j - l.offset) else byte_at f ls j) ≡ (if (c || is_covered ls j) then slice_index b j else 0)
     by rest true e =
-        let w = covered-in l.offset (bytes_of l.kind) j e in
+        let w = inside l.offset (bytes_of l.kind) j e in
         let lo = w.0 in let hi = w.1 in
         let d : l.offset + (j - l.offset) ≡ j = omega arith in
         ap (λ (z : ℤ). byte_of z (j - l.offset)) r.0 ∙ byte-back b l.offset l.kind (j - l.offset) h (omega arith) ∙ ap (slice_index b) d

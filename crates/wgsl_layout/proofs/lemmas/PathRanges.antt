@@ -5,8 +5,8 @@ use Rattle.wgsl_rules.specs.Paths.{viewed}
 use Rattle.wgsl_rules.specs.Values.{Step, Val, type_of, IsStorable}
 use Rattle.wgsl_layout.specs.Ranges.{Range, further, part_at, parts_in, range_in, view_range}
 use Rattle.wgsl_layout.proofs.lemmas.Follows.{follows}
-use Rattle.wgsl_layout.proofs.lemmas.ViewedPaths.{has-path}
 use Rattle.wgsl_layout.proofs.lemmas.ViewPaths.{path-in-is}
+use Rattle.wgsl_values.proofs.lemmas.ViewedPaths.{has-path}
 
 pub from-start : (o : Option Range) → option_map (further 0) o ≡ o
 from-start None = refl

@@ -1,7 +1,6 @@
 -- What is put at a path of a value: it stands there, what stands apart from it stays, and the type and the
 -- count of the whole stay.
 use Rattle.std.proofs.Common.{◌≡◌, ℕ, zero, suc, List, [], ◌∷◌, Option, Some, None, is_some, option_and_then, Bool, true, false, refl, sym, ap, ◌∙◌, subst}
-use Rattle.wgsl_values.proofs.lemmas.Steps.{item-storable, parts-storable}
 use Rattle.std.proofs.lemmas.Bool.{false≢true}
 use Rattle.std.proofs.Common.{◌⊎◌}
 use mathlib.Core.Logic.{inl, inr}
@@ -35,10 +34,6 @@ part-type i f v h = refl
 -- what is at a path below a part
 below : (p : List ℕ) (o : Option Val) (x y : Val) → option_and_then (value_at p) o ≡ Some x → o ≡ Some y → value_at p y ≡ Some x
 below p o x y e is = ap (option_and_then (value_at p)) (sym is) ∙ e
-
-pub put-type : (p : List ℕ) (w v x : Val) → value_at p v ≡ Some x → type_of w ≡ type_of x → type_of (put_tree p w v) ≡ type_of v
-put-type [] w v x e t = let same : v ≡ x = cc in t ∙ ap type_of (sym same)
-put-type (i ∷ p) w v x e t = part-type i (put_tree p w) v (λ y is. put-type p w y x (below p (item i (parts v)) x y e is) t)
 
 -- ---- the count of the whole stays
 
@@ -194,13 +189,3 @@ part-count i f v h = refl
 pub put-count : (p : List ℕ) (w v x : Val) → IsStorable w → IsStorable x → value_at p v ≡ Some x → FitsPlace w x → runtime_count (put_tree p w v) ≡ runtime_count v
 put-count [] w v x s t e h = let same : v ≡ x = cc in fits-count w x s t h ∙ ap runtime_count (sym same)
 put-count (i ∷ p) w v x s t e h = part-count i (put_tree p w) v (λ y is. put-elements p w y x (below p (item i (parts v)) x y e is) (fits-elements w x s t h))
-
--- ---- a part may be stored where the whole may
-
-pub part-storable : (p : List ℕ) (v x : Val) → IsStorable v → value_at p v ≡ Some x → IsStorable x
-part-storable [] v x s e = let same : v ≡ x = cc in subst IsStorable same s
-part-storable (i ∷ p) v x s e = by (item i (parts v)) refl e (λ y t d. part-storable p y x t d)
-  where
-    by : (o : Option Val) → item i (parts v) ≡ o → option_and_then (value_at p) o ≡ Some x → ((y : Val) → IsStorable y → value_at p y ≡ Some x → IsStorable x) → IsStorable x
-    by None is e on = absurd (cc)
-    by (Some y) is e on = on y (item-storable i (parts v) y (parts-storable v s) is) e

@@ -1,5 +1,5 @@
 -- A fixed layout has a size of one byte at least, and so has the stride of a runtime-sized array.
-use Rattle.std.proofs.Common.{◌≡◌, ℕ, ◌*◌, ◌<◌, ◌≤◌, [], Option, Some, None, is_some, Bool, true, false, refl, sym, ap, ◌∙◌, subst, arith}
+use Rattle.std.proofs.Common.{◌≡◌, ℕ, ◌<◌, ◌≤◌, [], Option, Some, None, is_some, Bool, true, false, refl, sym, ap, ◌∙◌, subst, arith}
 use Rattle.std.specs.Prelude.{◌||◌, MatchOption, ⊤}
 use Rattle.std.proofs.lemmas.Bool.{false≢true}
 use Rattle.std.proofs.lemmas.Bool.Decides.{nat_tests}
@@ -10,12 +10,10 @@ use Rattle.wgsl_rules.specs.Types as types
 use Rattle.wgsl_rules.specs.Types.{Ty, struct, array, vec, mat, atomic, Fields, no_fields, field}
 use Rattle.wgsl_rules.specs.Size.{size_of, align_of, round_up, offset_after, end_after, end_of_members, extents, struct_align, extent_in}
 use Rattle.wgsl_rules.specs.Layout.{amount, size, known_stride, stride, scalar_kind, is_from_2_to_4, has_fixed_layout, have_fixed_layouts, is_runtime_array, end_in_runtime_array, has_runtime_layout, has_layout, Tail, tail_at, tail_of, last_tail, length_in, layout}
-use Rattle.wgsl_rules.proofs.lemmas.Known.{and-both, some-of, both-known, times-known, rounded-known, stride-known, end-known, ends-known, end-later}
+use Rattle.wgsl_rules.proofs.lemmas.Known.{and-both, some-of, both-known, times-known, rounded-known, stride-known, end-known, ends-known, end-later, unaligned}
+use Rattle.wgsl_rules.proofs.lemmas.Tests.{product}
 use Rattle.wgsl_layout.proofs.lemmas.Fixed.{first-fixed, fixed-array, fixed-mat, last-runtime}
 use Rattle.wgsl_layout.proofs.lemmas.Tidy.{scalar-is, vector-is, attribute-holds, fixed-length, fixed-tidy}
-
-product : (a b : ℕ) → 1 ≤ a → 1 ≤ b → 1 ≤ a * b
-product a b h k = grind arith
 
 kind-bytes : (k : Kind) → 1 ≤ bytes_of k
 kind-bytes kinds.abstract_int = omega arith
@@ -37,9 +35,6 @@ vector-positive n k t s ck ct e =
     let p = product k m.0 (from-2 k ck) (omega arith) in
     let eq = m.2 in
     omega arith
-
-nothing : (b s : ℕ) → round_up 0 b ≡ Some s → ⊥
-nothing b s f = cc
 
 fixed-known : (t : Ty) → has_fixed_layout t ≡ true → (s : ℕ) × (size_of t ≡ Some s)
 fixed-known t h = let g = fixed-tidy t 0 h in (length_in (layout 0 t), g.1)
@@ -76,7 +71,7 @@ positive (array t None) s h e = absurd (false≢true h)
 positive (struct name no_fields) s h e =
     let b = both-known round_up (struct_align []) (end_of_members (Some 0) []) s e in
     let zero : 0 ≡ b.0 = same_Some 0 b.0 b.2 in
-    absurd (nothing b.1 s (rw (← zero) at b.4))
+    absurd (unaligned b.1 s (rw (← zero) at b.4))
 positive (struct name (field n t sz a fs)) s h e =
     let both = and-both (have_fixed_layouts (field n t sz a fs)) (is_some (size_of (struct name (field n t sz a fs)))) h in
     let made = first-fixed t sz a (have_fixed_layouts fs) both.0 in

@@ -1,6 +1,6 @@
 -- Parts in order: what stands where in the bytes of a layout. One induction over layouts serves each sort of
 -- composite.
-use Rattle.std.proofs.Common.{◌≡◌, ℕ, zero, suc, ◌+◌, ◌-◌, ◌<◌, ◌≤◌, ℤ, List, [], ◌∷◌, ◌++◌, map, length, take, drop, Option, Some, None, option_map, option_and_then, true, false, cond, refl, ap, ◌∙◌, subst, arith}
+use Rattle.std.proofs.Common.{◌≡◌, ℕ, zero, suc, ◌+◌, ◌-◌, ◌<◌, ◌≤◌, ℤ, List, [], ◌∷◌, ◌++◌, map, length, take, drop, Option, Some, None, option_map, option_and_then, false, cond, refl, ap, ◌∙◌, subst, arith}
 use Rattle.std.proofs.lemmas.Bool.Decides.{nat_tests}
 use Rattle.std.specs.Prelude.{nat_le, nat_lt, ◌&&◌}
 use Rattle.std.specs.List.{range_with_len}
@@ -63,9 +63,6 @@ before o n j h = grind (arith, nat_tests)
 
 pub behind : (o n j : ℕ) → o + n ≤ j → (nat_le o j && nat_lt j (o + n)) ≡ false
 behind o n j h = grind (arith, nat_tests)
-
-pub covered-in : (o n j : ℕ) → (nat_le o j && nat_lt j (o + n)) ≡ true → (o ≤ j) × (j < o + n)
-covered-in o n j h = (grind (arith, nat_tests), grind (arith, nat_tests))
 
 moved : (p o n j : ℕ) → (nat_le (o + p) (o + j) && nat_lt (o + j) (o + p + n)) ≡ (nat_le p j && nat_lt j (p + n))
 moved p o n j = grind (arith, nat_tests)

@@ -1,14 +1,11 @@
-use Rattle.std.proofs.Common.{◌≡◌, ◌∙◌, ◌+◌, Bool, Option, List, ℕ, is_some, drop, ap, sym, subst, string_bytes}
+use Rattle.std.proofs.Common.{◌≡◌, ◌∙◌, ◌+◌, Bool, Option, ℕ, is_some, drop, ap}
 use Rattle.std.specs.Prelude.{◌&&◌}
 use Rattle.wgsl_rules.specs.Layout.{is_fixed_member, is_runtime_member, have_fixed_layouts}
 use Rattle.wgsl_rules.specs.Types.{Ty}
 use Rattle.wgsl_rules.specs.Size.{Extent, extents, extent_of, end_of_members, greatest_align, end_after, offset_after, align_after}
-use Rattle.wgsl_rules.specs.Measures.{AreMeasuresOf, AreMeasuresOfMember}
-use Rattle.wgsl_rules.specs.View.{Field, type_view, member_view, members_view}
-use Rattle.wgsl_rules.specs.declared.measures.Measures.{Measures}
+use Rattle.wgsl_rules.specs.View.{member_view, members_view}
 use Rattle.wgsl_rules.specs.declared.ty.StructMemberType.{StructMemberType}
-use Rattle.wgsl_rules.proofs.lemmas.Members.{next, ends}
-use Rattle.wgsl_rules.proofs.lemmas.Views.{member_view-is}
+use Rattle.wgsl_rules.proofs.lemmas.Members.{next, ends, of-member}
 use Rattle.wgsl_rules.proofs.+measures.Goals as goal
 
 pub measures::measure_members-loop-member-preserved : goal.measures::measure_members-loop-member-preserved
@@ -37,12 +34,6 @@ measures::measure_members-loop-member-preserved t c =
           ∙ ap (λ (o : Option ℕ). ends (l.so_far.are_fixed && (is_runtime_member f && is_some (offset_after l.so_far.end (extent_of f)))) (l.so_far.are_fixed && is_fixed_member f) o fs) end
           ∙ n.runtime l.so_far.end_in_runtime_array l.so_far.are_fixed l.so_far.end ∙ l.invariant.runtime;
     }
-
--- the measures of a type, with the attributes of a member
-of-member : (x : StructMemberType) (own all : Measures) → AreMeasuresOf (type_view x.ty) own
-    → ((n : List ℕ) (t : Ty) → AreMeasuresOf t own → AreMeasuresOfMember (record { name = n; ty = t; size = x.size; align = x.align }) all)
-    → AreMeasuresOfMember (member_view x) all
-of-member x own all is next = subst (λ (f : Field). AreMeasuresOfMember f all) (sym (member_view-is x)) (next (string_bytes x.name) (type_view x.ty) is)
 
 pub ty::StructMemberType::measures-returns-clause-size : goal.ty::StructMemberType::measures-returns-clause-size
 ty::StructMemberType::measures-returns-clause-size t c =

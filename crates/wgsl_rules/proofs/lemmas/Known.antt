@@ -52,6 +52,10 @@ rounded-known align n m e = by (nat_lt 0 align) refl e
         record { positive = positive; is = same; later = omega arith; fits = omega arith }
     by false is e = absurd (cc)
 
+-- nothing is rounded up to 0
+pub unaligned : (b s : ℕ) → round_up 0 b ≡ Some s → ⊥
+unaligned b s f = cc
+
 -- a stride is known where the size is, and is no less
 pub stride-known : (align size : Option ℕ) (k : ℕ) → stride_of align size ≡ Some k → (s : ℕ) × (size ≡ Some s) × (s ≤ k)
 stride-known align size k e = let h = both-known round_up align size k e in (h.1, h.3, (rounded-known h.0 h.1 k h.4).later)

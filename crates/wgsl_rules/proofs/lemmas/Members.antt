@@ -1,11 +1,14 @@
 -- What is known of the members of a struct, member by member.
-use Rattle.std.proofs.Common.{◌≡◌, ◌+◌, ◌<◌, ℕ, List, length, get_or, drop, Option, is_some, Bool, true, false, refl, sym, ap, ◌∙◌, add-one, drop-cons}
+use Rattle.std.proofs.Common.{◌≡◌, ◌+◌, ◌<◌, ℕ, List, length, get_or, drop, Option, is_some, Bool, true, false, refl, sym, ap, ◌∙◌, add-one, drop-cons, subst, string_bytes}
 use Rattle.std.specs.Prelude.{◌&&◌}
-use Rattle.wgsl_rules.specs.Types.{Fields, no_fields, field}
+use Rattle.wgsl_rules.specs.Types.{Fields, no_fields, field, Ty}
 use Rattle.wgsl_rules.specs.Size.{extents, extent_of, offset_after, end_after, end_of_members, align_after, greatest_align}
 use Rattle.wgsl_rules.specs.Layout.{have_fixed_layouts, is_fixed_member, is_runtime_member, end_in_runtime_array}
-use Rattle.wgsl_rules.specs.View.{Field, member_view, members_view}
+use Rattle.wgsl_rules.specs.View.{Field, member_view, members_view, type_view}
 use Rattle.wgsl_rules.specs.declared.ty.StructMemberType.{StructMemberType}
+use Rattle.wgsl_rules.specs.Measures.{AreMeasuresOf, AreMeasuresOfMember}
+use Rattle.wgsl_rules.specs.declared.measures.Measures.{Measures}
+use Rattle.wgsl_rules.proofs.lemmas.Views.{member_view-is}
 
 abbrev pub first : Field → Fields → Fields
 first f fs = field f.name f.ty f.size f.align fs
@@ -49,3 +52,9 @@ next ms i m h e =
       fixed = λ fixed. sym (ap (λ (fs : Fields). fixed && have_fixed_layouts fs) is ∙ fixed-first fixed (member_view m) (members_view (drop (i + 1) ms)));
       runtime = λ runtime fixed from. sym (ap (ends runtime fixed from) is ∙ ends-first runtime fixed from (member_view m) (members_view (drop (i + 1) ms)));
     }
+
+-- the measures of a type, with the attributes of a member
+pub of-member : (x : StructMemberType) (own all : Measures) → AreMeasuresOf (type_view x.ty) own
+    → ((n : List ℕ) (t : Ty) → AreMeasuresOf t own → AreMeasuresOfMember (record { name = n; ty = t; size = x.size; align = x.align }) all)
+    → AreMeasuresOfMember (member_view x) all
+of-member x own all is next = subst (λ (f : Field). AreMeasuresOfMember f all) (sym (member_view-is x)) (next (string_bytes x.name) (type_view x.ty) is)

@@ -1,7 +1,7 @@
 -- What each case of a type stands for, and what a type is that is none of a case.
-use Rattle.std.proofs.Common.{◌≡◌, ℕ, List, Option, refl, rules, string_bytes, Box, Global}
+use Rattle.std.proofs.Common.{◌≡◌, ℕ, List, Option, refl, rules, string_bytes, Box, Global, ap}
 use Rattle.wgsl_rules.specs.Types.{Ty, bool, abstract_int, abstract_float, i32, u32, f32, f16, i64, u64, f64, struct, array, vec, mat, atomic, ptr, ref, texture, sampler, Fields}
-use Rattle.wgsl_rules.specs.View.{type_view, struct_view, member_view, members_view}
+use Rattle.wgsl_rules.specs.View.{type_view, struct_view, member_view, members_view, Field}
 use Rattle.wgsl_rules.specs.declared.syntax.AddressSpace.{AddressSpace}
 use Rattle.wgsl_rules.specs.declared.syntax.AccessMode.{AccessMode}
 use Rattle.wgsl_rules.specs.declared.syntax.TextureType.{TextureType}
@@ -49,6 +49,9 @@ struct_view-is s = search (rules, the_lemmas)
 
 pub member_view-is : (m : StructMemberType) → member_view m ≡ record { name = string_bytes (out-StructMemberType m).name; ty = type_view (out-StructMemberType m).ty; size = (out-StructMemberType m).size; align = (out-StructMemberType m).align }
 member_view-is m = search (rules, the_lemmas)
+
+pub member-type : (m : StructMemberType) → (member_view m).ty ≡ type_view m.ty
+member-type m = ap (λ (f : Field). f.ty) (member_view-is m)
 
 pub view-Array : (t : Box RType Global) (n : Option ℕ) → type_view (ty.Array t n) ≡ array (type_view t.value) n
 view-Array t n = search (rules, the_lemmas)

@@ -7,15 +7,15 @@ use Rattle.wgsl_rules.specs.Refusals.{not_read, Outcome, and_then}
 use Rattle.wgsl_rules.specs.Values.{Reference, Val, Vals, no_vals, val, item, type_of, IsStorable}
 use Rattle.wgsl_rules.proofs.lemmas.Paths.{fits-Decides}
 use Rattle.wgsl_rules.proofs.lemmas.Slices.{slice_get-append}
-use Rattle.wgsl_values.proofs.lemmas.Replaced.{a_part_replaced}
+use Rattle.wgsl_values.proofs.lemmas.Replaced.{a_part_replaced, part-storable}
 use Rattle.wgsl_values.proofs.lemmas.Steps.{viewed-storable}
+use Rattle.wgsl_values.proofs.lemmas.ViewedPaths.{has-path}
 use Rattle.wgsl_store.specs.Memory.{held, IsSound, put_cells}
 use Rattle.wgsl_store.specs.MemoryLaws.{ANewCellKeepsLayouts, AWriteKeepsLayouts, KeepsLayouts, layout_held}
 use Rattle.wgsl_layout.proofs.lemmas.Alike.{AreLike, IsLike, fits-like, like-both, put-like}
-use Rattle.wgsl_layout.proofs.lemmas.ViewedPaths.{has-path}
 use Rattle.wgsl_store.proofs.lemmas.Held.{HasCell, Kept, has-cell, held-value, kept-is, sound-at}
 use Rattle.wgsl_layout.proofs.lemmas.LikeViews.{view-like}
-use Rattle.wgsl_layout.proofs.lemmas.Places.{fits-count, part-storable}
+use Rattle.wgsl_layout.proofs.lemmas.Places.{fits-count}
 use Rattle.wgsl_store.proofs.lemmas.Sound.{at-there}
 use Rattle.wgsl_store.proofs.lemmas.Writes.{write-is}
 

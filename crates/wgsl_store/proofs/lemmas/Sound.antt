@@ -11,14 +11,13 @@ use Rattle.wgsl_rules.specs.Refusals.{Refusal, not_read, write_ref_type, Outcome
 use Rattle.wgsl_rules.specs.Paths.{parts, stepped, viewed, replace_item, with_parts, put_tree, put_viewed, fits, FitsPlace}
 use Rattle.wgsl_rules.proofs.lemmas.Paths.{fits-Decides}
 use Rattle.wgsl_rules.proofs.lemmas.Slices.{slice_get-append}
-use Rattle.wgsl_values.proofs.lemmas.Replaced.{a_part_replaced}
+use Rattle.wgsl_values.proofs.lemmas.Replaced.{a_part_replaced, part-storable}
+use Rattle.wgsl_values.proofs.lemmas.ViewedPaths.{has-path}
 use Rattle.wgsl_store.specs.Memory.{held, IsKept, AllKept, references, references_in, HoldsValue, IsContent, AreContents, IsSound, at_position, put_cells}
 use Rattle.wgsl_store.specs.ReferenceCalls.{going_on, read, deeper, old_value, read_on, load, loaded, whole_of_new}
 use Rattle.wgsl_store.specs.MemoryLaws.{StaysKept, ANewCellKeepsReferences}
-use Rattle.wgsl_layout.proofs.lemmas.Places.{part-storable}
 use Rattle.wgsl_layout.proofs.lemmas.Alike.{IsLike, put-like, fits-like}
 use Rattle.wgsl_layout.proofs.lemmas.LikeViews.{view-like}
-use Rattle.wgsl_layout.proofs.lemmas.ViewedPaths.{has-path}
 use Rattle.wgsl_store.proofs.lemmas.Held.{has-cell, sound-at, Kept, kept-of, kept-is, kept-first, kept-second, kept-parts, kept-item, held-value}
 
 -- ---- references that are kept

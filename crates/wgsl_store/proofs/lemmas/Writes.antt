@@ -2,17 +2,18 @@
 -- write stands.
 use Rattle.std.proofs.Common.{◌≡◌, ℕ, zero, suc, List, [], ◌∷◌, slice_get, Option, Some, is_some, option_and_then, Ok, Err, Bool, true, false, if◌then◌else◌, refl, sym, ap, ◌∙◌, subst}
 use Rattle.wgsl_rules.specs.Access.{can_read, can_write}
-use Rattle.wgsl_rules.specs.Values.{Reference, Val, record_of, array_of, vector, matrix, Vals, no_vals, val, item, type_of, IsStorable}
+use Rattle.wgsl_rules.specs.Values.{Reference, Val, Vals, no_vals, val, item, type_of, IsStorable}
 use Rattle.wgsl_rules.specs.Refusals.{not_read, not_write, write_ref_type, Outcome, and_then}
 use Rattle.wgsl_rules.specs.Paths.{parts, value_at, path_of, viewed, replace_item, with_parts, put_tree, put_viewed, fits, or_refused, FitsPlace}
 use Rattle.wgsl_rules.proofs.lemmas.Paths.{fits-Decides, put-held}
 use Rattle.wgsl_values.proofs.lemmas.PutTwice.{put-twice}
-use Rattle.wgsl_values.proofs.lemmas.Replaced.{a_part_replaced}
+use Rattle.wgsl_values.proofs.lemmas.Replaced.{a_part_replaced, part-storable}
+use Rattle.wgsl_values.proofs.lemmas.Steps.{with_parts-own}
+use Rattle.wgsl_values.proofs.lemmas.ViewedPaths.{has-path}
 use Rattle.wgsl_store.specs.Memory.{held, IsSound, at_position, put_cells}
 use Rattle.wgsl_store.specs.ReferenceCalls.{read, old_value, written}
 use Rattle.wgsl_store.specs.MemoryLaws.{StaysKept, AWriteKeepsReferences, AWriteIsRead, AReadIsWrittenBack, TheLastWriteStands}
-use Rattle.wgsl_layout.proofs.lemmas.Places.{part-storable}
-use Rattle.wgsl_layout.proofs.lemmas.ViewedPaths.{has-path, leads-to}
+use Rattle.wgsl_layout.proofs.lemmas.ViewedPaths.{leads-to}
 use Rattle.wgsl_store.proofs.lemmas.Held.{has-cell, sound-at}
 use Rattle.wgsl_layout.proofs.lemmas.Alike.{put-like, fits-like}
 use Rattle.wgsl_layout.proofs.lemmas.LikeViews.{path-like}
@@ -92,17 +93,10 @@ replaced-own i f no_vals h = refl
 replaced-own zero f (val v vs) h = ap (λ (u : Val). val u vs) (h v refl)
 replaced-own (suc i) f (val v vs) h = ap (val v) (replaced-own i f vs h)
 
-pub own-parts : (v : Val) → with_parts v (parts v) ≡ v
-own-parts (record_of t vs) = refl
-own-parts (array_of runtime vs) = refl
-own-parts (vector vs) = refl
-own-parts (matrix vs) = refl
-own-parts v = refl
-
 pub put-own : (p : List ℕ) (x v : Val) → value_at p v ≡ Some x → put_tree p x v ≡ v
 put-own [] x v e = cc
 put-own (i ∷ p) x v e =
-    ap (with_parts v) (replaced-own i (put_tree p x) (parts v) (λ y is. put-own p x y (ap (option_and_then (value_at p)) (sym is) ∙ e))) ∙ own-parts v
+    ap (with_parts v) (replaced-own i (put_tree p x) (parts v) (λ y is. put-own p x y (ap (option_and_then (value_at p)) (sym is) ∙ e))) ∙ with_parts-own v
 
 at-same : (cells : List Val) (i : ℕ) (g : Val → Val) → ((x : Val) → slice_get cells i ≡ Some x → g x ≡ x) → at_position i g cells ≡ cells
 at-same [] i g h = refl

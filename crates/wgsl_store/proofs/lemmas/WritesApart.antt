@@ -9,12 +9,12 @@ use Rattle.wgsl_rules.specs.Refusals.{not_read, not_write, write_ref_type, Outco
 use Rattle.wgsl_rules.specs.Paths.{parts, value_at, path_of, viewed, replace_item, with_parts, put_tree, put_viewed, fits, FitsPlace, or_refused}
 use Rattle.wgsl_rules.specs.Laws.{Apart}
 use Rattle.wgsl_rules.proofs.lemmas.Paths.{fits-Decides, put-apart, apart-on}
-use Rattle.wgsl_values.proofs.lemmas.Replaced.{a_part_replaced}
+use Rattle.wgsl_values.proofs.lemmas.Replaced.{a_part_replaced, part-storable}
+use Rattle.wgsl_values.proofs.lemmas.ViewedPaths.{has-path}
 use Rattle.wgsl_store.specs.Memory.{held, IsKept, IsSound, at_position, put_cells}
 use Rattle.wgsl_store.specs.ReferenceCalls.{written}
 use Rattle.wgsl_store.specs.MemoryLaws.{AreApart, WritesApartCommute}
-use Rattle.wgsl_layout.proofs.lemmas.Places.{part-storable}
-use Rattle.wgsl_layout.proofs.lemmas.ViewedPaths.{has-path, leads-to}
+use Rattle.wgsl_layout.proofs.lemmas.ViewedPaths.{leads-to}
 use Rattle.wgsl_store.proofs.lemmas.Held.{has-cell, sound-at, kept-is}
 use Rattle.wgsl_layout.proofs.lemmas.Alike.{put-like, fits-like}
 use Rattle.wgsl_layout.proofs.lemmas.LikeViews.{path-like}

@@ -1,12 +1,9 @@
-use Rattle.std.proofs.Common.{◌≡◌, ◌≢◌, suc, List, [], ◌∷◌, length, Bool, true, false, ◌&&◌, refl, ap}
+use Rattle.std.proofs.Common.{◌≡◌, ◌≢◌, suc, List, [], ◌∷◌, length, true, false, refl, ap}
 use Rattle.wgsl_values.specs.Same.{same_value, same_values}
 use Rattle.wgsl_values.specs.View.{value_of, vals_view}
 use Rattle.wgsl_values.specs.declared.instance.Instance.{Instance}
 use Rattle.wgsl_values.proofs.+same.Goals as goal
-
-and_false : (a b : Bool) → false ≡ b → false ≡ (a && b)
-and_false true b h = h
-and_false false b h = refl
+use Rattle.wgsl_rules.proofs.lemmas.Tests.{and_false}
 
 same_values-lengths : (a b : List Instance) → length a ≢ length b → false ≡ same_values (vals_view a) (vals_view b)
 same_values-lengths [] [] h = absurd (h refl)

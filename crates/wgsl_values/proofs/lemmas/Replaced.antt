@@ -204,21 +204,21 @@ typed-behind i p v w x again None f is = absurd (cc)
 typed-behind i p v w x again (Some y) f is = rw (put_tree-step i p w v y is) (one-typed i v (put_tree p w y) y is (again y f))
 
 -- a value with another of the part's type in its place is of the type that it was of
-part-typed : (p : List ℕ) (v w x : Val) → value_at p v ≡ Some x → type_of w ≡ type_of x → type_of (put_tree p w v) ≡ type_of v
-part-typed [] v w x e t = let same : v ≡ x = cc in t ∙ ap type_of (sym same)
-part-typed (i ∷ p) v w x e t = typed-behind i p v w x (λ y f. part-typed p y w x f t) (item i (parts v)) e refl
+pub put-type : (p : List ℕ) (w v x : Val) → value_at p v ≡ Some x → type_of w ≡ type_of x → type_of (put_tree p w v) ≡ type_of v
+put-type [] w v x e t = let same : v ≡ x = cc in t ∙ ap type_of (sym same)
+put-type (i ∷ p) w v x e t = typed-behind i p v w x (λ y f. put-type p w y x f t) (item i (parts v)) e refl
 
 -- and what it was else, where the other may be stored
 pub part-kept : (p : List ℕ) (v w x : Val) → value_at p v ≡ Some x → IsStorable w → type_of w ≡ type_of x → IsKept (put_tree p w v) v
 part-kept [] v w x e s t = record {
   well_formed = λ h. storable-well_formed w s;
   storable = λ h. s;
-  ty = part-typed [] v w x e t;
+  ty = put-type [] w v x e t;
 }
 part-kept (i ∷ p) v w x e s t = record {
   well_formed = λ h. storable-well_formed (put_tree (i ∷ p) w v) (a_part_replaced (i ∷ p) v w x (whole-storable p i v x e h) e s t).storable;
   storable = λ h. (a_part_replaced (i ∷ p) v w x h e s t).storable;
-  ty = part-typed (i ∷ p) v w x e t;
+  ty = put-type (i ∷ p) w v x e t;
 }
 
 storable-behind : (p : List ℕ) (x : Val) (o : Option Val) → ((y : Val) → value_at p y ≡ Some x → IsStorable y → IsStorable x) → ((y : Val) → o ≡ Some y → IsStorable y)
@@ -226,16 +226,16 @@ storable-behind : (p : List ℕ) (x : Val) (o : Option Val) → ((y : Val) → v
 storable-behind p x None again h e = absurd (cc)
 storable-behind p x (Some y) again h e = again y e (h y refl)
 
-part-storable : (p : List ℕ) (v x : Val) → value_at p v ≡ Some x → IsStorable v → IsStorable x
-part-storable [] v x e h = let same : v ≡ x = cc in subst IsStorable same h
-part-storable (i ∷ p) v x e h = storable-behind p x (item i (parts v)) (λ y f k. part-storable p y x f k) (λ y is. item-storable i (parts v) y (parts-storable v h) is) e
+pub part-storable : (p : List ℕ) (v x : Val) → IsStorable v → value_at p v ≡ Some x → IsStorable x
+part-storable [] v x h e = let same : v ≡ x = cc in subst IsStorable same h
+part-storable (i ∷ p) v x h e = storable-behind p x (item i (parts v)) (λ y f k. part-storable p y x k f) (λ y is. item-storable i (parts v) y (parts-storable v h) is) e
 
 -- a part is as sound as the whole
 pub part-sound : (p : List ℕ) (v x : Val) → value_at p v ≡ Some x → IsAsSound x v
-part-sound [] v x e = let same : v ≡ x = cc in record { well_formed = λ h. subst IsWellFormed same h; storable = part-storable [] v x e }
+part-sound [] v x e = let same : v ≡ x = cc in record { well_formed = λ h. subst IsWellFormed same h; storable = λ h. part-storable [] v x h e }
 part-sound (i ∷ p) v x e = record {
-  well_formed = λ h. storable-well_formed x (part-storable (i ∷ p) v x e (whole-storable p i v x e h));
-  storable = part-storable (i ∷ p) v x e;
+  well_formed = λ h. storable-well_formed x (part-storable (i ∷ p) v x (whole-storable p i v x e h) e);
+  storable = λ h. part-storable (i ∷ p) v x h e;
 }
 
 -- ---- what an atomic holds

@@ -44,7 +44,7 @@ replace_item-own i no_vals v e = refl
 replace_item-own zero (val w ws) v e = let same : w ≡ v = cc in rw same refl
 replace_item-own (suc i) (val w ws) v e = ap (val w) (replace_item-own i ws v e)
 
-with_parts-own : (v : Val) → with_parts v (parts v) ≡ v
+pub with_parts-own : (v : Val) → with_parts v (parts v) ≡ v
 with_parts-own (record_of t vs) = refl
 with_parts-own (array_of runtime vs) = refl
 with_parts-own (vector vs) = refl

@@ -4,11 +4,11 @@ use Rattle.std.proofs.lemmas.List.{drop_all}
 use Rattle.wgsl_interface.specs.Natures.{IsNatureOf}
 use Rattle.wgsl_interface.specs.Plain.{are_plain, are_sized, are_concrete}
 use Rattle.wgsl_interface.specs.Shared.{are_constructible, are_host_shareable, have_atomic}
-use Rattle.wgsl_interface.proofs.Members.{next, none-from, none-of, at_end, or_at_end, ty-of}
+use Rattle.wgsl_interface.proofs.Members.{next, none-from, none-of, at_end, or_at_end}
 use Rattle.wgsl_rules.specs.Types.{Ty, Fields, no_fields}
 use Rattle.wgsl_rules.specs.Layout.{have_none}
 use Rattle.wgsl_rules.specs.View.{member_view, members_view}
-use Rattle.wgsl_rules.proofs.lemmas.Views.{struct_view-is}
+use Rattle.wgsl_rules.proofs.lemmas.Views.{struct_view-is, member-type}
 use Rattle.wgsl_rules.proofs.lemmas.Members.{fields-from}
 use Rattle.wgsl_interface.proofs.nature.+natures.Goals as goal
 
@@ -19,7 +19,7 @@ nature_of_members-loop-i-preserved t c =
     let m = c.index-members-i.result in
     let fs = members_view (drop (l.i + 1) ms) in
     let is = fields-from ms l.i m c.loop-i-test.true c.index-members-i.is in
-    let of : IsNatureOf (member_view m).ty c.nature_of.result = subst (λ (t : Ty). IsNatureOf t c.nature_of.result) (sym (ty-of m)) c.nature_of.ensures in
+    let of : IsNatureOf (member_view m).ty c.nature_of.result = subst (λ (t : Ty). IsNatureOf t c.nature_of.result) (sym (member-type m)) c.nature_of.ensures in
     let n = next (member_view m) fs (l.i + 1 == length ms) c.nature_of.result of (none-from ms l.i c.loop-i-test.true) in
     let with = c.with_member-all.ensures in
     record {

@@ -1,17 +1,18 @@
 use Rattle.std.proofs.Common.{rules, ◌<◌, get_or, length, map, Ok, Err, Some, refl, sym, ap, ◌∙◌, arith}
 use Rattle.std.proofs.lemmas.List.{length-set}
-use Rattle.wgsl_ops.proofs.Answering.{item_literal, item-got}
+use Rattle.wgsl_ops.proofs.Answering.{item-got}
 use Rattle.wgsl_ops.proofs.InPlace.{refused_at, so_far_set, so_far_taken}
 use Rattle.wgsl_ops.specs.Closures.{AnswersAt, Refused}
 use Rattle.wgsl_scalar.specs.Literals.{literal_of}
 use Rattle.wgsl_values.specs.View.{value_of}
+use Rattle.wgsl_values.proofs.Conversions.{item-literal}
 use Rattle.wgsl_ops.proofs.in_place.answer_into.Goals as goal
 
 pub loop-i-init : goal.loop-i-init
 loop-i-init g c = record { so_far = record { answered = λ ys a. a; refused = λ e a. a }; long = omega arith }
 
 pub unwrap_literal_ref-requires : goal.unwrap_literal_ref-requires
-unwrap_literal_ref-requires g c = rw c.index-values-i.is (item_literal c.args.values.now c.loop-i.i c.index-values-i.result c.loop-i-test.true c.requires.literals)
+unwrap_literal_ref-requires g c = rw c.index-values-i.is (item-literal c.args.values.now c.loop-i.i c.index-values-i.result c.loop-i-test.true c.requires.literals)
 
 pub f-requires : goal.f-requires
 f-requires g c =

@@ -1,22 +1,23 @@
 use Rattle.std.proofs.Common.{rules, ◌<◌, get_or, length, map, Ok, Err, Some, refl, sym, ap, ap₂, ◌∙◌, arith}
 use Rattle.std.proofs.lemmas.List.{length-set}
 use Rattle.std.specs.List.{zip}
-use Rattle.wgsl_ops.proofs.Answering.{item_literal, pair-got}
+use Rattle.wgsl_ops.proofs.Answering.{pair-got}
 use Rattle.wgsl_ops.proofs.InPlace.{pairs_refused_at, pairs_set, pairs_taken}
 use Rattle.wgsl_ops.specs.Closures.{AnswersAtPair, Refused}
 use Rattle.wgsl_rules.specs.Values.{Val}
 use Rattle.wgsl_scalar.specs.Literals.{literal_of}
 use Rattle.wgsl_values.specs.View.{value_of}
+use Rattle.wgsl_values.proofs.Conversions.{item-literal}
 use Rattle.wgsl_ops.proofs.in_place.answer_pairs_into.Goals as goal
 
 pub loop-i-init : goal.loop-i-init
 loop-i-init g c = record { so_far = record { answered = λ ys a. a; refused = λ e a. a }; long = omega arith }
 
 pub unwrap_literal_ref-requires : goal.unwrap_literal_ref-requires
-unwrap_literal_ref-requires g c = rw c.index-left-i.is (item_literal c.args.left.now c.loop-i.i c.index-left-i.result c.loop-i-test.true c.requires.left)
+unwrap_literal_ref-requires g c = rw c.index-left-i.is (item-literal c.args.left.now c.loop-i.i c.index-left-i.result c.loop-i-test.true c.requires.left)
 
 pub unwrap_literal_ref-requires-in-loop-i : goal.unwrap_literal_ref-requires-in-loop-i
-unwrap_literal_ref-requires-in-loop-i g c = rw c.index-right-i.is (item_literal c.args.right.now c.loop-i.i c.index-right-i.result (omega arith) c.requires.right)
+unwrap_literal_ref-requires-in-loop-i g c = rw c.index-right-i.is (item-literal c.args.right.now c.loop-i.i c.index-right-i.result (omega arith) c.requires.right)
 
 pub f-requires : goal.f-requires
 f-requires g c =

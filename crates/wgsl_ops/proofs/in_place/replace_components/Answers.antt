@@ -5,7 +5,8 @@ use Rattle.wgsl_scalar.specs.Literals.{literal_of}
 use Rattle.wgsl_values.specs.Iterators.{listed}
 use Rattle.wgsl_values.specs.View.{vals_of, vec_view}
 use Rattle.wgsl_values.specs.Written.{with_part}
-use Rattle.wgsl_ops.proofs.InPlace.{length-listed, storable-next, written-all, written-count, written-next, written-none}
+use Rattle.wgsl_values.proofs.Listed.{length-listed}
+use Rattle.wgsl_ops.proofs.InPlace.{storable-next, written-all, written-count, written-next, written-none}
 use Rattle.wgsl_ops.proofs.in_place.replace_components.Goals as goal
 
 pub loop-i-init : goal.loop-i-init

@@ -1,5 +1,5 @@
 -- The arms for other types, and members of two counts.
-use Rattle.std.proofs.Common.{◌≡◌, ◌≢◌, ℕ, suc, List, [], ◌∷◌, length, Option, Bool, true, false, ◌&&◌, refl, ap}
+use Rattle.std.proofs.Common.{◌≡◌, ◌≢◌, ℕ, suc, List, [], ◌∷◌, length, Option, true, false, refl, ap}
 use Rattle.wgsl_rules.specs.Types.{Ty, struct, array, vec, mat, atomic, ptr, ref, texture, sampler, Fields}
 use Rattle.wgsl_rules.specs.View.{members_view, member_view}
 use Rattle.wgsl_rules.specs.Same.{same, same_fields, same_field}
@@ -10,10 +10,7 @@ use Rattle.wgsl_rules.specs.declared.syntax.SamplerType.{SamplerType}
 use Rattle.wgsl_rules.specs.declared.ty.StructMemberType.{StructMemberType}
 use Rattle.wgsl_rules.proofs.lemmas.Views.{views, not-Struct, not-Array, not-Vec, not-Mat, not-Atomic, not-Ptr, not-Ref, not-Texture, not-Sampler}
 use Rattle.wgsl_rules.proofs.eq.+same.Goals as goal
-
-and_false : (a b : Bool) → false ≡ b → false ≡ (a && b)
-and_false true b h = h
-and_false false b h = refl
+use Rattle.wgsl_rules.proofs.lemmas.Tests.{and_false}
 
 same-not_struct : (name : List ℕ) (fs : Fields) (u : Ty) → ((name : List ℕ) (fs : Fields) → u ≡ struct name fs → ⊥) → false ≡ same (struct name fs) u
 same-not_struct name fs (struct name₁ fs₁) h = absurd (h name₁ fs₁ refl)

@@ -1,7 +1,8 @@
-use Rattle.std.proofs.Common.{◌≡◌, ◌∙◌, [], length, ap, sym, rules}
+use Rattle.std.proofs.Common.{◌≡◌, ◌∙◌, [], length, ap, sym}
 use Rattle.wgsl_rules.specs.Layout.{has_layout}
 use Rattle.wgsl_values.specs.View.{steps_of}
-use Rattle.wgsl_values.specs.declared.view.MemView.{Whole, the_lemmas as view_lemmas}
+use Rattle.wgsl_values.specs.declared.view.MemView.{Whole}
+use Rattle.wgsl_values.proofs.Turned.{steps_of_whole}
 use Rattle.wgsl_layout.specs.Buffers.{buffer}
 use Rattle.wgsl_layout.specs.FlatCells.{IsPartAt, flat_value}
 use Rattle.wgsl_layout.specs.Located.{part_range}
@@ -26,8 +27,5 @@ returns-clause-bytes c =
     let lent : c.slice.result.now ≡ bytes_in (buffer v) r = c.slice.ensures ∙ ap (λ (b : _). bytes_in b r) (c.as_slice-2.ensures.value ∙ h.bytes) in
     rw (← c.self.view_is) (lent-bytes v steps r c.slice.result.now h.storable (ap has_layout h.typed ∙ h.laid) (rw (← c.self.view_is) at c.requires) part.found lent)
 
-steps-whole : steps_of Whole ≡ []
-steps-whole = search (rules, view_lemmas)
-
 pub returns-in-Whole-clause-bytes : goal.returns-in-Whole-clause-bytes
-returns-in-Whole-clause-bytes c = rw (c.in-Whole.is, steps-whole, ← c.self.view_is) (c.as_slice.ensures.value ∙ c.self.invariant.bytes)
+returns-in-Whole-clause-bytes c = rw (c.in-Whole.is, steps_of_whole, ← c.self.view_is) (c.as_slice.ensures.value ∙ c.self.invariant.bytes)

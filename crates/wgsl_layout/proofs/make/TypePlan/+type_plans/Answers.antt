@@ -2,8 +2,9 @@ use Rattle.std.proofs.Common.{◌∙◌, ap, string_bytes}
 use Rattle.wgsl_rules.specs.View.{member_view}
 use Rattle.wgsl_rules.specs.declared.ty.StructType.{out-StructType}
 use Rattle.wgsl_rules.proofs.lemmas.Views.{struct_view-is}
+use Rattle.wgsl_rules.proofs.lemmas.Members.{of-member}
 use Rattle.wgsl_layout.specs.Plan.{plan_of}
-use Rattle.wgsl_layout.proofs.Making.{of-member, with-member, offset-made, type-is, step, past, all-made}
+use Rattle.wgsl_layout.proofs.Making.{with-member, offset-made, type-is, step, past, all-made}
 use Rattle.wgsl_layout.proofs.make.TypePlan.+type_plans.Goals as goal
 
 pub of_struct-returns : goal.of_struct-returns
