@@ -10,6 +10,7 @@ use Rattle.wgsl_rules.specs.Types.{Ty, struct, array, vec, Fields, no_fields, fi
 use Rattle.wgsl_rules.specs.Values.{Val, truth, number, record_of, array_of, vector, matrix, atomic_of, pointer, reference, deferred, Vals, no_vals, val, count, item, type_of, type_of_kind, first_type, matrix_type, array_type, HaveTypes, IsStorable, AreStorable}
 use Rattle.wgsl_rules.specs.Paths.{parts, value_at, replace_item, with_parts, put_tree, FitsPlace}
 use Rattle.wgsl_rules.specs.Layout.{elements, last_elements, runtime_count}
+pub use Rattle.wgsl_values.proofs.lemmas.Replaced.{part-storable, put-type}
 
 -- ---- the type of the whole stays
 

@@ -9,6 +9,7 @@ use Rattle.wgsl_rules.specs.Layout.{Layout, scalar, composite, Parts, no_parts, 
 use Rattle.wgsl_layout.specs.Buffers.{covers, byte_at, byte_of, bytes_with}
 use Rattle.wgsl_layout.specs.Ranges.{Range, further, part_at, parts_in, range_in, bytes_in}
 use Rattle.wgsl_layout.specs.Laws.{AreInOrder}
+pub use Rattle.wgsl_rules.proofs.lemmas.Tests.{inside as covered-in}
 
 -- ---- parts in order
 

@@ -5,6 +5,7 @@ use Rattle.wgsl_rules.specs.Values.{Step, Val}
 use Rattle.wgsl_rules.specs.Refusals.{Outcome}
 use Rattle.wgsl_rules.specs.Paths.{value_at, path_of, viewed}
 use Rattle.wgsl_rules.proofs.lemmas.Paths.{view-leads}
+pub use Rattle.wgsl_values.proofs.lemmas.ViewedPaths.{HasPath, has-path}
 
 -- the value at the path of a view is what the view leads to
 pub leads-to : (steps : List Step) (x y : Val) (p : List ℕ) → path_of steps x ≡ Ok p → value_at p x ≡ Some y → viewed steps x ≡ Ok y

@@ -8,7 +8,7 @@ use Rattle.wgsl_rules.specs.Paths.{parts, value_at, path_of, viewed, replace_ite
 use Rattle.wgsl_rules.proofs.lemmas.Paths.{fits-Decides, put-held}
 use Rattle.wgsl_values.proofs.lemmas.PutTwice.{put-twice}
 use Rattle.wgsl_values.proofs.lemmas.Replaced.{a_part_replaced, part-storable}
-use Rattle.wgsl_values.proofs.lemmas.Steps.{with_parts-own}
+pub use Rattle.wgsl_values.proofs.lemmas.Steps.{with_parts-own as own-parts}
 use Rattle.wgsl_values.proofs.lemmas.ViewedPaths.{has-path}
 use Rattle.wgsl_store.specs.Memory.{held, IsSound, at_position, put_cells}
 use Rattle.wgsl_store.specs.ReferenceCalls.{read, old_value, written}
@@ -96,7 +96,7 @@ replaced-own (suc i) f (val v vs) h = ap (val v) (replaced-own i f vs h)
 pub put-own : (p : List ℕ) (x v : Val) → value_at p v ≡ Some x → put_tree p x v ≡ v
 put-own [] x v e = cc
 put-own (i ∷ p) x v e =
-    ap (with_parts v) (replaced-own i (put_tree p x) (parts v) (λ y is. put-own p x y (ap (option_and_then (value_at p)) (sym is) ∙ e))) ∙ with_parts-own v
+    ap (with_parts v) (replaced-own i (put_tree p x) (parts v) (λ y is. put-own p x y (ap (option_and_then (value_at p)) (sym is) ∙ e))) ∙ own-parts v
 
 at-same : (cells : List Val) (i : ℕ) (g : Val → Val) → ((x : Val) → slice_get cells i ≡ Some x → g x ≡ x) → at_position i g cells ≡ cells
 at-same [] i g h = refl
