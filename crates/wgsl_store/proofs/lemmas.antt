@@ -32,4 +32,6 @@ pub use Rattle.wgsl_layout.proofs.lemmas.Roundtrip
 pub use Rattle.wgsl_layout.proofs.lemmas.Standing
 pub use Rattle.wgsl_layout.proofs.lemmas.Tidy
 pub use Rattle.wgsl_layout.proofs.lemmas.ViewPaths
+pub use Rattle.wgsl_layout.proofs.lemmas.ViewedPaths
 pub use Rattle.wgsl_layout.proofs.lemmas.Written
+pub use Rattle.wgsl_rules.proofs.lemmas.Known

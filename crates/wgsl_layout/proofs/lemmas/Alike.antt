@@ -6,7 +6,7 @@ use Rattle.std.proofs.lemmas.Option.{same_Some}
 use Rattle.wgsl_rules.specs.Types.{Ty, struct, array, vec, mat, Fields, no_fields, field}
 use Rattle.wgsl_rules.specs.Values.{Val, record_of, array_of, vector, matrix, Vals, no_vals, val, count, item, type_of, first_type, matrix_type, array_type, AllOfType, HaveTypes, AreVectors, IsStorable, AreStorable}
 use Rattle.wgsl_rules.specs.Paths.{parts, value_at, replace_item, with_parts, put_tree, FitsPlace}
-use Rattle.wgsl_rules.proofs.lemmas.Paths.{parts-replaced}
+pub use Rattle.wgsl_rules.proofs.lemmas.Paths.{parts-replaced}
 use Rattle.wgsl_layout.proofs.lemmas.Places.{part-type}
 
 abbrev pub HasNone : Vals → Type 0

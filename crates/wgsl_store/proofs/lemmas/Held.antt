@@ -6,7 +6,7 @@ use Rattle.wgsl_rules.specs.Values.{Reference, Val, record_of, array_of, vector,
 use Rattle.wgsl_rules.specs.Refusals.{not_read, Outcome, and_then}
 use Rattle.wgsl_rules.specs.Paths.{parts, value_at, viewed, or_refused}
 use Rattle.wgsl_store.specs.Memory.{held, IsKept, AllKept, references, references_in, IsContent, AreContents, IsSound}
-use Rattle.wgsl_values.proofs.lemmas.ViewedPaths.{has-path}
+pub use Rattle.wgsl_layout.proofs.lemmas.ViewedPaths.{HasPath, has-path, leads-to}
 use Rattle.wgsl_values.proofs.lemmas.Replaced.{part-storable}
 
 -- ---- the cell of a reference
