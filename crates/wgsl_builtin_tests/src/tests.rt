@@ -16,7 +16,7 @@ macro_rules! again {
 /// The answer or the refusal of the call, which is made a second time where it wants memory.
 macro_rules! answered {
     ($call:expr) => {
-        match crate::tests::answers::settled($call) {
+        match wgsl_samples::refusals::settled($call) {
             Some(answer) => answer,
             None => $call,
         }

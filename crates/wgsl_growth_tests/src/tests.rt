@@ -22,6 +22,7 @@ macro_rules! answer_of {
 }
 
 mod asserts;
+mod cells;
 mod depth;
 mod growth;
 mod samples;

@@ -6,5 +6,6 @@ mod both;
 pub mod composites;
 pub mod operands;
 pub mod refusals;
+pub mod texts;
 pub mod types;
 pub mod values;

@@ -1,8 +1,12 @@
-//! The texts of answers: the value's own, or the case of the refusal with what it holds.
+//! The texts of answers: the value's own, or the case of the refusal with what it holds. And what tests ask of refusals.
+
+ghost use Rattle.wgsl_rules.specs.Values.{IsWellFormed};
+ghost use Rattle.wgsl_values.specs.View.{value_of};
 
 use std::alloc::{AllocError, Global};
 use std::fmt::Display;
 use wgsl_scalar::Error;
+use wgsl_values::{Instance, MemView};
 
 /// The text of a refusal, without that of a builtin's reason.
 fn refusal_text(alloc: Global, error: &Error) -> Result<String, AllocError> {
@@ -36,5 +40,24 @@ pub fn text_of<T: Display>(alloc: Global, answer: &Result<T, Error>) -> Result<S
     match answer {
         Ok(value) => value.to_string(alloc),
         Err(error) => refusal_text(alloc, error),
+    }
+}
+
+/// The answer or the refusal of a call; none where it wants memory.
+pub fn settled<T>(answer: Result<T, Error>) -> Option<Result<T, Error>> {
+    match answer {
+        Ok(value) => Some(Ok(value)),
+        Err(Error::Memory) => None,
+        Err(refusal) => Some(Err(refusal)),
+    }
+}
+
+/// Why what the view leads to can't be written; `None` where it can.
+pub fn refusal_to_write(alloc: Global, value: &mut Instance, view: &MemView) -> Option<Error>
+    requires { IsWellFormed (value_of value.old) }
+{
+    match value.view_mut(alloc, view) {
+        Ok(_) => None,
+        Err(refusal) => Some(refusal),
     }
 }

@@ -40,6 +40,18 @@ pub fn member_then_index(alloc: Global) -> Result<MemView, AllocError> {
     Ok(MemView::Member(name, index))
 }
 
+/// The steps of a view into cell 0: the member of the name, where it is not empty, and then the indices.
+pub fn view(alloc: Global, name: &str, indices: &[usize]) -> Result<MemView, AllocError> {
+    let mut view = MemView::Whole;
+    if !name.is_empty() {
+        view.append_member(alloc, String::from_str(alloc, name)?)?;
+    }
+    for index in indices {
+        view.append_index(alloc, *index)?;
+    }
+    Ok(view)
+}
+
 /// The reference to `:m:2` of cell 7, of type u32, in the storage space, for reads and writes.
 pub fn reference_of(alloc: Global) -> Result<RefInstance, AllocError> {
     let view = member_then_index(alloc)?;

@@ -20,15 +20,6 @@ pub(super) fn made(rt: &impl Abort, alloc: Global, sample: Sample) -> Instance
     value
 }
 
-/// The answer or the refusal of a call; none where it wants memory.
-pub(super) fn settled<T>(answer: Result<T, Error>) -> Option<Result<T, Error>> {
-    match answer {
-        Ok(value) => Some(Ok(value)),
-        Err(Error::Memory) => None,
-        Err(refusal) => Some(Err(refusal)),
-    }
-}
-
 /// Asserts the text of the answer.
 pub(super) fn assert_answer<T: Display + Drop>(
     rt: &impl Abort,

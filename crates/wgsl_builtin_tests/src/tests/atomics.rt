@@ -13,7 +13,6 @@ mod steps;
 
 pub(super) use calls::{changed, length, loaded, stored};
 pub(super) use rows::{accessed, assert_rows, assert_steps};
-pub(super) use steps::view;
 
 /// A change of an atomic.
 #[derive(Clone, Copy, Debug, PartialEq, Eq)]

@@ -2,8 +2,9 @@
 
 use std::process::Abort;
 use wgsl_samples::operands::Sample;
+use wgsl_samples::texts::{literal, vector_or_literal};
 use wgsl_scalar::LiteralInstance;
-use wgsl_scalar::LiteralInstance::{AbstractInt, Bool, I32, I64, U32, U64};
+use wgsl_scalar::LiteralInstance::{Bool, U32};
 
 /// What stands before and behind the mark; the test ends where it is not there.
 pub(super) fn parted<'a>(rt: &impl Abort, text: &'a str, mark: &str) -> (&'a str, &'a str) {
@@ -11,66 +12,6 @@ pub(super) fn parted<'a>(rt: &impl Abort, text: &'a str, mark: &str) -> (&'a str
         Some(parts) => parts,
         None => panic!(rt; "no {mark} in {text}"),
     }
-}
-
-fn number(text: &str) -> Option<LiteralInstance> {
-    if let Some(digits) = text.strip_suffix("li") {
-        return Some(I64(digits.parse::<i64>().ok()?));
-    }
-    if let Some(digits) = text.strip_suffix("lu") {
-        return Some(U64(digits.parse::<u64>().ok()?));
-    }
-    if let Some(digits) = text.strip_suffix("i") {
-        return Some(I32(digits.parse::<i32>().ok()?));
-    }
-    if let Some(digits) = text.strip_suffix("u") {
-        return Some(U32(digits.parse::<u32>().ok()?));
-    }
-    Some(AbstractInt(text.parse::<i64>().ok()?))
-}
-
-fn literal(text: &str) -> Option<LiteralInstance> {
-    match text {
-        "true" => Some(Bool(true)),
-        "false" => Some(Bool(false)),
-        _ => number(text),
-    }
-}
-
-fn two(text: &str) -> Option<[LiteralInstance; 2]> {
-    let (x, y) = text.split_once(", ")?;
-    Some([literal(x)?, literal(y)?])
-}
-
-fn three(text: &str) -> Option<[LiteralInstance; 3]> {
-    let (x, others) = text.split_once(", ")?;
-    let [y, z] = two(others)?;
-    Some([literal(x)?, y, z])
-}
-
-fn four(text: &str) -> Option<[LiteralInstance; 4]> {
-    let (x, others) = text.split_once(", ")?;
-    let [y, z, w] = three(others)?;
-    Some([literal(x)?, y, z, w])
-}
-
-/// What the head and a bracket enclose.
-fn enclosed<'a>(text: &'a str, head: &str) -> Option<&'a str> {
-    text.strip_prefix(head)?.strip_suffix(")")
-}
-
-/// The vector of the text; the literal, if it is none.
-fn vector_or_literal(text: &str) -> Option<Sample> {
-    if let Some(components) = enclosed(text, "vec2(") {
-        return Some(Sample::Two(two(components)?));
-    }
-    if let Some(components) = enclosed(text, "vec3(") {
-        return Some(Sample::Three(three(components)?));
-    }
-    if let Some(components) = enclosed(text, "vec4(") {
-        return Some(Sample::Four(four(components)?));
-    }
-    Some(Sample::One(literal(text)?))
 }
 
 const NUMBERS: [LiteralInstance; 3] = [U32(1), U32(2), U32(3)];

@@ -1,7 +1,7 @@
 //! Builtin functions that take no memory: they give what they give where each growth behind the making of their
 //! arguments is refused.
 
-use crate::tests::atomics::{Place, view};
+use crate::tests::atomics::Place;
 use crate::tests::rows::{parted, sample};
 use std::alloc::Global;
 use std::process::Abort;
@@ -10,6 +10,7 @@ use wgsl_rules::AddressSpace::Storage;
 use wgsl_rules::{Ty, Type};
 use wgsl_samples::operands::{Sample, make};
 use wgsl_samples::types::vector;
+use wgsl_samples::values::view;
 use wgsl_scalar::Error;
 use wgsl_store::{References, Store};
 use wgsl_types::{all, any, is_bitcast_target};

@@ -44,15 +44,6 @@ pub(super) fn pair(rt: &impl Abort, alloc: Global) -> Type {
     again!(rt; types::pair(alloc))
 }
 
-/// The answer or the refusal of a call; none where it wants memory.
-pub(super) fn settled<T>(answer: Result<T, Error>) -> Option<Result<T, Error>> {
-    match answer {
-        Ok(value) => Some(Ok(value)),
-        Err(Error::Memory) => None,
-        Err(refusal) => Some(Err(refusal)),
-    }
-}
-
 /// Asserts the text of the answer.
 pub(super) fn assert_answer<T: Display + Drop>(
     rt: &impl Abort,

@@ -1,11 +1,12 @@
 //! Operators on literals and numeric builtins, by worked rows.
 
 use crate::tests::asserts::{assert_row, assert_same};
-use crate::tests::reading::{asked, is_true, number, parted, ty};
+use crate::tests::reading::{asked, number, parted, ty};
 use std::alloc::Global;
 use std::process::Abort;
 use wgsl_rules::ShaderStage::{Const, Exec, Override};
 use wgsl_rules::{BinaryOperator, ShaderStage, Type, UnaryOperator, convert};
+use wgsl_samples::texts;
 use wgsl_scalar::LiteralInstance::{AbstractInt, Bool, I32, I64, U32, U64};
 use wgsl_scalar::{
     BuiltinReason, Error, LiteralInstance, common_kinds_are_common_types, kinds_are_rings,
@@ -14,24 +15,9 @@ use wgsl_scalar::{
 
 const LEAST: i64 = -9223372036854775808;
 
-/// The literal of the text, as `-5i`, `7li` or `true`.
+/// The literal of the text, as `-5i`, `7li` or `true`; the test ends where there is none.
 fn literal(rt: &impl Abort, text: &str) -> LiteralInstance {
-    if let Some(digits) = text.strip_suffix("li") {
-        return I64(digits.parse::<i64>().expect(rt, "an i64"));
-    }
-    if let Some(digits) = text.strip_suffix("lu") {
-        return U64(digits.parse::<u64>().expect(rt, "an u64"));
-    }
-    if let Some(digits) = text.strip_suffix("i") {
-        return I32(digits.parse::<i32>().expect(rt, "an i32"));
-    }
-    if let Some(digits) = text.strip_suffix("u") {
-        return U32(digits.parse::<u32>().expect(rt, "an u32"));
-    }
-    match text {
-        "true" | "false" => Bool(is_true(rt, text)),
-        _ => AbstractInt(text.parse::<i64>().expect(rt, "a literal")),
-    }
+    texts::literal(text).expect(rt, "a literal")
 }
 
 fn stage(rt: &impl Abort, name: &str) -> ShaderStage {

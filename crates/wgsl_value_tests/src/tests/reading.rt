@@ -4,8 +4,8 @@ use crate::tests::samples::{vector, vector_from};
 use std::alloc::Global;
 use std::process::Abort;
 use wgsl_rules::Type;
+use wgsl_samples::texts;
 use wgsl_scalar::LiteralInstance;
-use wgsl_scalar::LiteralInstance::{AbstractInt, Bool, I32, I64, U32, U64};
 use wgsl_values::Instance;
 
 /// What stands before and behind the mark; the test ends where it is not there.
@@ -28,24 +28,9 @@ pub(super) fn is_true(rt: &impl Abort, text: &str) -> bool {
     text.parse::<bool>().expect(rt, "true or false")
 }
 
-/// The literal of the text, as `-5i`, `7li` or `true`.
+/// The literal of the text, as `-5i`, `7li` or `true`; the test ends where there is none.
 fn literal(rt: &impl Abort, text: &str) -> LiteralInstance {
-    if let Some(digits) = text.strip_suffix("li") {
-        return I64(digits.parse::<i64>().expect(rt, "an i64"));
-    }
-    if let Some(digits) = text.strip_suffix("lu") {
-        return U64(digits.parse::<u64>().expect(rt, "an u64"));
-    }
-    if let Some(digits) = text.strip_suffix("i") {
-        return I32(digits.parse::<i32>().expect(rt, "an i32"));
-    }
-    if let Some(digits) = text.strip_suffix("u") {
-        return U32(digits.parse::<u32>().expect(rt, "an u32"));
-    }
-    match text {
-        "true" | "false" => Bool(is_true(rt, text)),
-        _ => AbstractInt(text.parse::<i64>().expect(rt, "a literal")),
-    }
+    texts::literal(text).expect(rt, "a literal")
 }
 
 fn literals(rt: &impl Abort, alloc: Global, text: &str) -> Vec<Instance> {

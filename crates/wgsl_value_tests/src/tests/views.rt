@@ -12,6 +12,7 @@ use std::alloc::Global;
 use std::mem;
 use std::process::Abort;
 use wgsl_rules::Type;
+use wgsl_samples::refusals::refusal_to_write;
 use wgsl_scalar::Error;
 use wgsl_values::{
     Instance, MemView, Placed, a_part_replaced_is_storable, texts_tell_values_apart,
@@ -59,16 +60,6 @@ fn a_view_leads_to_a_part(rt: HostRuntime) {
     let b = Instance::from(vector_of(&rt, alloc, &[2, 3, 4]));
     assert_leads(&rt, alloc, &value, to_member(&rt, alloc), b);
     drop(value);
-}
-
-/// Why what the view leads to can't be written; `None` where it can.
-pub(super) fn refusal_to_write(alloc: Global, value: &mut Instance, view: &MemView) -> Option<Error>
-    requires { IsWellFormed (value_of value.old) }
-{
-    match value.view_mut(alloc, view) {
-        Ok(_) => None,
-        Err(refusal) => Some(refusal),
-    }
 }
 
 /// Asserts that the view is refused with the error, where the value is looked at and where it is

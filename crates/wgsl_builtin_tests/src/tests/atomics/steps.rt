@@ -1,18 +1,19 @@
 //! What the builtin functions of memory answer on a store with one cell, and what the cell then has.
 
-use crate::tests::answers::{assert_answer, made, settled};
+use crate::tests::answers::{assert_answer, made};
 use crate::tests::atomics::calls::called;
 use crate::tests::atomics::{OnMemory, Place};
-use std::alloc::{AllocError, Global};
+use std::alloc::Global;
 use std::process::Abort;
 use wgsl_rules::AccessMode::ReadWrite;
 use wgsl_rules::AddressSpace::Storage;
 use wgsl_rules::Ty;
 use wgsl_samples::operands::Sample;
-use wgsl_samples::values::bytes_of;
+use wgsl_samples::refusals::settled;
+use wgsl_samples::values::{bytes_of, view};
 use wgsl_scalar::Error;
 use wgsl_store::{Buffers, References, Store};
-use wgsl_values::{Instance, MemView, PtrInstance, RefInstance};
+use wgsl_values::{Instance, PtrInstance, RefInstance};
 
 /// Makes a cell with the value, and answers the reference to it, for reads and writes.
 fn new_cell(
@@ -32,18 +33,6 @@ fn only_cell(rt: &impl Abort, alloc: Global, store: &mut Store, cell: Sample) ->
     let reference = again!(rt; new_cell(rt, alloc, store, cell));
     assert_eq!(rt; store.len(), 1);
     reference
-}
-
-/// The steps of the view: the member of the name, where it is not empty, and then the indices.
-pub(crate) fn view(alloc: Global, name: &str, indices: &[usize]) -> Result<MemView, AllocError> {
-    let mut view = MemView::Whole;
-    if !name.is_empty() {
-        view.append_member(alloc, String::from_str(alloc, name)?)?;
-    }
-    for index in indices {
-        view.append_index(alloc, *index)?;
-    }
-    Ok(view)
 }
 
 /// A pointer to the place in cell 0.

@@ -1,11 +1,10 @@
 //! The constants and the declarations of a module in each dialect.
 
+use crate::tests::growth::evaluations::text_of;
 use crate::tests::growth::separate;
 use std::alloc::{AllocError, Global};
 use std::process::Abort;
-use wgsl_eval::{
-    Declarations, Dialect, Evaluation, ItemKind, Outcome, Settings, evaluate_in, resolve_in,
-};
+use wgsl_eval::{Declarations, Dialect, ItemKind, Settings, evaluate_in, resolve_in};
 use wgsl_rules::ShaderStage;
 use wgsl_source::Reading;
 
@@ -24,23 +23,6 @@ fn settings(dialect: Dialect) -> Settings {
     }
 }
 
-pub(super) fn text_of_values(alloc: Global, evaluation: &Evaluation) -> Result<String, AllocError> {
-    let mut text = String::new(alloc);
-    for value in &evaluation.values {
-        separate(&mut text)?;
-        match &value.outcome {
-            Outcome::Value(instance) => write!(text, "{instance}")?,
-            Outcome::Skipped(_) => text.push_str("skipped")?,
-            Outcome::Faulty => text.push_str("faulty")?,
-        }
-    }
-    for message in &evaluation.messages {
-        separate(&mut text)?;
-        text.push_str(message.text.as_str())?;
-    }
-    Ok(text)
-}
-
 pub(super) fn text_of_aliases(alloc: Global, found: &Declarations) -> Result<String, AllocError> {
     let mut text = String::new(alloc);
     for item in &found.items {
@@ -55,7 +37,7 @@ pub(super) fn text_of_aliases(alloc: Global, found: &Declarations) -> Result<Str
 fn assert_values(rt: &impl Abort, alloc: Global, dialect: Dialect, wanted: &str) {
     let reading = again!(rt; Reading::of_module(alloc, MODULE));
     let evaluation = again!(rt; evaluate_in(alloc, &reading, settings(dialect)));
-    let text = again!(rt; text_of_values(alloc, &evaluation));
+    let text = again!(rt; text_of(alloc, &evaluation));
     drop(evaluation);
     drop(reading);
     assert_eq!(rt; text.as_str(), wanted);

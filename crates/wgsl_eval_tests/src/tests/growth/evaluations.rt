@@ -25,7 +25,7 @@ WGSL has no matrices of integers; WGSL has no matrices of integers; \
 division by zero: 1 / 0; the standard shifts by less than the width (WGSL: bit expressions); \
 this is asserted and false";
 
-fn text_of(alloc: Global, evaluation: &Evaluation) -> Result<String, AllocError> {
+pub(super) fn text_of(alloc: Global, evaluation: &Evaluation) -> Result<String, AllocError> {
     let mut text = String::new(alloc);
     for value in &evaluation.values {
         separate(&mut text)?;

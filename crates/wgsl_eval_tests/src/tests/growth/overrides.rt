@@ -1,6 +1,7 @@
 //! Overrides with values that a host gives.
 
-use crate::tests::growth::dialects::{text_of_aliases, text_of_values};
+use crate::tests::growth::dialects::text_of_aliases;
+use crate::tests::growth::evaluations::text_of;
 use std::alloc::Global;
 use std::process::Abort;
 use wgsl_eval::{Dialect, Given, Settings, evaluate_with, resolve_with};
@@ -23,7 +24,7 @@ const SETTINGS: Settings = Settings {
 fn assert_values(rt: &impl Abort, alloc: Global, given: &[Given<'_>]) {
     let reading = again!(rt; Reading::of_module(alloc, MODULE));
     let evaluation = again!(rt; evaluate_with(alloc, &reading, SETTINGS, given));
-    let text = again!(rt; text_of_values(alloc, &evaluation));
+    let text = again!(rt; text_of(alloc, &evaluation));
     drop(evaluation);
     drop(reading);
     assert_eq!(rt; text.as_str(), "3u; 4u");

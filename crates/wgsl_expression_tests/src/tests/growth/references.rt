@@ -12,10 +12,11 @@ use wgsl_rules::UnaryOperator::Indirection;
 use wgsl_rules::{AccessMode, AddressSpace, Type};
 use wgsl_samples::operands::{Sample, b2, i, u2};
 use wgsl_samples::types;
+use wgsl_samples::values::view;
 use wgsl_scalar::Error;
 use wgsl_scalar::LiteralInstance::I32;
 use wgsl_store::{References, Store};
-use wgsl_values::{Instance, MemView, RefInstance};
+use wgsl_values::{Instance, RefInstance};
 
 /// Makes a cell with the value, and answers the reference to it.
 fn new_cell(
@@ -36,18 +37,6 @@ fn store_of(rt: &impl Abort, alloc: Global, cell: Sample) -> Store {
     drop(again!(rt; new_cell(rt, alloc, &mut store, cell)));
     assert_eq!(rt; store.len(), 1);
     store
-}
-
-/// The steps of a view into cell 0: the member of the name, where it is not empty, and then the indices.
-fn view(alloc: Global, name: &str, indices: &[usize]) -> Result<MemView, AllocError> {
-    let mut view = MemView::Whole;
-    if !name.is_empty() {
-        view.append_member(alloc, String::from_str(alloc, name)?)?;
-    }
-    for index in indices {
-        view.append_index(alloc, *index)?;
-    }
-    Ok(view)
 }
 
 /// The scalar type, or that of vectors of so many of it.

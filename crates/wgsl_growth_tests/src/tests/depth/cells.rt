@@ -2,6 +2,7 @@
 //! layout.
 
 use crate::tests::asserts::{assert_same, assert_that};
+use crate::tests::cells::{assert_copied, cell_with};
 use crate::tests::depth::{arrays, first_parts, in_arrays, levels, nested};
 use std::alloc::Global;
 use std::process::Abort;
@@ -12,13 +13,6 @@ use wgsl_scalar::LiteralInstance::{Bool, U32};
 use wgsl_scalar::{Error, LiteralInstance};
 use wgsl_store::{Loads, References, Show, Store};
 use wgsl_values::{Instance, RefInstance};
-
-/// The reference to a new cell with the value.
-fn cell_with(rt: &impl Abort, alloc: Global, store: &mut Store, value: Instance) -> RefInstance {
-    assert!(rt; value.is_storable());
-    assert!(rt; store.holds_value(&value));
-    made!(rt; RefInstance::new(alloc, store, value, Storage, ReadWrite))
-}
 
 fn write(
     rt: &impl Abort,
@@ -62,19 +56,6 @@ fn assert_reads(
 fn first_of(rt: &impl Abort, alloc: Global, store: &Store, whole: &RefInstance) -> RefInstance {
     assert!(rt; store.holds(whole));
     made!(rt; whole.view_index(alloc, store, 0))
-}
-
-/// Asserts that what the one reference names is copied to what the other names.
-fn assert_copied(
-    rt: &impl Abort,
-    alloc: Global,
-    store: &mut Store,
-    from: &RefInstance,
-    to: &RefInstance,
-) {
-    assert!(rt; store.holds(from));
-    assert!(rt; store.holds(to));
-    assert_same(rt, from.copy_to(alloc, store, to), Ok(()));
 }
 
 /// The reference to the part of the cell that is so many steps inside.

@@ -2,6 +2,7 @@
 //! types take memory with the square of its length, so it has a hundred of them, whatever the levels of types and values are.
 
 use crate::tests::asserts::{assert_is, assert_same, assert_that};
+use crate::tests::cells::cell_with;
 use crate::tests::depth::{arrays, assert_text, levels, nested};
 use std::alloc::Global;
 use std::process::Abort;
@@ -10,13 +11,6 @@ use wgsl_rules::AddressSpace::Storage;
 use wgsl_rules::{Ty, Type};
 use wgsl_store::{Loads, References, Store};
 use wgsl_values::{Instance, MemView, PtrInstance, RefInstance};
-
-/// The reference to a new cell with the value.
-fn cell_with(rt: &impl Abort, alloc: Global, store: &mut Store, value: Instance) -> RefInstance {
-    assert!(rt; value.is_storable());
-    assert!(rt; store.holds_value(&value));
-    made!(rt; RefInstance::new(alloc, store, value, Storage, ReadWrite))
-}
 
 /// The last of a hundred references, the first of them to 5u.
 fn chain(rt: &impl Abort, alloc: Global, store: &mut Store) -> RefInstance {

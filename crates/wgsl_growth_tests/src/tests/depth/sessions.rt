@@ -1,9 +1,7 @@
 //! Calls on a session, and copies of these and of replies, with arrays of one element in each other.
 
-ghost use Rattle.wgsl_session.specs.Calls.{IsSoundCall};
-ghost use Rattle.wgsl_session.specs.View.{call_of};
-
 use crate::tests::asserts::{assert_is, assert_same};
+use crate::tests::cells::sound;
 use crate::tests::depth::{arrays, in_arrays, levels};
 use std::alloc::Global;
 use std::process::Abort;
@@ -13,14 +11,6 @@ use wgsl_rules::Type;
 use wgsl_scalar::Error;
 use wgsl_session::{Call, Fault, Reply, Session};
 use wgsl_values::Instance;
-
-/// The call, which a session takes.
-fn sound(rt: &impl Abort, call: Call) -> Call
-    ensures { IsSoundCall (call_of result) }
-{
-    assert!(rt; call.is_sound());
-    call
-}
 
 /// Asserts what the session answers, and that the call and the reply have equal copies.
 fn assert_call(rt: &impl Abort, alloc: Global, session: &mut Session, call: Call, wanted: Reply) {

@@ -1,8 +1,5 @@
 //! Views of 100,000 steps, whatever the levels of types and values are: they are gone along in loops.
 
-ghost use Rattle.wgsl_rules.specs.Values.{IsWellFormed};
-ghost use Rattle.wgsl_values.specs.View.{value_of};
-
 use crate::tests::asserts::{assert_is, assert_same, assert_that};
 use crate::tests::depth::{assert_text, first_parts, nested};
 use crate::tests::samples::{array, array_of, storable, text};
@@ -11,6 +8,7 @@ use std::process::Abort;
 use wgsl_rules::AccessMode::ReadWrite;
 use wgsl_rules::AddressSpace::Storage;
 use wgsl_rules::Type;
+use wgsl_samples::refusals::refusal_to_write;
 use wgsl_scalar::Error;
 use wgsl_store::LayoutRefusal::NoPart;
 use wgsl_store::{Layout, References, Store};
@@ -42,16 +40,6 @@ fn copies_of_views_with_a_step_more(rt: HostRuntime) {
     let wanted = nested(&rt, alloc, STEPS, [":0", ":m", ""]);
     assert_text(&rt, alloc, &longer, wanted.as_str());
     drop((view, copy, longer));
-}
-
-/// Why what the view leads to can't be written; `None` where it can.
-fn refusal_to_write(alloc: Global, value: &mut Instance, view: &MemView) -> Option<Error>
-    requires { IsWellFormed (value_of value.old) }
-{
-    match value.view_mut(alloc, view) {
-        Ok(_) => None,
-        Err(refusal) => Some(refusal),
-    }
 }
 
 #[test]

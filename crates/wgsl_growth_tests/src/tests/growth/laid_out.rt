@@ -1,6 +1,7 @@
 //! Cells and writes of the values that bytes lay out: where memory is wanting nothing has changed.
 
 use crate::tests::asserts::{assert_memory, assert_same, assert_told, is_memory, wants_memory};
+use crate::tests::cells::{cell_with, read};
 use crate::tests::growth::sessions::held;
 use crate::tests::samples::{array, array_of, pair, pair_with, text};
 use std::alloc::Global;
@@ -40,11 +41,6 @@ fn pair_in(rt: &impl Abort, alloc: Global, store: &mut Store) -> RefInstance {
         }
     };
     made.expect(rt, "a value")
-}
-
-fn read(rt: &impl Abort, alloc: Global, store: &Store, reference: &RefInstance) -> Instance {
-    assert!(rt; store.holds(reference));
-    answer_of!(rt; reference.read(alloc, store))
 }
 
 #[test]
@@ -127,13 +123,6 @@ fn assert_writes(
         None
     };
     assert_told(rt, first, again, wanted);
-}
-
-/// The reference to a new cell with the value, where memory is not refused.
-fn cell_with(rt: &impl Abort, alloc: Global, store: &mut Store, value: Instance) -> RefInstance {
-    assert!(rt; value.is_storable());
-    assert!(rt; store.holds_value(&value));
-    made!(rt; RefInstance::new(alloc, store, value, Storage, ReadWrite))
 }
 
 #[test]

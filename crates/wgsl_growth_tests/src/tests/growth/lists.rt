@@ -6,7 +6,8 @@ ghost use Rattle.wgsl_session.specs.Calls.{AreSoundCalls};
 ghost use Rattle.wgsl_session.specs.View.{call_of};
 
 use crate::tests::asserts::{assert_is, assert_same, assert_that, is_memory};
-use crate::tests::growth::sessions::{held, new, sound, value};
+use crate::tests::cells::sound;
+use crate::tests::growth::sessions::{held, new, value};
 use crate::tests::samples::{array_of, pair_with, text, vector_of};
 use std::alloc::Global;
 use std::process::Abort;

@@ -3,32 +3,19 @@
 use crate::tests::asserts::{
     assert_made_or_memory, assert_memory, assert_refusal, assert_same, is_of_memory,
 };
+use crate::tests::cells::{cell_with, read};
 use crate::tests::samples::{pair, pair_with, text, vector, vector_of};
 use std::alloc::Global;
 use std::process::Abort;
-use wgsl_rules::AccessMode::ReadWrite;
-use wgsl_rules::AddressSpace::Storage;
 use wgsl_rules::Type;
 use wgsl_scalar::Error;
 use wgsl_store::{References, Show, Store};
 use wgsl_values::{Instance, PtrInstance, RefInstance};
 
-/// The reference to a new cell with the value, where memory is not refused.
-fn cell_with(rt: &impl Abort, alloc: Global, store: &mut Store, value: Instance) -> RefInstance {
-    assert!(rt; value.is_storable());
-    assert!(rt; store.holds_value(&value));
-    made!(rt; RefInstance::new(alloc, store, value, Storage, ReadWrite))
-}
-
 /// The reference to a new cell with Pair(1u, vec3(2u, 3u, 4u)).
 fn pair_in(rt: &impl Abort, alloc: Global, store: &mut Store) -> RefInstance {
     let pair = Instance::from(pair_with(rt, alloc, 1));
     cell_with(rt, alloc, store, pair)
-}
-
-fn read(rt: &impl Abort, alloc: Global, store: &Store, reference: &RefInstance) -> Instance {
-    assert!(rt; store.holds(reference));
-    answer_of!(rt; reference.read(alloc, store))
 }
 
 fn read_write(

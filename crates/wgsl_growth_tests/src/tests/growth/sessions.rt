@@ -1,9 +1,7 @@
 //! Each call on a session: where memory is wanting no cell, no handle and nothing that is read has changed.
 
-ghost use Rattle.wgsl_session.specs.Calls.{IsSoundCall};
-ghost use Rattle.wgsl_session.specs.View.{call_of};
-
 use crate::tests::asserts::{assert_same, is_memory};
+use crate::tests::cells::sound;
 use crate::tests::samples::{array_of, pair, pair_with, text, vector, vector_of};
 use std::alloc::Global;
 use std::process::Abort;
@@ -54,14 +52,6 @@ pub(super) fn held(rt: &impl Abort, alloc: Global, session: &Session) -> Content
         handles: references(rt, alloc, session),
         values: values(rt, alloc, session),
     }
-}
-
-/// The call, which a session takes.
-pub(super) fn sound(rt: &impl Abort, call: Call) -> Call
-    ensures { IsSoundCall (call_of result) }
-{
-    assert!(rt; call.is_sound());
-    call
 }
 
 /// Makes the call, which is given twice: one that wants memory takes it, and changes nothing.

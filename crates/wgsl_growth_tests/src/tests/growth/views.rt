@@ -9,18 +9,9 @@ use crate::tests::samples::{array, array_of, at, named, pair, pair_with, storabl
 use std::alloc::Global;
 use std::process::Abort;
 use wgsl_rules::Type;
+use wgsl_samples::refusals::refusal_to_write;
 use wgsl_scalar::Error;
 use wgsl_values::{Instance, MemView};
-
-/// Why what the view leads to can't be written; `None` where it can.
-fn refusal_to_write(alloc: Global, value: &mut Instance, view: &MemView) -> Option<Error>
-    requires { IsWellFormed (value_of value.old) }
-{
-    match value.view_mut(alloc, view) {
-        Ok(_) => None,
-        Err(refusal) => Some(refusal),
-    }
-}
 
 /// Asserts that the view is refused to be looked at.
 fn assert_not_viewed(

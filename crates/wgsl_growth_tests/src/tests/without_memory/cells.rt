@@ -1,9 +1,7 @@
 //! What a store and a session answer without memory: tests, bytes that are lent, and writes and copies that are accepted.
 
-ghost use Rattle.wgsl_session.specs.Calls.{IsSoundCall};
-ghost use Rattle.wgsl_session.specs.View.{call_of};
-
 use crate::tests::asserts::{assert_memory, assert_same, assert_that, is_memory};
+use crate::tests::cells::{assert_copied, cell_with, sound};
 use crate::tests::samples::{
     array, array_from, array_of, atomic_of, pair_with, reference_of, text, vector_of,
 };
@@ -19,18 +17,6 @@ use wgsl_scalar::LiteralInstance::U32;
 use wgsl_session::{Call, Fault, Reply, Session};
 use wgsl_store::{References, Store};
 use wgsl_values::{AtomicInstance, Instance, MemView, RefInstance};
-
-/// The reference to a new cell with the value.
-pub(super) fn cell_with(
-    rt: &impl Abort,
-    alloc: Global,
-    store: &mut Store,
-    value: Instance,
-) -> RefInstance {
-    assert!(rt; value.is_storable());
-    assert!(rt; store.holds_value(&value));
-    made!(rt; RefInstance::new(alloc, store, value, Storage, ReadWrite))
-}
 
 pub(super) fn view_index(
     rt: &impl Abort,
@@ -286,19 +272,6 @@ fn bytes_that_are_lent(rt: HostRuntime) {
     drop((component, truth));
 }
 
-/// Asserts that what the one reference names is copied to what the other names.
-fn assert_copied(
-    rt: &impl Abort,
-    alloc: Global,
-    store: &mut Store,
-    from: &RefInstance,
-    to: &RefInstance,
-) {
-    assert!(rt; store.holds(from));
-    assert!(rt; store.holds(to));
-    assert_same(rt, from.copy_to(alloc, store, to), Ok(()));
-}
-
 #[test]
 fn copies_between_parts_of_cells_of_bytes(rt: HostRuntime) {
     let alloc = rt.alloc();
@@ -323,14 +296,6 @@ fn copies_between_parts_of_cells_of_bytes(rt: HostRuntime) {
     assert_lends(&rt, &store, &array, Some(back.as_slice()));
     drop((store, array, vector));
     drop((first, last, component));
-}
-
-/// The call, which a session takes.
-fn sound(rt: &impl Abort, call: Call) -> Call
-    ensures { IsSoundCall (call_of result) }
-{
-    assert!(rt; call.is_sound());
-    call
 }
 
 /// Makes a cell or a handle of the session, with memory.

@@ -1,8 +1,9 @@
 //! Writes of the values that bytes lay out, to parts of cells of bytes: those that are accepted.
 
 use crate::tests::asserts::assert_same;
+use crate::tests::cells::cell_with;
 use crate::tests::samples::{pair, vector_of};
-use crate::tests::without_memory::cells::{assert_lends, cell_with, view_index};
+use crate::tests::without_memory::cells::{assert_lends, view_index};
 use std::alloc::Global;
 use std::process::Abort;
 use wgsl_rules::AccessMode::ReadWrite;

@@ -4,11 +4,11 @@ use crate::tests::asserts::{assert_has, assert_same, assert_told};
 use crate::tests::samples::{
     light, mat2x3, matrix, named, storable, text, to_component, to_member,
 };
-use crate::tests::views::refusal_to_write;
 use std::alloc::{AllocError, Global};
 use std::mem;
 use std::process::Abort;
 use wgsl_rules::Type;
+use wgsl_samples::refusals::refusal_to_write;
 use wgsl_scalar::Error;
 use wgsl_values::{Instance, MemView};
 
