@@ -1,5 +1,5 @@
 -- The bytes that an atomic's new number overwrites.
-use Rattle.std.proofs.Common.{◌≡◌, ℕ, List, [], length, slice_get, Option, Some, Ok, refl, ap, ◌∙◌, subst}
+use Rattle.std.proofs.Common.{◌≡◌, ℕ, List, [], length, slice_get, Option, Some, Ok, refl, sym, ap, ◌∙◌, subst}
 use Rattle.std.specs.Prelude.{◌⊎◌, Bool, true, false, if◌then◌else◌, IfOk}
 use mathlib.Core.Logic.{inl, inr}
 use Rattle.wgsl_rules.proofs.lemmas.Paths.{fits-Decides}
