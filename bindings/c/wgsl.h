@@ -1,6 +1,5 @@
 /* How the types of a WGSL source lie in memory, what its constants are, what is wrong with it, and scripts of calls on a
- * shader's memory. The functions are those of a static library, libwgsl_c.a, each of them proved; it is linked with
- * liblibc_c.a, which has the C library's heap for it. C11 and C++17.
+ * shader's memory. The functions are those of a library, libwgsl.a or libwgsl.so, each of them proved. C11 and C++17.
  *
  * TEXTS go in and come out as UTF-8, by a pointer and a number of bytes. No zero byte ends them. NULL with 0 is the
  * empty text, and NULL with 0 for `out` is room for nothing.
