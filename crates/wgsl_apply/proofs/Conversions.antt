@@ -8,7 +8,7 @@ use Rattle.wgsl_rules.specs.InCommon.{all_in, all_in_common, prepended}
 use Rattle.wgsl_rules.specs.Types.{Ty}
 use Rattle.wgsl_rules.specs.Values.{Val, type_of, IsStorable}
 use Rattle.wgsl_rules.proofs.lemmas.Converted.{converted-type, storable-well_formed}
-use Rattle.wgsl_store.proofs.ConvertedParts.{converted-storable}
+use Rattle.wgsl_values.proofs.lemmas.ConvertedValues.{converted-storable}
 
 -- what was converted, if it was
 pub some-converted : {X : Type 0} (view : X → Val) (o : Option X) (v : Val) (t : Ty) → option_map view o ≡ converted v t → IsStorable v → IfSome o (λ x. IsStorable (view x) × (type_of (view x) ≡ t))

@@ -8,7 +8,7 @@ use Rattle.wgsl_rules.specs.declared.syntax.UnaryOperator.{UnaryOperator}
 use Rattle.wgsl_rules.specs.declared.syntax.UnaryOperator.TheVariants as before
 use Rattle.wgsl_rules.specs.declared.syntax.BinaryOperator.{BinaryOperator}
 use Rattle.wgsl_rules.specs.declared.syntax.BinaryOperator.TheVariants as between
-use Rattle.wgsl_ops.specs.Instances.{of_one, of_two}
+use Rattle.wgsl_value_ops.specs.Instances.{of_one, of_two}
 
 -- the operator between two values; arithmetic and shifts alone depend on the stage
 abbrev pub operated : BinaryOperator → ShaderStage → Val → Val → Outcome Val

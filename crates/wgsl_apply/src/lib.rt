@@ -1,4 +1,4 @@
-//! The operators of `wgsl_ops` by what a source writes, and values that are made and converted: on
+//! The operators of `wgsl_value_ops` by what a source writes, and values that are made and converted: on
 //! any values, of which each condition of the library is tested, with its refusals in words.
 #![tactic(auto)]
 

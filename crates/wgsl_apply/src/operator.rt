@@ -7,12 +7,12 @@ ghost use Rattle.wgsl_scalar.specs.Answers.{Gives};
 ghost use Rattle.wgsl_values.specs.View.{value_of};
 
 use std::alloc::Global;
-use wgsl_ops::{InstanceOperators, Operators};
 use wgsl_rules::{BinaryOperator, ShaderStage, Ty, UnaryOperator};
 use wgsl_scalar::Error;
+use wgsl_value_ops::{Operators, logical_and, logical_or};
 use wgsl_values::Instance;
 
-/// The operator before a value, refused as the operators of `wgsl_ops` are; `&` and `*` are `Unary`,
+/// The operator before a value, refused as the operators of `wgsl_value_ops` are; `&` and `*` are `Unary`,
 /// since constants are no memory. What is not well-formed is answered with `Memory`. It calls itself
 /// for each level of the value: keep to 4,095 within a stack of 8 MiB.
 pub fn unary(alloc: Global, operator: UnaryOperator, operand: &Instance) -> Result<Instance, Error>
@@ -42,7 +42,7 @@ fn unary_of(alloc: Global, operator: UnaryOperator, operand: &Instance) -> Resul
     }
 }
 
-/// The operator between two values in the stage, refused as the operators of `wgsl_ops` are. What is
+/// The operator between two values in the stage, refused as the operators of `wgsl_value_ops` are. What is
 /// not well-formed is answered with `Memory`. It calls itself for each level of the values: keep to
 /// 4,095 within a stack of 8 MiB.
 pub fn binary(
@@ -91,7 +91,7 @@ fn binary_of(
         BinaryOperator::BitwiseOr => left.op_bitor(alloc, right),
         BinaryOperator::BitwiseAnd => left.op_bitand(alloc, right),
         BinaryOperator::BitwiseXor => left.op_bitxor(alloc, right),
-        BinaryOperator::ShortCircuitOr => left.op_or(alloc, right),
-        BinaryOperator::ShortCircuitAnd => left.op_and(alloc, right),
+        BinaryOperator::ShortCircuitOr => logical_or(alloc, left, right),
+        BinaryOperator::ShortCircuitAnd => logical_and(alloc, left, right),
     }
 }

@@ -13,7 +13,7 @@ use Rattle.wgsl_values.specs.declared.instance.Instance.{Instance, Literal, Vec}
 use Rattle.wgsl_values.specs.declared.vector.VecInstance.{VecInstance}
 use Rattle.wgsl_eval.specs.Constructors.{components_for, conversion_for, listed, scalars_in, scalars_of}
 use Rattle.wgsl_eval.specs.declared.literals.Conversion.TheVariants.{Automatic, Written}
-use Rattle.wgsl_ops.proofs.InPlace.{listed-vals}
+use Rattle.wgsl_value_ops.proofs.InPlace.{listed-vals}
 
 -- ---- scalars and vectors
 

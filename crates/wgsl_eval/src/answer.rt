@@ -11,8 +11,9 @@ use crate::sized::SizedType;
 use crate::variable::Variable;
 use std::alloc::{AllocError, Global};
 use std::fmt;
+use wgsl_scalar::LiteralInstance;
 use wgsl_source::Extent;
-use wgsl_types::{Instance, LiteralInstance};
+use wgsl_values::Instance;
 
 /// How many parts of values a type in a type is as much work as.
 const NODE: usize = 4;

@@ -10,8 +10,9 @@ use crate::answer::{Answer, Skip};
 use crate::evaluator::Evaluator;
 use crate::message::Message;
 use std::alloc::AllocError;
+use wgsl_scalar::LiteralInstance;
 use wgsl_source::Span;
-use wgsl_types::{Instance, LiteralInstance};
+use wgsl_values::Instance;
 
 /// What is found of a `const_assert`.
 #[derive(Clone, Copy, Debug, PartialEq, Eq)]

@@ -11,8 +11,9 @@ use crate::answer::{Answer, Guard, Need, Part, Skip};
 use crate::call::natural_in;
 use crate::evaluator::Evaluator;
 use std::alloc::AllocError;
+use wgsl_rules::{BinaryOperator, Type, UnaryOperator};
 use wgsl_source::{Callee, Span, Step};
-use wgsl_types::{BinaryOperator, Instance, Type, UnaryOperator};
+use wgsl_values::Instance;
 
 /// What an attribute gives, or why it gives nothing.
 #[derive(Drop)]

@@ -47,8 +47,10 @@ use std::alloc::{AllocError, Global};
 use std::slice;
 use wgsl_apply::{Asked, literal_of, natural};
 use wgsl_functions::{Builtin, against_function, bitcast, bitcast_argument};
+use wgsl_rules::Type;
+use wgsl_scalar::{Error, LiteralInstance};
 use wgsl_source::{Generator, Predeclared, language_name};
-use wgsl_types::{Error, Instance, LiteralInstance, Type};
+use wgsl_values::Instance;
 
 /// What is told of matrices of integers.
 pub(crate) const INTEGRAL: &str = "WGSL has no matrices of integers";

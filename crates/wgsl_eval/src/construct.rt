@@ -48,8 +48,10 @@ use wgsl_apply::{
     automatic, in_common, literal_of, make_array, make_matrix, make_structure, zero, zero_literal,
 };
 use wgsl_functions::{Dialect, written};
+use wgsl_rules::{StructMemberType, StructType, Type, convert_all};
+use wgsl_scalar::LiteralInstance;
 use wgsl_source::Generator;
-use wgsl_types::{Instance, LiteralInstance, StructMemberType, StructType, Type, convert_all};
+use wgsl_values::Instance;
 
 impl Evaluator<'_> {
     /// A value of the type, made of these values of this size.

@@ -12,7 +12,8 @@ use crate::evaluator::Evaluator;
 use crate::sized::SizedType;
 use std::alloc::AllocError;
 use wgsl_apply::{automatic, has_rank, is_short};
-use wgsl_types::{Instance, Type};
+use wgsl_rules::Type;
+use wgsl_values::Instance;
 
 impl Evaluator<'_> {
     /// The value in a type to which it converts by itself.

@@ -16,8 +16,9 @@ use crate::settings::Settings;
 use crate::variable::Variable;
 use std::alloc::{AllocError, Global};
 use wgsl_functions::Dialect;
+use wgsl_rules::{ShaderStage, Type};
 use wgsl_source::{Declared, Extent, Reading};
-use wgsl_types::{Instance, ShaderStage, Type};
+use wgsl_values::Instance;
 
 /// The declarations of a module in their order, and what is told of them in its order. Of many faults and of many
 /// warnings the first that are found are told, and faults before warnings.

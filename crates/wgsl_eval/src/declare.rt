@@ -21,8 +21,10 @@ use crate::sized::SizedType;
 use std::alloc::AllocError;
 use std::mem;
 use wgsl_apply::{automatic, concrete};
+use wgsl_rules::{ShaderStage, Ty, Type};
+use wgsl_scalar::LiteralInstance;
 use wgsl_source::{Declared, Span};
-use wgsl_types::{Instance, LiteralInstance, ShaderStage, Ty, Type};
+use wgsl_values::Instance;
 
 impl Evaluator<'_> {
     /// Gives one declaration its meaning, those that it names having theirs.

@@ -20,8 +20,9 @@ use crate::message::Message;
 use crate::settings::Settings;
 use std::alloc::{AllocError, Global};
 use wgsl_functions::Dialect;
+use wgsl_rules::ShaderStage;
 use wgsl_source::{Declared, Reading};
-use wgsl_types::{Instance, ShaderStage};
+use wgsl_values::Instance;
 
 /// The values of a source, what is found of its assertions, and what is told of them, each in its order.
 /// Of many faults and of many warnings the first that are found are told, and faults before warnings.

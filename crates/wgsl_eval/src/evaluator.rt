@@ -21,8 +21,9 @@ use crate::waiting::popped_waiting;
 use std::alloc::{AllocError, Global};
 use wgsl_apply::{Asked, is_of_numbers, refusal_text};
 use wgsl_functions::Dialect;
+use wgsl_rules::ShaderStage;
+use wgsl_scalar::Error;
 use wgsl_source::{Callee, Reading, Span, Step};
-use wgsl_types::{Error, ShaderStage};
 
 /// The most parts of values that are made and named in all.
 const WORK: usize = 1 << 22;

@@ -5,8 +5,8 @@ ghost use Rattle.std.specs.List.{position};
 ghost use Rattle.std.specs.Str.{bytes_eq};
 ghost use Rattle.wgsl_eval.specs.Overrides.{given_for, is_override};
 
+use wgsl_scalar::LiteralInstance;
 use wgsl_source::{Declared, Reading};
-use wgsl_types::LiteralInstance;
 
 /// A value that a host gives an override.
 #[derive(Clone, Copy, Debug, PartialEq, Eq)]

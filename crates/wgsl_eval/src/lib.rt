@@ -1,5 +1,5 @@
 //! Evaluates the constant expressions of a WGSL source, and gives its declarations their types, by
-//! the operators and builtin functions of `wgsl_types`; it adds no arithmetic of its own.
+//! the operators of `wgsl_value_ops` and the builtin functions of `wgsl_value_builtins`; it adds no arithmetic of its own.
 #![tactic(auto)]
 
 mod answer;

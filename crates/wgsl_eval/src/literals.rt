@@ -23,7 +23,9 @@ use crate::evaluator::Evaluator;
 use std::alloc::{AllocError, Global};
 use wgsl_apply::{literal_of, make_vector};
 use wgsl_functions::written;
-use wgsl_types::{Instance, LiteralInstance, Type};
+use wgsl_rules::Type;
+use wgsl_scalar::LiteralInstance;
+use wgsl_values::Instance;
 
 /// Scalars, or the answer that there is in their place.
 #[derive(Drop)]

@@ -19,8 +19,9 @@ use crate::nearest::nearest;
 use crate::opaque::is_opaque;
 use crate::types::predeclared;
 use std::alloc::AllocError;
+use wgsl_scalar::LiteralInstance;
 use wgsl_source::{Literal, Predeclared, Scalar, language_name};
-use wgsl_types::{Instance, LiteralInstance};
+use wgsl_values::Instance;
 
 /// How many characters a name has at most that is told.
 const NAMED: usize = 40;

@@ -10,7 +10,9 @@ use crate::answer::{Answer, Guard, Value};
 use crate::evaluator::Evaluator;
 use std::alloc::AllocError;
 use wgsl_apply::{Asked, against_operator};
-use wgsl_types::{BinaryOperator, Instance, LiteralInstance, UnaryOperator};
+use wgsl_rules::{BinaryOperator, UnaryOperator};
+use wgsl_scalar::LiteralInstance;
+use wgsl_values::Instance;
 
 impl Evaluator<'_> {
     pub(crate) fn unary(

@@ -30,7 +30,8 @@ use crate::literals::vector_of;
 use crate::waiting::has_value;
 use std::alloc::{AllocError, Global};
 use wgsl_apply::{Asked, literal_of};
-use wgsl_types::{Instance, LiteralInstance, MemView, VecInstance};
+use wgsl_scalar::LiteralInstance;
+use wgsl_values::{Instance, MemView, VecInstance};
 
 impl Evaluator<'_> {
     /// An element of a value.

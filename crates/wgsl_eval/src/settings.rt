@@ -1,7 +1,7 @@
 //! How a source is evaluated.
 
 use wgsl_functions::Dialect;
-use wgsl_types::ShaderStage;
+use wgsl_rules::ShaderStage;
 
 /// How a source is evaluated.
 #[derive(Clone, Copy, Debug, PartialEq, Eq)]

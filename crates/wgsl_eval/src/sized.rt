@@ -8,8 +8,8 @@ ghost use Rattle.wgsl_eval.specs.Reasons.{has_floats};
 use crate::answer::Size;
 use crate::types::is_float;
 use std::alloc::{AllocError, Global};
+use wgsl_rules::Type;
 use wgsl_source::Scalar;
-use wgsl_types::Type;
 
 /// The most types in a type, those of members included.
 const NODES: usize = 4096;

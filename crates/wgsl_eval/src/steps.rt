@@ -12,7 +12,7 @@ use crate::answer::Answer;
 use crate::evaluator::Evaluator;
 use crate::waiting::popped_waiting;
 use std::alloc::AllocError;
-use wgsl_types::{BinaryOperator, UnaryOperator};
+use wgsl_rules::{BinaryOperator, UnaryOperator};
 
 impl Evaluator<'_> {
     /// The step of an operator with one operand.

@@ -20,8 +20,8 @@ use crate::sized::SizedType;
 use crate::types::{Together, structure};
 use std::alloc::AllocError;
 use std::collections::BTreeMap;
+use wgsl_rules::{StructMemberType, StructType, Type};
 use wgsl_source::Field;
-use wgsl_types::{StructMemberType, StructType, Type};
 
 /// What a member is found to be.
 #[derive(Drop)]

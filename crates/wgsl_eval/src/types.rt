@@ -10,8 +10,8 @@ ghost use Rattle.wgsl_eval.specs.TypeNames.{generated_type, predeclared_type};
 use crate::answer::Size;
 use crate::sized::SizedType;
 use std::alloc::{AllocError, Global};
+use wgsl_rules::{StructType, Type};
 use wgsl_source::{Generator, Predeclared, Scalar};
-use wgsl_types::{StructType, Type};
 
 /// The type that the language gives a name; `None` of a name that needs a template list.
 pub(crate) fn predeclared(

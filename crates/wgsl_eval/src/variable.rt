@@ -11,8 +11,8 @@ use crate::attribute::{Attribute, Use};
 use crate::evaluator::Evaluator;
 use crate::sized::SizedType;
 use std::alloc::AllocError;
+use wgsl_rules::{AccessMode, AddressSpace, Type};
 use wgsl_source::{DeclaredVariable, Span};
-use wgsl_types::{AccessMode, AddressSpace, Type};
 
 /// A variable of a module: its type, and what is given of its address space, its access mode and the
 /// numbers by which a host names it (WGSL: variable declarations; resource interface).

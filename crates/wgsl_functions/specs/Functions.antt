@@ -4,11 +4,11 @@ use Rattle.wgsl_rules.specs.Refusals.{Outcome, builtin}
 use Rattle.wgsl_rules.specs.Types.{Ty}
 use Rattle.wgsl_rules.specs.Values.{Val}
 use Rattle.wgsl_rules.specs.declared.syntax.ShaderStage.{ShaderStage}
-use Rattle.wgsl_types.specs.Numeric.{magnitudes, signs, leading_zero_counts, one_bit_counts, trailing_zero_counts, lesser_of, greater_of, clamped, dotted, transposition}
-use Rattle.wgsl_types.specs.BitFunctions.{first_leading_bits, first_trailing_bits, reversed_bits, extracted_bits, inserted_bits}
-use Rattle.wgsl_types.specs.Bitcast.{is_bitcast_target, bitcast}
-use Rattle.wgsl_types.specs.Packing.{packed_signed, packed_unsigned, packed_signed_limited, packed_unsigned_limited, unpacked_signed, unpacked_unsigned, dot_packed_signed, dot_packed_unsigned}
-use Rattle.wgsl_types.specs.Logical.{all_hold, any_holds, selected}
+use Rattle.wgsl_value_builtins.specs.Numeric.{magnitudes, signs, leading_zero_counts, one_bit_counts, trailing_zero_counts, lesser_of, greater_of, clamped, dotted, transposition}
+use Rattle.wgsl_value_builtins.specs.BitFunctions.{first_leading_bits, first_trailing_bits, reversed_bits, extracted_bits, inserted_bits}
+use Rattle.wgsl_value_builtins.specs.Bitcast.{is_bitcast_target, bitcast}
+use Rattle.wgsl_value_builtins.specs.Packing.{packed_signed, packed_unsigned, packed_signed_limited, packed_unsigned_limited, unpacked_signed, unpacked_unsigned, dot_packed_signed, dot_packed_unsigned}
+use Rattle.wgsl_value_builtins.specs.Logical.{all_hold, any_holds, selected}
 use Rattle.wgsl_functions.specs.declared.builtin.Builtin.{Builtin}
 use Rattle.wgsl_functions.specs.declared.builtin.Builtin.TheVariants as functions
 use Rattle.wgsl_functions.specs.declared.builtin.OfOne.{OfOne}

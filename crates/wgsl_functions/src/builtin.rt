@@ -18,12 +18,14 @@ ghost use Rattle.wgsl_functions.specs.Names.{
 ghost use Rattle.wgsl_rules.specs.Values.{IsStorable, IsWellFormed};
 ghost use Rattle.wgsl_rules.specs.View.{type_view};
 ghost use Rattle.wgsl_scalar.specs.Answers.{Gives};
-ghost use Rattle.wgsl_types.specs.BitFunctions.{inserted_bits};
+ghost use Rattle.wgsl_value_builtins.specs.BitFunctions.{inserted_bits};
 ghost use Rattle.wgsl_values.specs.View.{value_of};
 
 use crate::names::{is_of_floats, is_of_memory};
 use std::alloc::Global;
-use wgsl_types::{BuiltinReason, Error, Instance, ShaderStage, Type};
+use wgsl_rules::{ShaderStage, Type};
+use wgsl_scalar::{BuiltinReason, Error};
+use wgsl_values::Instance;
 
 /// A function of one value.
 #[derive(Clone, Copy, Debug, PartialEq, Eq)]
@@ -190,23 +192,23 @@ impl OfOne {
         ensures storable { IfOk result (λ v. IsStorable (value_of v)) }
     {
         match self {
-            OfOne::Abs => wgsl_types::abs(alloc, e),
-            OfOne::Sign => wgsl_types::sign(alloc, e),
-            OfOne::CountLeadingZeros => wgsl_types::countLeadingZeros(alloc, e),
-            OfOne::CountOneBits => wgsl_types::countOneBits(alloc, e),
-            OfOne::CountTrailingZeros => wgsl_types::countTrailingZeros(alloc, e),
-            OfOne::FirstLeadingBit => wgsl_types::firstLeadingBit(alloc, e),
-            OfOne::FirstTrailingBit => wgsl_types::firstTrailingBit(alloc, e),
-            OfOne::ReverseBits => wgsl_types::reverseBits(alloc, e),
-            OfOne::Transpose => wgsl_types::transpose(alloc, e),
-            OfOne::Pack4xI8 => wgsl_types::pack4xI8(alloc, e),
-            OfOne::Pack4xU8 => wgsl_types::pack4xU8(alloc, e),
-            OfOne::Pack4xI8Clamp => wgsl_types::pack4xI8Clamp(alloc, e),
-            OfOne::Pack4xU8Clamp => wgsl_types::pack4xU8Clamp(alloc, e),
-            OfOne::Unpack4xI8 => wgsl_types::unpack4xI8(alloc, e),
-            OfOne::Unpack4xU8 => wgsl_types::unpack4xU8(alloc, e),
-            OfOne::All => wgsl_types::all(e),
-            OfOne::Any => wgsl_types::any(e),
+            OfOne::Abs => wgsl_value_builtins::abs(alloc, e),
+            OfOne::Sign => wgsl_value_builtins::sign(alloc, e),
+            OfOne::CountLeadingZeros => wgsl_value_builtins::countLeadingZeros(alloc, e),
+            OfOne::CountOneBits => wgsl_value_builtins::countOneBits(alloc, e),
+            OfOne::CountTrailingZeros => wgsl_value_builtins::countTrailingZeros(alloc, e),
+            OfOne::FirstLeadingBit => wgsl_value_builtins::firstLeadingBit(alloc, e),
+            OfOne::FirstTrailingBit => wgsl_value_builtins::firstTrailingBit(alloc, e),
+            OfOne::ReverseBits => wgsl_value_builtins::reverseBits(alloc, e),
+            OfOne::Transpose => wgsl_value_builtins::transpose(alloc, e),
+            OfOne::Pack4xI8 => wgsl_value_builtins::pack4xI8(alloc, e),
+            OfOne::Pack4xU8 => wgsl_value_builtins::pack4xU8(alloc, e),
+            OfOne::Pack4xI8Clamp => wgsl_value_builtins::pack4xI8Clamp(alloc, e),
+            OfOne::Pack4xU8Clamp => wgsl_value_builtins::pack4xU8Clamp(alloc, e),
+            OfOne::Unpack4xI8 => wgsl_value_builtins::unpack4xI8(alloc, e),
+            OfOne::Unpack4xU8 => wgsl_value_builtins::unpack4xU8(alloc, e),
+            OfOne::All => wgsl_value_builtins::all(e),
+            OfOne::Any => wgsl_value_builtins::any(e),
         }
     }
 }
@@ -258,11 +260,11 @@ impl OfTwo {
         ensures storable { IfOk result (λ v. IsStorable (value_of v)) }
     {
         match self {
-            OfTwo::Min => wgsl_types::min(alloc, a, b),
-            OfTwo::Max => wgsl_types::max(alloc, a, b),
-            OfTwo::Dot => wgsl_types::dot(alloc, a, b, stage),
-            OfTwo::Dot4U8Packed => wgsl_types::dot4U8Packed(alloc, a, b),
-            OfTwo::Dot4I8Packed => wgsl_types::dot4I8Packed(alloc, a, b),
+            OfTwo::Min => wgsl_value_builtins::min(alloc, a, b),
+            OfTwo::Max => wgsl_value_builtins::max(alloc, a, b),
+            OfTwo::Dot => wgsl_value_builtins::dot(alloc, a, b, stage),
+            OfTwo::Dot4U8Packed => wgsl_value_builtins::dot4U8Packed(alloc, a, b),
+            OfTwo::Dot4I8Packed => wgsl_value_builtins::dot4I8Packed(alloc, a, b),
         }
     }
 }
@@ -313,9 +315,9 @@ impl OfThree {
         ensures storable { IfOk result (λ v. IsStorable (value_of v)) }
     {
         match self {
-            OfThree::Clamp => wgsl_types::clamp(alloc, a, b, c),
-            OfThree::Select => wgsl_types::select(alloc, a, b, c),
-            OfThree::ExtractBits => wgsl_types::extractBits(alloc, a, b, c),
+            OfThree::Clamp => wgsl_value_builtins::clamp(alloc, a, b, c),
+            OfThree::Select => wgsl_value_builtins::select(alloc, a, b, c),
+            OfThree::ExtractBits => wgsl_value_builtins::extractBits(alloc, a, b, c),
         }
     }
 }
@@ -335,7 +337,7 @@ pub fn insert_bits(
 {
     let are_values = e.is_well_formed() && bits.is_well_formed();
     if are_values && offset.is_well_formed() && count.is_well_formed() {
-        wgsl_types::insertBits(alloc, e, bits, offset, count)
+        wgsl_value_builtins::insertBits(alloc, e, bits, offset, count)
     } else {
         Err(Error::Memory)
     }
@@ -351,8 +353,8 @@ pub fn bitcast(alloc: Global, ty: &Type, e: &Instance) -> Result<Instance, Error
     if !e.is_well_formed() {
         return Err(Error::Memory);
     }
-    if !wgsl_types::is_bitcast_target(ty) {
+    if !wgsl_value_builtins::is_bitcast_target(ty) {
         return Err(Error::Builtin(BuiltinReason::NotI32OrU32));
     }
-    wgsl_types::bitcast_t(alloc, ty, e)
+    wgsl_value_builtins::bitcast_t(alloc, ty, e)
 }

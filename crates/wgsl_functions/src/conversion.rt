@@ -6,7 +6,8 @@ ghost use Rattle.wgsl_rules.specs.View.{type_view};
 ghost use Rattle.wgsl_scalar.specs.Literals.{literal_of};
 
 use wgsl_apply::zero_literal;
-use wgsl_types::{LiteralInstance, Type};
+use wgsl_rules::Type;
+use wgsl_scalar::LiteralInstance;
 
 /// The literal as a scalar of the type that is written out: a bool as 0 or 1, whether a number is not 0, an
 /// `i32` and a `u32` with the bits of each other, and else what it converts to by itself. `None` where it is

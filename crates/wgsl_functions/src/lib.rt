@@ -1,4 +1,4 @@
-//! The builtin functions of `wgsl_types` by the names that a source writes, on any values, of which
+//! The builtin functions of `wgsl_value_builtins` by the names that a source writes, on any values, of which
 //! each condition of the library is tested.
 #![tactic(auto)]
 

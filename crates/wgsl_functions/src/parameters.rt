@@ -32,7 +32,9 @@ ghost use Rattle.wgsl_values.specs.View.{value_of};
 use crate::builtin::{Builtin, OfOne, OfThree, OfTwo};
 use std::alloc::{AllocError, Global};
 use wgsl_apply::component;
-use wgsl_types::{Convert, Instance, LiteralInstance, Ty, Type};
+use wgsl_rules::{Convert, Ty, Type};
+use wgsl_scalar::LiteralInstance;
+use wgsl_values::Instance;
 
 /// Whose rules hold where WGSL and the Rust crate differ.
 #[derive(Clone, Copy, Debug, PartialEq, Eq)]

@@ -19,7 +19,9 @@ ghost use Rattle.wgsl_values.specs.View.{value_of};
 
 use crate::builtin::{Builtin, OfOne, OfThree};
 use wgsl_apply::{component, is_runtime, natural};
-use wgsl_types::{Instance, LiteralInstance, ShaderStage};
+use wgsl_rules::ShaderStage;
+use wgsl_scalar::LiteralInstance;
+use wgsl_values::Instance;
 
 /// What the standard says against a function of these values, in a stage, that the library accepts: the sign
 /// of a `u32`; counts of bits of an abstract integer, which [`Builtin::arguments`] leaves in the Rust crate's dialect

@@ -10,9 +10,6 @@ use Rattle.wgsl_rules.specs.Types.{atomic}
 use Rattle.wgsl_rules.specs.Values.{Step, Val, Vals, no_vals, val, item, truth, number, atomic_of, type_of, type_of_kind, IsAtomicContent, IsLiteral, IsStorable}
 use Rattle.wgsl_rules.specs.Equal.{same-Decides}
 use Rattle.wgsl_rules.proofs.lemmas.Paths.{fits-Decides}
-use Rattle.wgsl_scalar.specs.Literals.{literal_of}
-use Rattle.wgsl_scalar.specs.declared.literal.LiteralInstance.{LiteralInstance}
-use Rattle.wgsl_scalar.specs.declared.literal.LiteralInstance.TheVariants as literals
 use Rattle.wgsl_layout.specs.Buffers.{buffer}
 use Rattle.wgsl_layout.specs.FlatCells.{Holds, IsPartAt}
 use Rattle.wgsl_layout.specs.NumbersIn.{HasNumberAt, IsLikeNumber, IsNumberAt, number_put, with_number}
@@ -27,6 +24,7 @@ use Rattle.wgsl_layout.proofs.lemmas.Compose.{compose, value-below}
 use Rattle.wgsl_layout.proofs.lemmas.Flat.{IsPut, fits-laid, put-at-path}
 use Rattle.wgsl_layout.proofs.lemmas.PathRanges.{range_in-append, view-path}
 use Rattle.wgsl_layout.proofs.lemmas.Standing.{stands}
+pub use Rattle.wgsl_values.proofs.lemmas.Literals.{is-literal}
 use Rattle.wgsl_values.proofs.lemmas.ViewedPaths.{has-path}
 use Rattle.wgsl_values.proofs.lemmas.Replaced.{part-storable}
 
@@ -44,14 +42,6 @@ put-append (i ∷ p) q w v x e =
     ap (with_parts v) (replaced-same i (put_tree p (put_tree q w x)) (put_tree (p ++ q) w) (parts v) (λ z is. put-append p q w z x (ap (option_and_then (value_at p)) (sym is) ∙ e)))
 
 -- ---- numbers, and atomics that hold them
-
-pub is-literal : (l : LiteralInstance) → IsLiteral (literal_of l)
-is-literal (literals.Bool b) = tt
-is-literal (literals.AbstractInt z) = tt
-is-literal (literals.I32 z) = tt
-is-literal (literals.U32 n) = tt
-is-literal (literals.I64 z) = tt
-is-literal (literals.U64 n) = tt
 
 no-truth : (k : kinds.Kind) → type_of (truth true) ≡ type_of_kind k → ⊥
 no-truth kinds.abstract_int e = cc

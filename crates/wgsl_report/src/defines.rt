@@ -4,8 +4,9 @@ use crate::numbers::{HostNumbers, host_numbers};
 use std::alloc::{AllocError, Global};
 use wgsl_eval::{Given, Message, Need, Outcome, Settings, Severity, evaluate_in, is_override};
 use wgsl_rules::ShaderStage;
+use wgsl_scalar::LiteralInstance;
 use wgsl_source::Reading;
-use wgsl_types::{Instance, LiteralInstance};
+use wgsl_values::Instance;
 
 /// A value for an override: the name or the number of that, and an expression.
 #[derive(Clone, Copy, Debug, PartialEq, Eq)]

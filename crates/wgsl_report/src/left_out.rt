@@ -6,8 +6,8 @@ ghost use Rattle.wgsl_report.specs.Kinds.{is_looked_for, skip_in};
 use crate::request::Request;
 use std::alloc::{AllocError, Global};
 use wgsl_eval::{Item, ItemKind, Message, Need, Part, Severity, Skip};
+use wgsl_rules::AddressSpace;
 use wgsl_source::{Declared, Reading};
-use wgsl_types::AddressSpace;
 
 /// A declaration that has no layout here, and why.
 #[derive(Clone, Copy)]

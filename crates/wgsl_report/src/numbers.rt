@@ -8,8 +8,9 @@ use wgsl_eval::{
     Evaluated, Evaluation, Given, Item, ItemKind, Message, Need, Outcome, Settings, Severity,
     evaluate_with, resolve_with,
 };
+use wgsl_scalar::LiteralInstance;
 use wgsl_source::{Literal, Reading};
-use wgsl_types::{Instance, LiteralInstance};
+use wgsl_values::Instance;
 
 /// The most that a host has as the number of an override (WebGPU: pipeline-overridable constants).
 const LARGEST_ID: u32 = 65_535;

@@ -18,7 +18,7 @@ use Rattle.wgsl_store.proofs.lemmas.WritesApart.{at-other}
 use Rattle.wgsl_layout.specs.Ranges.{range, view_range}
 use Rattle.wgsl_values.specs.Same.{same_value}
 use Rattle.wgsl_types.proofs.MemoryAnswers.{exchange-is, of-changes}
-use Rattle.wgsl_ops.proofs.Outcomes.{ok-is}
+use Rattle.wgsl_value_ops.proofs.Outcomes.{ok-is}
 use Rattle.wgsl_types.proofs.Stored.{IsArgument, IsNew, argument-of, argument-new, atomic-fits, store-is}
 use Rattle.wgsl_types.specs.Atomics.{writable, atomic_stored, Changed, atomic_compare_exchanged}
 use Rattle.wgsl_types.specs.Laws.{IsOverwritten, OverwritesNumber, AtomicsOverwriteTheirBytes}

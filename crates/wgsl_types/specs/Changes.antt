@@ -3,7 +3,7 @@ use Rattle.wgsl_rules.specs.Refusals.{Outcome}
 use Rattle.wgsl_rules.specs.Values.{Val}
 use Rattle.wgsl_rules.specs.declared.syntax.BinaryOperator.TheVariants as between
 use Rattle.wgsl_types.specs.Atomics.{operated}
-use Rattle.wgsl_types.specs.Numeric.{lesser_of, greater_of}
+use Rattle.wgsl_value_builtins.specs.Numeric.{lesser_of, greater_of}
 use Rattle.wgsl_types.specs.declared.changes.Change.{Change}
 use Rattle.wgsl_types.specs.declared.changes.Change.TheVariants as changes
 

@@ -10,7 +10,7 @@ ghost use Rattle.wgsl_scalar.specs.Operands.{ok_or};
 ghost use Rattle.wgsl_types.specs.Atomics.{KeepsPointer, array_length};
 ghost use Rattle.wgsl_values.specs.View.{value_of};
 
-use crate::cases::pointed;
+use crate::pointers::pointed;
 use std::alloc::Global;
 use wgsl_scalar::{BuiltinReason, Error};
 use wgsl_store::Store;

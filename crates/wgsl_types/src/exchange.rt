@@ -24,7 +24,7 @@ ghost use Rattle.wgsl_types.specs.Atomics.{
 ghost use Rattle.wgsl_values.specs.View.{reference_of, value_of};
 
 use crate::atomic::{argument, load, put_number};
-use crate::cases::writable;
+use crate::pointers::writable;
 use std::alloc::{AllocError, Global};
 use wgsl_rules::{StructMemberType, StructType, Type};
 use wgsl_scalar::{Error, LiteralInstance};

@@ -1,4 +1,6 @@
 -- Lemmas that other crates cite.
+pub mod ConvertedValues
+pub mod Literals
 pub mod Nodes
 pub mod PutTwice
 pub mod Replaced

@@ -1,5 +1,0 @@
-use Rattle.wgsl_types.proofs.Casts.{casts-undo}
-use Rattle.wgsl_types.proofs.laws.bitcasts_undo_each_other.Goals as goal
-
-pub returns : goal.returns
-returns c = casts-undo

@@ -1,6 +1,0 @@
-use Rattle.std.proofs.Common.{◌&&◌, true}
-use Rattle.wgsl_types.proofs.SoFar.{HasJoined}
-use Rattle.wgsl_types.proofs.logical.all_of.Given as goal
-
-abbrev pub invariant-loop-value : goal.invariant-loop-value
-invariant-loop-value l = HasJoined ◌&&◌ true l.bools l.value-index l.all

@@ -1,6 +1,0 @@
-use Rattle.wgsl_values.specs.View.{value_of}
-use Rattle.wgsl_types.proofs.OwnTypes.{in-own}
-use Rattle.wgsl_types.proofs.numeric.dot.Goals as goal
-
-pub returns-then-are_of_one_type-clause-value : goal.returns-then-are_of_one_type-clause-value
-returns-then-are_of_one_type-clause-value c = rw (in-own (value_of c.args.a.now) (value_of c.args.b.now) c.requires.first c.requires.second (c.are_of_one_type.ensures c.if-are_of_one_type.true)) c.dot_of.ensures.value

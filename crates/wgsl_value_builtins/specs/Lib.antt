@@ -1,0 +1,9 @@
+pub mod BitFunctions
+pub mod Bitcast
+pub mod Components
+pub mod Functions
+pub mod Laws
+pub mod Lifts
+pub mod Logical
+pub mod Numeric
+pub mod Packing

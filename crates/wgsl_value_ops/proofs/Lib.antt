@@ -1,0 +1,12 @@
+pub mod Answering
+pub mod ColumnAnswers
+pub mod InPlace
+pub mod Lifting
+pub mod Made
+pub mod OperatorLaws
+pub mod Outcomes
+pub mod OwnTypes
+pub mod Rows
+pub mod Storables
+pub mod Totals
+pub mod Types

@@ -1,0 +1,13 @@
+use Rattle.std.proofs.Common.{◌≡◌, length, map, take}
+use Rattle.std.specs.List.{zip}
+use Rattle.wgsl_value_ops.proofs.Answering.{IsSoFar}
+use Rattle.wgsl_value_ops.specs.Closures.{AnswersAtPair}
+use Rattle.wgsl_scalar.specs.Literals.{literal_of}
+use Rattle.wgsl_values.specs.View.{value_of}
+use Rattle.wgsl_value_ops.proofs.in_place.answer_pairs_into.Given as goal
+
+abbrev pub invariant-loop-i : goal.invariant-loop-i
+invariant-loop-i g l = record {
+  so_far : IsSoFar (AnswersAtPair g.F.Fn l.f) (zip (map value_of l.left) (map value_of l.right)) l.i (map literal_of (take l.i l.answers));
+  long : length l.answers ≡ 4;
+}
