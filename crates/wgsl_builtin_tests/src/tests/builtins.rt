@@ -11,7 +11,7 @@ use wgsl_rules::{ShaderStage, Type};
 use wgsl_samples::operands::Sample;
 use wgsl_samples::types::vector;
 use wgsl_scalar::Error;
-use wgsl_types::{
+use wgsl_value_builtins::{
     abs, all, any, bitcast_t, clamp, countLeadingZeros, countOneBits, countTrailingZeros, dot,
     dot4I8Packed, dot4U8Packed, extractBits, firstLeadingBit, firstTrailingBit, insertBits,
     is_bitcast_target, max, min, pack4xI8, pack4xI8Clamp, pack4xU8, pack4xU8Clamp, reverseBits,

@@ -13,7 +13,7 @@ use wgsl_samples::types::vector;
 use wgsl_samples::values::view;
 use wgsl_scalar::Error;
 use wgsl_store::{References, Store};
-use wgsl_types::{all, any, is_bitcast_target};
+use wgsl_value_builtins::{all, any, is_bitcast_target};
 use wgsl_values::{Instance, PtrInstance, RefInstance};
 
 /// What is made. The words are those of `tools/refuse/sweep`.

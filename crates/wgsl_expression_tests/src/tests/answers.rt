@@ -7,7 +7,7 @@ use crate::tests::made::made;
 use std::alloc::Global;
 use std::fmt::Display;
 use std::process::Abort;
-use wgsl_ops::{InstanceOperators, Operators};
+use wgsl_ops::InstanceOperators;
 use wgsl_rules::BinaryOperator::{
     Addition, BitwiseAnd, BitwiseOr, BitwiseXor, Division, Equality, GreaterThan, GreaterThanEqual,
     Inequality, LessThan, LessThanEqual, Multiplication, Remainder, ShiftLeft, ShiftRight,
@@ -20,6 +20,7 @@ use wgsl_rules::{BinaryOperator, ShaderStage, UnaryOperator};
 use wgsl_samples::operands::Sample;
 use wgsl_samples::refusals::text_of;
 use wgsl_scalar::Error;
+use wgsl_value_ops::{Operators, logical_and, logical_or};
 use wgsl_values::Instance;
 
 /// What the operator gives for the two values or vectors; any but `||` and `&&`.
@@ -103,6 +104,38 @@ pub(super) fn joined(
     let left = made(rt, alloc, left);
     let right = made(rt, alloc, right);
     let answer = answered!(answer(rt, alloc, operator, stage, &left, &right));
+    drop((left, right));
+    answer
+}
+
+fn truth(
+    rt: &impl Abort,
+    alloc: Global,
+    operator: BinaryOperator,
+    left: &Instance,
+    right: &Instance,
+) -> Result<Instance, Error>
+    requires left { IsWellFormed (value_of left.now) }
+    requires right { IsWellFormed (value_of right.now) }
+{
+    match operator {
+        ShortCircuitOr => logical_or(alloc, left, right),
+        ShortCircuitAnd => logical_and(alloc, left, right),
+        _ => panic!(rt; "{operator} is no function"),
+    }
+}
+
+/// What the function of the operator, `||` or `&&`, gives for the two values.
+pub(super) fn joined_by_function(
+    rt: &impl Abort,
+    alloc: Global,
+    operator: BinaryOperator,
+    left: Sample,
+    right: Sample,
+) -> Result<Instance, Error> {
+    let left = made(rt, alloc, left);
+    let right = made(rt, alloc, right);
+    let answer = answered!(truth(rt, alloc, operator, &left, &right));
     drop((left, right));
     answer
 }

@@ -4,7 +4,7 @@ use std::alloc::Global;
 use std::process::Abort;
 use wgsl_rules::Type;
 use wgsl_samples::types::vector;
-use wgsl_types::is_bitcast_target;
+use wgsl_value_builtins::is_bitcast_target;
 
 /// Asserts whether the type is a template.
 fn assert_template(rt: &impl Abort, ty: Type, wanted: bool) {

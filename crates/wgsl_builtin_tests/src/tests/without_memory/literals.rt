@@ -10,7 +10,7 @@ use wgsl_rules::ShaderStage::Const;
 use wgsl_samples::operands::vector;
 use wgsl_scalar::LiteralInstance::Bool;
 use wgsl_scalar::{BuiltinReason, Error, LiteralInstance};
-use wgsl_types::{insertBits, select};
+use wgsl_value_builtins::{insertBits, select};
 use wgsl_values::Instance;
 
 /// The rows, in memory of their own.

@@ -10,10 +10,10 @@ use crate::tests::answers::assert_answer;
 use crate::tests::made::made_vector;
 use std::alloc::Global;
 use std::process::Abort;
-use wgsl_ops::Compwise;
 use wgsl_samples::operands::{i2, i3, u2};
 use wgsl_scalar::LiteralInstance::I32;
 use wgsl_scalar::{Error, LiteralInstance};
+use wgsl_value_ops::Compwise;
 use wgsl_values::{Instance, VecInstance};
 
 /// Twice an i32 other than 3.

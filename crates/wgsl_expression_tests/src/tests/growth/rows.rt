@@ -1,6 +1,6 @@
 //! Operators on literals and vectors, in each stage where stages differ: what each two sorts of them give.
 
-use crate::tests::answers::{assert_answer, joined, turned};
+use crate::tests::answers::{assert_answer, joined, joined_by_function, turned};
 use crate::tests::rows::{parted, sample, stage, two_samples};
 use std::alloc::Global;
 use std::process::Abort;
@@ -19,6 +19,16 @@ fn assert_rows(rt: &impl Abort, alloc: Global, operator: BinaryOperator, rows: &
         let (name, operands) = parted(rt, operands, " ");
         let (left, right) = two_samples(rt, operands);
         let answer = joined(rt, alloc, operator, stage(rt, name), left, right);
+        assert_answer(rt, alloc, row, answer, wanted);
+    }
+}
+
+/// Asserts each row of the function of the operator: `left; right -> wanted`.
+fn assert_rows_of_function(rt: &impl Abort, alloc: Global, operator: BinaryOperator, rows: &str) {
+    for (row, line) in rows.lines().enumerate() {
+        let (operands, wanted) = parted(rt, line, " -> ");
+        let (left, right) = two_samples(rt, operands);
+        let answer = joined_by_function(rt, alloc, operator, left, right);
         assert_answer(rt, alloc, row, answer, wanted);
     }
 }
@@ -247,6 +257,25 @@ fn truths(rt: HostRuntime) {
         Exec true; vec2(true, true) -> Binary && bool, vec2<bool>
         Exec vec2(true, true); true -> Binary && vec2<bool>, bool";
     assert_rows(&rt, alloc, ShortCircuitAnd, rows);
+}
+
+#[test]
+fn truths_by_functions(rt: HostRuntime) {
+    let alloc = rt.alloc();
+    let rows = "\
+        true; false -> true
+        false; true -> true
+        false; false -> false
+        true; 1i -> Binary || bool, i32
+        vec2(true, true); true -> Binary || vec2<bool>, bool";
+    assert_rows_of_function(&rt, alloc, ShortCircuitOr, rows);
+    let rows = "\
+        true; false -> false
+        false; true -> false
+        true; true -> true
+        1; true -> Binary && AbstractInt, bool
+        true; vec2(true, true) -> Binary && bool, vec2<bool>";
+    assert_rows_of_function(&rt, alloc, ShortCircuitAnd, rows);
 }
 
 #[test]

@@ -8,7 +8,6 @@ use crate::tests::made::made_vector;
 use crate::tests::rows::{parted, sample, stage, two_samples};
 use std::alloc::Global;
 use std::process::Abort;
-use wgsl_ops::{ScalarOperators, VecOperators};
 use wgsl_rules::BinaryOperator::{
     Addition, BitwiseAnd, BitwiseOr, BitwiseXor, Division, Equality, GreaterThan, GreaterThanEqual,
     Inequality, LessThan, LessThanEqual, Multiplication, Remainder, ShiftLeft, ShiftRight,
@@ -19,6 +18,7 @@ use wgsl_rules::UnaryOperator::{BitwiseComplement, LogicalNegation, Negation};
 use wgsl_rules::{BinaryOperator, ShaderStage, UnaryOperator};
 use wgsl_samples::operands::{Sample, i2};
 use wgsl_scalar::{Error, LiteralInstance};
+use wgsl_value_ops::{ScalarOperators, VecOperators};
 use wgsl_values::VecInstance;
 
 /// What the operator gives for the vector and the scalar.

@@ -9,9 +9,9 @@ use crate::tests::asserts::{assert_gives, assert_is, assert_made_or_memory, asse
 use crate::tests::samples::{mat2x3, two_columns, vector_of};
 use std::alloc::Global;
 use std::process::Abort;
-use wgsl_ops::Compwise;
 use wgsl_scalar::LiteralInstance::U32;
 use wgsl_scalar::{Error, LiteralInstance};
+use wgsl_value_ops::Compwise;
 use wgsl_values::MatInstance;
 
 /// Twice a u32.

@@ -7,9 +7,9 @@ ghost use Rattle.wgsl_scalar.specs.Literals.{literal_of};
 
 use crate::tests::asserts::assert_same;
 use crate::tests::samples::vector_of;
-use wgsl_ops::Compwise;
 use wgsl_scalar::LiteralInstance::U32;
 use wgsl_scalar::{Error, LiteralInstance};
+use wgsl_value_ops::Compwise;
 
 /// Twice an u32 other than 3.
 fn doubled(literal: &LiteralInstance) -> Result<LiteralInstance, Error>
