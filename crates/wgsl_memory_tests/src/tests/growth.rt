@@ -22,4 +22,3 @@ mod buffers;
 mod layouts;
 mod references;
 mod samples;
-mod sessions;

@@ -1,9 +1,5 @@
 //! Sessions: what each call is answered, alone and in lists.
 
-ghost use Rattle.std.specs.Prelude.{map};
-ghost use Rattle.wgsl_session.specs.Calls.{AreSoundCalls, IsSoundCall};
-ghost use Rattle.wgsl_session.specs.View.{call_of};
-
 use crate::tests::asserts::{assert_is, assert_same};
 use crate::tests::fixtures::{pair_value, text, vector_of};
 use crate::tests::scripts::{Scene, assert_scripts, scene_with, shown, told};
@@ -17,26 +13,8 @@ use wgsl_scalar::{BuiltinReason, Error};
 use wgsl_session::{Call, Fault, Reply, Session};
 use wgsl_values::{Instance, PtrInstance, RefInstance};
 
-/// The call, which a session takes.
-pub(super) fn sound(rt: &impl Abort, call: Call) -> Call
-    ensures { IsSoundCall (call_of result) }
-{
-    assert!(rt; call.is_sound());
-    call
-}
-
-/// Puts the call behind the others.
-#[tactic(auto, using(crate::proofs::SoundCalls::sound_pushed))]
-pub(super) fn add_call(rt: &impl Abort, calls: &mut Vec<Call>, call: Call)
-    requires { AreSoundCalls (map call_of calls.old.items) }
-    ensures { AreSoundCalls (map call_of calls.new.items) }
-{
-    let call = sound(rt, call);
-    calls.push(call).expect(rt, "memory");
-}
-
 /// The answer of a call, whose condition is tested first.
-pub(super) fn call(rt: &impl Abort, session: &mut Session, call: Call) -> Result<Reply, Fault> {
+fn call(rt: &impl Abort, session: &mut Session, call: Call) -> Result<Reply, Fault> {
     assert!(rt; call.is_sound());
     session.call(call)
 }

@@ -1,9 +1,10 @@
 //! What the types of the table, and the bytes and handles of the plain memory, are as types, values and references.
 
-use crate::tests::fixtures::text;
 use crate::tests::plain_memory::memory::{Content, Memory, Step, number_of, range};
 use crate::tests::plain_memory::shapes::{Kind, Member, Place, Shape, Shapes, Sort};
-use crate::tests::samples::{array_from, atomic_from, matrix_from, structure_from, vector_from};
+use crate::tests::samples::{
+    array_from, atomic_from, matrix_from, structure_from, text, vector_from,
+};
 use std::alloc::Global;
 use std::process::Abort;
 use wgsl_rules::{StructMemberType, StructType, Type};

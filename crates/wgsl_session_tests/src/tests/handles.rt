@@ -1,8 +1,8 @@
 //! Sessions with many handles: a thousand of one matrix, written in turn, and a chain of a hundred references.
 
 use crate::tests::asserts::assert_same;
-use crate::tests::calls;
-use crate::tests::fixtures::vector;
+use crate::tests::samples::vector;
+use crate::tests::sessions;
 use crate::tests::sessions::call;
 use std::alloc::Global;
 use std::fmt::Write;
@@ -210,7 +210,7 @@ fn content_of(
     let ty = reference.target_ty().clone(alloc).expect(rt, "memory");
     let space = reference.space();
     let open = RefInstance::from_parts(reference.cell(), view, ty, space, ReadWrite);
-    let content = calls::read(rt, alloc, session.store(), &open);
+    let content = sessions::read(rt, alloc, session.store(), &open);
     drop(open);
     content.expect(rt, "a value")
 }

@@ -6,7 +6,7 @@ ghost use Rattle.wgsl_session.specs.Calls.{AreSoundCalls};
 ghost use Rattle.wgsl_session.specs.View.{call_of};
 
 use crate::tests::asserts::assert_is;
-use crate::tests::growth::samples::pair_of;
+use crate::tests::samples::pair_with;
 use crate::tests::sessions::add_call;
 use std::alloc::Global;
 use std::process::Abort;
@@ -15,6 +15,11 @@ use wgsl_rules::AddressSpace::Storage;
 use wgsl_scalar::Error;
 use wgsl_session::{Call, Fault, Reply, Session};
 use wgsl_values::Instance;
+
+/// Pair(a, vec3(2u, 3u, 4u))
+fn pair_of(rt: &impl Abort, alloc: Global, a: u32) -> Instance {
+    Instance::from(answer_of!(rt; pair_with(rt, alloc, a)))
+}
 
 /// The name of the member.
 fn name(rt: &impl Abort, alloc: Global) -> String {

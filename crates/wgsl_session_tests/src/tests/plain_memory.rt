@@ -22,7 +22,7 @@ use crate::tests::plain_memory::memory::{Content, Memory};
 use crate::tests::plain_memory::numbers::Numbers;
 use crate::tests::plain_memory::shapes::Shapes;
 use crate::tests::samples::storable;
-use crate::tests::{calls as on_stores, sessions};
+use crate::tests::sessions;
 use std::alloc::Global;
 use std::process::Abort;
 use wgsl_rules::AccessMode::ReadWrite;
@@ -106,7 +106,7 @@ impl Both {
     fn cell(&self, rt: &impl Abort, alloc: Global, cell: usize, content: &Content) -> Instance {
         let ty = self.plain.shapes.ty(rt, alloc, content.shape);
         let open = RefInstance::from_parts(cell, MemView::Whole, ty, Storage, ReadWrite);
-        let value = on_stores::read(rt, alloc, self.session.store(), &open);
+        let value = sessions::read(rt, alloc, self.session.store(), &open);
         drop(open);
         value.expect(rt, "a value")
     }
