@@ -1,3 +1,4 @@
+pub mod Arguments
 pub mod AtomicLoads
 pub mod AtomicRows
 pub mod Atoms

@@ -1,13 +1,11 @@
 //! Layouts: where the parts of values stand in bytes of the caller's, and what is read and written there.
 
-use crate::tests::asserts::assert_same;
 use crate::tests::fixtures::text;
 use crate::tests::scripts::{Scene, assert_scripts, shown, told_if_some};
 use crate::tests::words::{Words, bytes, view, words_of};
 use std::mem;
 use std::process::Abort;
 use std::sync::Arc;
-use wgsl_rules::Type;
 use wgsl_store::Layout;
 
 impl Scene {
