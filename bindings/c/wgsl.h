@@ -113,8 +113,8 @@ enum wgsl_format {
 };
 
 /* `defines`, of many calls: what a host gives overrides, a line `NAME=VALUE` for each, or no line. NAME is that of an
- * override or the number of its `@id`, VALUE a constant expression that is an integer or a truth value. A value of floats
- * is not used, since there are no floats. Blank lines count for nothing. */
+ * override or the number of its `@id`, VALUE a constant expression that is an integer or a truth value and of which nothing
+ * is warned. A value of floats is not used, since there are no floats. Blank lines count for nothing. */
 
 /* ---- Layouts ---- */
 
@@ -144,9 +144,10 @@ wgsl_answer wgsl_eval_text(
  * `vec2(3i, 3i)`; and the bytes of its value as a buffer has them, with padding of zeros.
  *
  * Where the module has faults and the expression a value, the status is WGSL_FAULT and the answer is there. Where the
- * expression itself is faulty or is none, the status is WGSL_FAULT and the answer is empty, which none of these is
- * otherwise. `number` counts the faults of both. WGSL_REFUSED where the expression is sound and has no value, or no
- * bytes. The module may be empty.
+ * expression itself is faulty or is none, or a comment that is open at the module's end takes it in, the status is
+ * WGSL_FAULT and the answer is empty, which none of these is otherwise. `number` counts the faults of both, or of the
+ * expression alone where it is none. WGSL_REFUSED where the expression is sound and has no value, or no bytes. The module
+ * may be empty.
  * Misuse: 1 module, 2 expression, 3 defines, 4 stage, 5 flags. */
 wgsl_answer wgsl_expression_type(
     const char *module, size_t module_length,
@@ -190,7 +191,8 @@ enum wgsl_code {
     WGSL_CODE_KEYWORD = 12,
     WGSL_CODE_RESERVED_WORD = 13,
     WGSL_CODE_NO_IDENTIFIER = 14,
-    /* Of its types and values; of what the standard refuses and the library answers; of what has no layout here. */
+    /* Of its types and values; of what the standard refuses and the library answers; of what is left out. With WGSL_STRICT
+     * the last two are faults, and have the first code. */
     WGSL_CODE_EVALUATION = 15,
     WGSL_CODE_AGAINST_STANDARD = 16,
     WGSL_CODE_LEFT_OUT = 17,
@@ -375,7 +377,8 @@ wgsl_number wgsl_size_with(const wgsl_node *records, size_t count, uint32_t numb
 wgsl_number wgsl_count_in(const wgsl_node *records, size_t count, uint32_t number, uint64_t length);
 
 /* Where two tables differ first: the numbers of the two records, and the field: WGSL_SAME where they differ nowhere. Names are
- * not compared. */
+ * not compared. `child` is told only where no other field of any record differs, and WGSL_DIFFERENT_RECORD only where no
+ * `child` does either. */
 typedef struct wgsl_difference {
     uint32_t of_first;
     uint32_t of_second;
@@ -405,8 +408,9 @@ wgsl_difference wgsl_first_difference(
 /* ---- Scripts ---- */
 
 /* Runs a script of calls on a shader's memory, which begins empty and ends with the call: what `wgsl_run` prints on
- * standard output, a line for each line of the script that has a word. A line that is refused is answered so, and one for
- * which memory is wanting too; the status is WGSL_OK all the same. WGSL_REFUSED (WGSL_SCRIPT_TOO_LONG) where the script is too long. It may be any bytes. */
+ * standard output, a line for each line of the script that has a word. A line that is refused is answered so, and one whose
+ * call wants memory too; the status is WGSL_OK all the same. Where memory is wanting outside of a call it is WGSL_MEMORY.
+ * WGSL_REFUSED (WGSL_SCRIPT_TOO_LONG) where the script is too long. It may be any bytes. */
 wgsl_answer wgsl_script(const char *script, size_t script_length, char *out, size_t room);
 
 /* ---- The library ---- */

@@ -45,8 +45,9 @@ pub fn zero_literal(ty: &Type) -> Option<LiteralInstance>
 }
 
 /// The zero value of a type; `None` where it has none: of atomics, pointers, references, floats,
-/// textures, samplers and runtime-sized arrays, and of what has such a part. It calls itself for each
-/// level of the type: keep to 4,095 within a stack of 8 MiB.
+/// textures, samplers, runtime-sized arrays, arrays of no elements, vectors and matrices that have not two
+/// to four, and of what has such a part. It calls itself for each level of the type: keep to 4,095 within
+/// a stack of 8 MiB.
 #[cycle(zeros)]
 pub fn zero(alloc: Global, ty: &Type) -> Result<Option<Instance>, AllocError>
     ensures value { IfOk result (λ o. option_map value_of o ≡ zero_of (type_view ty.now)) }

@@ -48,8 +48,8 @@ pub enum ItemKind {
     Value(Instance),
     /// A variable whose type has values in memory.
     Variable(Variable),
-    /// A function, an `override`, a float, a texture, and whatever else has no such type and no such
-    /// value; why, and where.
+    /// A function, an `override` that has no value here, a float, a texture, and whatever else has no such
+    /// type and no such value; why, and where.
     Skipped(Skip),
     /// What has a fault, or names what has one.
     Faulty,

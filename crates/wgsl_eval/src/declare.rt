@@ -56,7 +56,8 @@ impl Evaluator<'_> {
         self.tell_all(others)
     }
 
-    // The faults of the members of a structure that has none of a type, but for the one that its meaning is.
+    // The faults of the members of a structure that has none of a type, but for the first where its meaning is a fault: it
+    // is that one, unless the structure is faulty by a name that two members have.
     fn faults_beside(&mut self, number: usize, meaning: &Answer) -> Result<Vec<Message>, AllocError>
         requires { AreAnswers self.old.meanings.items }
         ensures keeps { setting_of self.new ≡ setting_of self.old }

@@ -92,8 +92,9 @@ pub fn evaluate_in(
 }
 
 /// The same with values that a host gives overrides: one has its value in each stage, `Const` too, and what names it is
-/// evaluated. What is given converts to the type that the override declares, or else to that of its own value; a fault at
-/// the override's name says where it does not. What is given for another name counts for nothing: ask `is_override`.
+/// evaluated; but one of floats is skipped, and one that declares no type and whose own value is none stays what that is
+/// found to be. What is given converts to the type that the override declares, or else to that of its own value; a fault
+/// at the override's name says where it does not. What is given for another name counts for nothing: ask `is_override`.
 pub fn evaluate_with(
     alloc: Global,
     reading: &Reading<'_>,

@@ -120,9 +120,10 @@ impl Builtin {
         }
     }
 
-    /// What the function answers to the values in the stage. Where they are not as many as it takes, it is
-    /// refused by `Builtin`; what is not well-formed is answered with `Memory`. It calls itself for
-    /// each level of the values: keep to 4,095 within a stack of 8 MiB.
+    /// What the function answers to the values in the stage. Where they are not as many as it takes, and of
+    /// `Float` and `NotConstant` in any case, it is refused by `Builtin`; else what is not well-formed is
+    /// answered with `Memory`. It calls itself for each level of the values: keep to 4,095 within a stack of
+    /// 8 MiB.
     pub fn answer(
         self,
         alloc: Global,

@@ -105,10 +105,11 @@ impl Parameter {
 
 impl Builtin {
     /// The values of a call as the parameters of the function take them, or the first that is none of the type
-    /// that its parameter takes it as. In WGSL a parameter that is an `i32` or a `u32`, or a vector of them,
-    /// takes abstract integers as `i32`, and one that is an `i32` or a `u32` alone takes them as that; of the first two
-    /// values of `insertBits` an abstract one beside a concrete one stays, since the function converts it. In the
-    /// Rust crate's dialect, and where none is abstract, all values stay as they are, and no memory is taken.
+    /// that its parameter takes it as. In WGSL a parameter that may be an `i32` or a `u32`, or a vector of either,
+    /// takes abstract integers as `i32`, and one of one type alone (`u32`, `vec4<i32>`, `vec4<u32>`) takes them as
+    /// that; of the first two values of `insertBits` an abstract one beside a concrete one stays, since the function
+    /// converts it. In the Rust crate's dialect, and where none is abstract, all values stay as they are, and no memory
+    /// is taken.
     /// Nothing is promised where one of them may not be stored.
     pub fn arguments(
         self,

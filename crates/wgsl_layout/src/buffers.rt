@@ -17,7 +17,7 @@ use wgsl_values::Instance;
 pub trait Buffers: Sized + Ty {
     /// The bytes of the value, as many as its layout has: each number little-endian at its place, an
     /// atomic as its content, every other byte 0 (WGSL: internal layout of values). A runtime-sized array
-    /// takes as many bytes as its elements and their strides.
+    /// takes the stride of its elements once for each of them, the last one too.
     ///
     /// `None` exactly where the type has no layout ([`Type::has_layout`]), and of a deferred value. The only
     /// error is `Memory`. The condition: the value is well-formed.

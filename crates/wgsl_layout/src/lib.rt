@@ -1,5 +1,5 @@
 //! Layouts: where the parts of values stand in bytes, what is read and written there, and the bytes of values in
-//! host-shared memory (WGSL: internal layout of values; memory layouts).
+//! host-shared memory (WGSL: internal layout of values; memory layout).
 #![tactic(auto)]
 
 mod buffers;

@@ -68,7 +68,7 @@ impl Plan {
         })
     }
 
-    // The array that this is the plan of, which begins at `start`.
+    // The array or the matrix that this is the plan of, as an array that begins at `start`.
     fn row_tail(&self, start: u32) -> Option<Tail>
         ensures { result ≡ row_tail start (plan_view self.now) }
     {
@@ -106,7 +106,7 @@ fn clone_places(alloc: Global, places: &Vec<Place>) -> Result<Vec<Place>, AllocE
     Ok(copies)
 }
 
-// The last of the members, where that is an array.
+// The last of the members, where that is an array or a matrix.
 fn last_tail(places: &[Place]) -> Option<Tail>
     ensures { result ≡ last_tail None (places_view places.now) }
 {

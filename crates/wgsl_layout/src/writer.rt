@@ -54,7 +54,7 @@ pub(crate) fn write_whole(
     Ok(out)
 }
 
-/// The elements of the runtime-sized array that the value is or ends in.
+/// How many elements the runtime-sized array has that the value is or ends in; 0 where there is none.
 pub(crate) fn runtime_count(value: &Instance) -> usize
     ensures { result ≡ runtime_count (value_of value.now) }
 {
@@ -69,7 +69,7 @@ pub(crate) fn runtime_count(value: &Instance) -> usize
     }
 }
 
-// The elements of a runtime-sized array; no other value has any.
+// How many elements a runtime-sized array has; 0 of any other value.
 fn elements(value: &Instance) -> usize
     ensures { result ≡ elements (value_of value.now) }
 {

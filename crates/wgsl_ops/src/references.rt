@@ -35,15 +35,17 @@ pub trait InstanceOperators: Sized + Ty {
         ensures storable { IfOk result (λ v. IsStorable (Self.value_of v)) };
 
     /// The pointer to what a reference names, which is kept in the store, as [`Store::holds`] tests (WGSL:
-    /// address-of expression). Refusals in order: `PtrHandle` in the handle address space, `PtrVecComp`
-    /// where it names a component of a vector. Read access is not needed.
+    /// address-of expression). Refusals in order: `Unary` for a value that is no reference, `PtrHandle` in
+    /// the handle address space, `PtrVecComp` where it names a component of a vector. Read access is not
+    /// needed.
     fn op_ref(&self, alloc: Global, store: &Store) -> Result<Self, Error>
         requires well_formed { IsWellFormed (Self.value_of self.now) }
         requires kept { KeepsReference store.now (Self.value_of self.now) }
         ensures value { Gives Self.value_of result (address_of store.now (Self.value_of self.now)) }
         ensures storable { IfOk result (λ v. IsStorable (Self.value_of v)) };
 
-    /// The reference that a pointer holds (WGSL: indirection expression).
+    /// The reference that a pointer holds (WGSL: indirection expression). Refused by `Unary`: a value that is
+    /// no pointer.
     fn op_deref(&self, alloc: Global) -> Result<Self, Error>
         requires { IsWellFormed (Self.value_of self.now) }
         ensures value { Gives Self.value_of result (indirection (Self.value_of self.now)) }

@@ -67,7 +67,7 @@ impl Places {
     /// no bytes, as [`Store::bytes_of`] tells, or where the view leads nowhere. Access is not asked, and no memory is
     /// taken. It stays the place of a part, whatever is written. The conditions: the reference is kept, as
     /// [`Store::holds`] tests, and is of the type of these places, as [`Places::are_of`] tests.
-    /// It calls itself for each level of the type and each step of a view: keep to 4,095 within a stack of 8 MiB.
+    /// It calls itself for each step of the view: keep to 4,095 within a stack of 8 MiB.
     pub fn place_in(&self, store: &Store, reference: &RefInstance, view: &MemView) -> Option<Place>
         requires kept { IsKept store.now (reference_of reference.now) }
         requires typed { (reference_of reference.now).ty ≡ self.now }
@@ -81,7 +81,6 @@ impl Places {
     /// The number that stands there in what the reference names, where it is a scalar or an atomic; `None` where it is
     /// neither, where the reference may not read, and in a cell that is no bytes. No memory is taken. The condition: the
     /// reference is kept, as [`Store::holds`] tests.
-    /// It calls itself for each step of the reference's view: keep to 4,095 within a stack of 8 MiB.
     pub fn load_in(
         &self,
         store: &Store,
@@ -102,7 +101,6 @@ impl Places {
     /// is taken. Each reference that was kept is kept, and the place of a part of what any of these names is the place of
     /// it still. The conditions: the reference is kept, as [`Store::holds`] tests, and the place is that of a part of what
     /// it names, as [`Places::place_in`] and [`Places::part`] make them.
-    /// It calls itself for each step of the reference's view: keep to 4,095 within a stack of 8 MiB.
     pub fn store_in(
         &self,
         store: &mut Store,
@@ -132,7 +130,6 @@ impl Places {
     /// The components of the vector that stands there in what the reference names; `None` where no vector does, where
     /// the reference may not read, and in a cell that is no bytes. No memory is taken. The condition: the reference is
     /// kept, as [`Store::holds`] tests.
-    /// It calls itself for each step of the reference's view: keep to 4,095 within a stack of 8 MiB.
     pub fn load_vec_in(
         &self,
         store: &Store,
@@ -154,7 +151,6 @@ impl Places {
     /// is taken. Each reference that was kept is kept, and the place of a part of what any of these names is the place of
     /// it still. The conditions: the reference is kept, as [`Store::holds`] tests, and the place is that of a part of what
     /// it names, as [`Places::place_in`] and [`Places::part`] make them.
-    /// It calls itself for each step of the reference's view: keep to 4,095 within a stack of 8 MiB.
     pub fn store_vec_in(
         &self,
         store: &mut Store,

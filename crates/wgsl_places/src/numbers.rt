@@ -29,7 +29,7 @@ pub(crate) fn load_number(bytes: &[u8], at: usize, kind: u32) -> Option<LiteralI
     }
 }
 
-/// Puts a number there, where it is of the kind, and says whether it did.
+/// Puts a number there, where it is of the kind and lies in the bytes, and says whether it did.
 pub(crate) fn store_number(bytes: &mut [u8], at: usize, kind: u32, number: LiteralInstance) -> bool
     ensures answer { result ≡ is_some (stored_kind bytes.old at kind (literal_of number)) }
     ensures bytes { bytes.new ≡ unwrap_or (stored_kind bytes.old at kind (literal_of number)) bytes.old }

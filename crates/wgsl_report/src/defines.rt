@@ -41,7 +41,8 @@ pub fn define_of(word: &str) -> Option<Define<'_>> {
     Some(Define { name, value })
 }
 
-/// The values that are given, or the first that is no integer and no truth value.
+/// The values that are given, or the first that is no integer, no float and no truth value, or of which a fault or a
+/// warning is told.
 ///
 /// The outer error is that memory is wanting.
 pub fn values_given<'a>(

@@ -99,7 +99,7 @@ fn expression_in(
     )
 }
 
-/// The values of the constants of a module, a line each, and what is told of it.
+/// The values of the constants of a module, as JSON or a line for each that has no fault, and what is told of it.
 pub fn values_of(
     alloc: Global,
     file: &str,
@@ -310,7 +310,7 @@ fn report_in_scope(
 /// What an expression is found to be in the scope of a module.
 #[derive(Drop)]
 pub struct Found {
-    /// Nothing where the text is no expression.
+    /// Nothing where the text is no expression, or the module leaves none of it, as by a comment that is open at its end.
     pub outcome: Option<Outcome>,
     /// How many faults the module and the expression have; those of the expression alone where that is none.
     pub faults: usize,

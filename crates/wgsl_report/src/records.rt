@@ -21,7 +21,7 @@ use wgsl_source::{Declared, Extent, Reading};
 pub struct Records {
     /// The records; the names of members stand in the text of the module. `None` where there are none.
     pub nodes: Option<Vec<Node>>,
-    /// The faults of the module, and of the type.
+    /// The faults of the module, and of the type; 1 where the text is none by its form.
     pub faults: usize,
     /// Whether the type is faulty, or none that there is.
     pub is_faulty: bool,

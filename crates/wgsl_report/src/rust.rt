@@ -12,7 +12,7 @@ use crate::table::add_runtime;
 use std::alloc::{AllocError, Global};
 use wgsl_rules::{StructType, Type};
 
-/// The words of Rust that WGSL lets a name be, which stand behind `r#`.
+/// The words of Rust that may stand behind `r#`; of these WGSL lets a name be `box`, `dyn`, `gen` and `in`.
 const KEYWORDS: [&str; 32] = [
     "abstract", "as", "async", "await", "become", "box", "dyn", "enum", "extern", "final", "gen",
     "impl", "in", "macro", "match", "mod", "move", "mut", "priv", "pub", "ref", "static", "trait",

@@ -1,4 +1,5 @@
-//! The texts of answers: the value's own, or the case of the refusal with what it holds. And what tests ask of refusals.
+//! The texts of answers: the value's own, or the case of the refusal with what it holds, but for a builtin's reason; some
+//! refusals are told by their number alone. And what tests ask of refusals.
 
 ghost use Rattle.wgsl_rules.specs.Values.{IsWellFormed};
 ghost use Rattle.wgsl_values.specs.View.{value_of};

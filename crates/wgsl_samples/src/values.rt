@@ -40,7 +40,7 @@ pub fn member_then_index(alloc: Global) -> Result<MemView, AllocError> {
     Ok(MemView::Member(name, index))
 }
 
-/// The steps of a view into cell 0: the member of the name, where it is not empty, and then the indices.
+/// The steps of a view: the member of the name, where it is not empty, and then the indices.
 pub fn view(alloc: Global, name: &str, indices: &[usize]) -> Result<MemView, AllocError> {
     let mut view = MemView::Whole;
     if !name.is_empty() {

@@ -11,7 +11,7 @@ use std::alloc::AllocError;
 pub enum RunFault {
     /// A read failed or was interrupted; nothing was run.
     Read,
-    /// A write failed, was interrupted or took nothing; no later line was run.
+    /// A write failed, was interrupted or took nothing; no line behind that write was run.
     Write,
     /// The script has more than 1,048,576 bytes; nothing was run.
     TooLong,

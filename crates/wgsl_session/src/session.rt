@@ -93,7 +93,7 @@ impl Session {
     /// each within [`Fault::Of`]. Want of memory is `Memory` there. After any of these no cell and no
     /// handle has changed, and none is new. A [`Call::Write`] that is accepted takes no memory, nor does a
     /// [`Call::Copy`] that is accepted and whose handles both name parts of cells of bytes, as
-    /// [`Store::read_bytes`] tells: neither is ever answered with `Memory`.
+    /// [`Store::bytes_of`] tells: neither is ever answered with `Memory`.
     /// It calls itself for each level of a value or type: keep to 4,095 within a stack of 8 MiB, and to 2,047 steps of a
     /// handle that is written through.
     pub fn call(&mut self, call: Call) -> Result<Reply, Fault>
@@ -156,8 +156,8 @@ impl Session {
         self.new_sharing(ty, None, bytes, space, access)
     }
 
-    /// As [`Session::new_from_bytes`]; where the layout is that of the type, the cell shares it with all that have it, and
-    /// takes no memory for one of its own. Any other layout is passed over.
+    /// As [`Session::new_from_bytes`]; where the layout is that of the type, and one more owner of it can be counted, the
+    /// cell shares it with all that have it, and takes no memory for one of its own. Else the layout is passed over.
     /// It calls itself for each level of the type: keep to 4,095 within a stack of 8 MiB.
     pub fn new_sharing(
         &mut self,
@@ -179,7 +179,7 @@ impl Session {
     /// Makes the call [`Call::Write`] with the value that the bytes lay out in the type of what the handle names, as
     /// [`wgsl_store::Buffers::from_buffer`] reads it, and answers its reply; `None`, and nothing is changed, where they
     /// lay out none. `NoHandle` comes first, and then that there is no value; the other refusals are those of the call.
-    /// Where the handle names a part of a cell of bytes, as [`Store::read_bytes`] tells, the numbers are copied, and no
+    /// Where the handle names a part of a cell of bytes, as [`Store::bytes_of`] tells, the numbers are copied, and no
     /// value is made of them: then a write that is accepted takes no memory, and is never answered with `Memory`.
     /// It calls itself for each level of a value or type, and for each step of a handle: keep to 2,047 within a stack of
     /// 8 MiB.

@@ -93,7 +93,7 @@ impl Cell {
     }
 
     /// A cell that holds the value of the type that the bytes lay out, as bytes; `None` where they lay out none. The
-    /// layout is shared where it is that of the type.
+    /// layout is shared where it is that of the type and one more owner of it can be counted.
     pub(crate) fn of_bytes(
         alloc: Global,
         ty: &Type,

@@ -41,8 +41,8 @@ impl Store {
         self.new_sharing(alloc, ty, None, bytes, space, access)
     }
 
-    /// As [`Store::new_from_bytes`]; where the layout is that of the type, the cell shares it with all that have it, and
-    /// takes no memory for one of its own. Any other layout is passed over.
+    /// As [`Store::new_from_bytes`]; where the layout is that of the type, and one more owner of it can be counted, the
+    /// cell shares it with all that have it, and takes no memory for one of its own. Else the layout is passed over.
     /// It calls itself for each level of the type: keep to 4,095 within a stack of 8 MiB.
     pub fn new_sharing(
         &mut self,
@@ -70,7 +70,7 @@ impl Store {
     /// it, to what the reference names, and says whether they lay out one: where they lay out none, nothing is changed,
     /// and no other refusal is asked. Refusals in order: `NotWrite` without write access, `WriteRefType` where the value
     /// has other paths than what stands there, as a runtime-sized array of another length has. Where the reference names
-    /// a part of a cell of bytes, as [`Store::read_bytes`] tells, the numbers are copied, and no value is made of them:
+    /// a part of a cell of bytes, as [`Store::bytes_of`] tells, the numbers are copied, and no value is made of them:
     /// then a write that is accepted takes no memory, and is never answered with `Memory`. The condition: the reference
     /// is kept, as [`Store::holds`] tests.
     /// It calls itself for each level of a value or type, and for each step of its view: keep to 2,047 within a stack of

@@ -134,8 +134,8 @@ pub trait References: Sized {
     /// part. Refused as [`References::read`] of this one, then as
     /// [`References::write`] to the other.
     ///
-    /// Where both stand in cells of bytes, as [`Store::read_bytes`] tells, the bytes are copied in place: it takes no
-    /// memory, and one that is accepted is never answered with `Memory`. Else the value is read and written.
+    /// Where both stand in cells of bytes, as [`Store::bytes_of`] tells, the bytes are copied in place: a copy that is
+    /// accepted takes no memory, and is never answered with `Memory`. Else the value is read and written.
     /// It calls itself for each level of a value or type, and for each step of its view: keep to 2,047 within a stack of
     /// 8 MiB.
     fn copy_to(&self, alloc: Global, store: &mut Store, target: &Self) -> Result<(), Error>

@@ -206,7 +206,6 @@ impl Store {
     /// that a read gives ([`crate::Buffers::to_buffer`]), with the padding inside it; `None` in a cell that is no
     /// bytes, since the type of its whole value has no layout. Refused with `NotRead` without read access. No memory
     /// is taken. The condition: the reference is kept, as [`Store::holds`] tests.
-    /// It calls itself for each level of a value or type: keep to 4,095 within a stack of 8 MiB.
     pub fn read_bytes(&self, reference: &RefInstance) -> Result<Option<&[u8]>, Error>
         requires { IsKept self.now (reference_of reference.now) }
         ensures { Answers (option_map (λ b. b.now)) result (read_bytes self.now (reference_of reference.now)) }
@@ -219,7 +218,6 @@ impl Store {
 
     /// The bytes that [`Store::read_bytes`] lends; read access is not asked. `None` in a cell that is no bytes. No
     /// memory is taken. The condition: the reference is kept, as [`Store::holds`] tests.
-    /// It calls itself for each level of a value or type: keep to 4,095 within a stack of 8 MiB.
     pub fn bytes_of(&self, reference: &RefInstance) -> Option<&[u8]>
         requires { IsKept self.now (reference_of reference.now) }
         ensures bytes { IsOkAnd (held self.now (reference_of reference.now)) (λ x. option_map (λ b. b.now) result ≡ held_bytes self.now (reference_of reference.now) x) }
@@ -232,7 +230,6 @@ impl Store {
     /// The bytes of its cell from the part on that the reference names, lent: they begin with those that
     /// [`Store::read_bytes`] lends, and the length of the part is not found. `None` in a cell that is no bytes. Read
     /// access is not asked, and no memory is taken. The condition: the reference is kept, as [`Store::holds`] tests.
-    /// It calls itself for each step of the view: keep to 4,095 within a stack of 8 MiB.
     pub fn bytes_from(&self, reference: &RefInstance) -> Option<&[u8]>
         requires { IsKept self.now (reference_of reference.now) }
         ensures bytes { IsOkAnd (held self.now (reference_of reference.now)) (λ x. AreFrom (in_bytes self.now (reference_of reference.now)) x (option_map (λ b. b.now) result)) }
@@ -246,7 +243,6 @@ impl Store {
     /// the part that the reference names, and says whether it did: whether the cell is bytes, as [`Store::bytes_from`]
     /// tells. Else nothing is changed. No memory is taken. The conditions: the reference is kept, as [`Store::holds`]
     /// tests, and may write, and in what it names a scalar or an atomic of numbers of the kind begins there.
-    /// It calls itself for each step of the view: keep to 4,095 within a stack of 8 MiB.
     pub fn put_number(
         &mut self,
         reference: &RefInstance,
@@ -316,8 +312,8 @@ impl Store {
     }
 
     /// Makes a last cell of bytes that holds the value of the type that the bytes lay out, and says whether they lay
-    /// out one; where they lay out none, nothing is changed. The layout is shared where it is that of the type. The
-    /// condition: the store is sound, as [`Store::len`] tells of each.
+    /// out one; where they lay out none, nothing is changed. The layout is shared where it is that of the type and one
+    /// more owner of it can be counted. The condition: the store is sound, as [`Store::len`] tells of each.
     pub(crate) fn add_bytes(
         &mut self,
         alloc: Global,

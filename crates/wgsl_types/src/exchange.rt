@@ -110,7 +110,8 @@ fn exchange_if_equal(
 /// the atomic holds, or `Builtin` where it is deferred, `NotReadWrite` without write access, equal or not. After any
 /// error the store is as before. The conditions: the store keeps the reference of the pointer, and the comparand and
 /// the new value are well-formed.
-/// It calls itself for each level of a value or type: keep to 4,095 within a stack of 8 MiB.
+/// It calls itself for each level of a value or type: keep to 4,095 within a stack of 8 MiB, and to 2,047 steps of the
+/// view of the pointer's reference.
 pub fn atomicCompareExchangeWeak(
     alloc: Global,
     store: &mut Store,

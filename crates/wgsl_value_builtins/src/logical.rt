@@ -233,8 +233,8 @@ fn copied_by(alloc: Global, cond: &Instance, f: &Instance, t: &Instance) -> Resu
 
 /// Of two values in their common type the second where the condition is true, else the first; by component
 /// where the condition is a vector of bools, and the values are vectors of its count. Refused by `Builtin`:
-/// values without a common type, deferred values, and other conditions (WGSL: logical builtin functions,
-/// `select`). The condition: all are well-formed.
+/// values that have no common type or do not convert to it, deferred values, and other conditions (WGSL:
+/// logical builtin functions, `select`). The condition: all are well-formed.
 /// It calls itself for each level of a value or type: keep to 4,095 within a stack of 8 MiB.
 pub fn select(alloc: Global, f: &Instance, t: &Instance, cond: &Instance) -> Result<Instance, Error>
     requires first { IsWellFormed (value_of f.now) }

@@ -281,7 +281,7 @@ pub fn dot(alloc: Global, a: &Instance, b: &Instance, stage: ShaderStage) -> Res
 }
 
 /// The matrix with the rows of a matrix for columns: component j of column i of the answer is component
-/// i of column j of the argument. Another value is refused by `Builtin` (WGSL: matrix builtin functions,
+/// i of column j of the argument. Another value is refused by `Builtin` (WGSL: numeric builtin functions,
 /// `transpose`). The condition: the value is well-formed.
 pub fn transpose(alloc: Global, e: &Instance) -> Result<Instance, Error>
     requires { IsWellFormed (value_of e.now) }

@@ -15,7 +15,8 @@ use wgsl_scalar::Error;
 use wgsl_values::Instance;
 
 /// Whether one of two bools is true (WGSL: logical expressions, `||`). Other values are refused by `Binary` with their
-/// types. A refusal takes memory, and calls itself for each level of a type: keep to 4,095 within a stack of 8 MiB.
+/// types. A refusal takes memory, but for that of two literals, and calls itself for each level of a type: keep to 4,095
+/// within a stack of 8 MiB.
 pub fn logical_or(alloc: Global, left: &Instance, right: &Instance) -> Result<Instance, Error>
     requires left { IsWellFormed (value_of left.now) }
     requires right { IsWellFormed (value_of right.now) }
@@ -32,7 +33,8 @@ pub fn logical_or(alloc: Global, left: &Instance, right: &Instance) -> Result<In
 }
 
 /// Whether both of two bools are true (WGSL: logical expressions, `&&`). Other values are refused by `Binary` with their
-/// types. A refusal takes memory, and calls itself for each level of a type: keep to 4,095 within a stack of 8 MiB.
+/// types. A refusal takes memory, but for that of two literals, and calls itself for each level of a type: keep to 4,095
+/// within a stack of 8 MiB.
 pub fn logical_and(alloc: Global, left: &Instance, right: &Instance) -> Result<Instance, Error>
     requires left { IsWellFormed (value_of left.now) }
     requires right { IsWellFormed (value_of right.now) }
