@@ -369,7 +369,8 @@ bool wgsl_store(uint8_t *bytes, size_t length, wgsl_place place, uint64_t bits);
 bool wgsl_load_vector(const uint8_t *bytes, size_t length, wgsl_place place, uint64_t *numbers, size_t count);
 bool wgsl_store_vector(uint8_t *bytes, size_t length, wgsl_place place, const uint64_t *numbers, size_t count);
 
-/* How many bytes a value of the record's type takes with so many elements in its runtime-sized array. */
+/* How many bytes a value of the record's type takes with so many elements in its runtime-sized array, up to the end of the
+ * last: a structure that ends in one is not filled up to its alignment. */
 wgsl_number wgsl_size_with(const wgsl_node *records, size_t count, uint32_t number, uint64_t elements);
 
 /* How many elements that array has in so many bytes, as many as find room; 0 where there is no such array. It is not there

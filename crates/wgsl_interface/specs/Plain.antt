@@ -79,7 +79,7 @@ abbrev mutual
   are_plain no_fields = true
   are_plain (field name t s a fs) = (may_stand_before fs t && is_plain t) && are_plain fs
 
--- no abstract number is inside (WGSL: abstract types)
+-- no abstract number is inside (WGSL: abstract numeric types)
 abbrev mutual
   pub is_concrete : Ty → Bool
   is_concrete abstract_int = false

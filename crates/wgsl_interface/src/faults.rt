@@ -101,13 +101,13 @@ fn type_faults(alloc: Global, asked: Asked, ty: &Type) -> Result<Vec<ShareFault>
     Ok(walk.faults)
 }
 
-/// What a structure breaks where it is declared, whatever variables are of it: each member with its
-/// rules, in their order, and no more than 100. What is inside the structures that its members have is
-/// told of these: where they are storable, there are none exactly where this one
+/// What a structure breaks where it is declared, whatever variables are of it: that it has no member, or
+/// each member with its rules, in their order, and no more than 100. What is inside the structures that its
+/// members have is told of these: where they are storable, there are none exactly where this one
 /// [is](crate::is_storable).
 ///
 /// Memory alone is refused.
-/// It calls itself for each level of the members' types: keep to 4,095 within a stack of 8 MiB.
+/// It calls itself for each array around what a member holds: keep to 4,095 within a stack of 8 MiB.
 pub fn struct_faults(alloc: Global, ty: &StructType) -> Result<Vec<ShareFault>, AllocError>
     ensures each { IfOk result (λ faults. faults_view faults.items ≡ first_100 (declaration_faults (struct_view ty.now))) }
     ensures none { IfOk result (λ faults. IsTrue (has_storable_structures (struct_view ty.now)) → (faults.items ≡ []) ↔ IsTrue (is_storable (struct_view ty.now))) }

@@ -31,7 +31,7 @@ pub enum ShareRule {
     RuntimeSpace,
     /// An atomic is in storage and workgroup variables alone (WGSL: atomic types).
     AtomicSpace,
-    /// An atomic is in a storage variable that is given the access mode read_write (WGSL: atomic types).
+    /// A storage variable with an atomic inside is given the access mode read_write (WGSL: atomic types).
     AtomicAccess,
     /// A variable of the handle address space is a texture or a sampler (WGSL: address spaces).
     NotHandle,

@@ -22,7 +22,8 @@ use crate::nature::nature_of;
 use wgsl_rules::{AccessMode, AddressSpace, Type};
 
 /// Whether the type is a scalar, an atomic or a composite of such types, as WGSL has it: a runtime-sized
-/// array stands last in a structure, and there alone (WGSL: plain types). Abstract numbers are plain.
+/// array is the type itself, or stands last in a structure that is (WGSL: plain types). Abstract numbers are
+/// plain.
 /// It calls itself for each level of the type: keep to 4,095 within a stack of 8 MiB.
 pub fn is_plain(ty: &Type) -> bool
     ensures { result ≡ is_plain (type_view ty.now) }
@@ -30,7 +31,7 @@ pub fn is_plain(ty: &Type) -> bool
     nature_of(ty).is_plain
 }
 
-/// Whether no abstract number is inside (WGSL: abstract types).
+/// Whether no abstract number is inside (WGSL: abstract numeric types).
 /// It calls itself for each level of the type: keep to 4,095 within a stack of 8 MiB.
 pub fn is_concrete(ty: &Type) -> bool
     ensures { result ≡ is_concrete (type_view ty.now) }
@@ -68,8 +69,8 @@ pub fn is_storable(ty: &Type) -> bool
     nature.is_concrete && nature.is_plain || is_handle(ty)
 }
 
-/// Whether values of the type are made, loaded and passed on: no atomic and no runtime-sized array is
-/// inside (WGSL: constructible types). Abstract numbers are constructible.
+/// Whether values of the type are made, loaded and passed on: it is plain, and no atomic and no runtime-sized
+/// array is inside (WGSL: constructible types). Abstract numbers are constructible.
 /// It calls itself for each level of the type: keep to 4,095 within a stack of 8 MiB.
 pub fn is_constructible(ty: &Type) -> bool
     ensures { result ≡ is_constructible (type_view ty.now) }

@@ -1,5 +1,5 @@
--- How many bytes values take, and how many elements find room, by a record (WGSL: minimum buffer binding size; buffer
--- binding determines runtime-sized array element count).
+-- How many bytes values take, and how many elements find room, by a record (WGSL: structure member layout; buffer binding
+-- determines runtime-sized array element count).
 use Rattle.std.specs.Prelude.{ℕ, ◌+◌, ◌*◌, ◌-◌, ◌/◌, ◌^◌, Option, Some, None, nat_lt, nat_le, ◌==◌, if◌then◌else◌}
 use Rattle.wgsl_rules.specs.Layout.{at_least_one}
 use Rattle.wgsl_nodes.specs.declared.nodes.Node.{Node}

@@ -89,7 +89,7 @@ is_sound_at nodes number = is_sound_if nodes number (slice_get nodes number)
 abbrev pub children_counted : Node → ℕ
 children_counted r = if r.sort == 4 then r.count else (if r.sort == 0 then 0 else 1)
 
--- each record of a table is so, each but the root is the child of one, and the root stands at the start
+-- each record of a table is so, they count as many children as there are behind the root, and that stands at the start
 pub record IsTable (nodes : List Node) : Type 0 where
   pub root : IsSomeAnd (slice_get nodes 0) (λ r. r.offset ≡ 0)
   pub children : sum_by children_counted nodes + 1 ≡ length nodes

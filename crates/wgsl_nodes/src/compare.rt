@@ -35,7 +35,8 @@ impl Difference {
 /// but for names.
 ///
 /// In tables of [`crate::nodes_of`] the records before the first difference stand for the same parts of both types. The
-/// numbers of children tell a difference only where nothing else does.
+/// numbers of children tell a difference only where no other field does, and that one has more records only where these
+/// tell none either.
 pub fn first_difference(a: &[Node], b: &[Node]) -> Option<Difference>
     ensures answer { length a.now < 2 ^ 32 → length b.now < 2 ^ 32 → MatchOption result (AreSame a.now b.now) (IsFirstDifference a.now b.now) }
     ensures on_tables { result ≡ None → length a.now < 2 ^ 32 → length b.now < 2 ^ 32 → (number : ℕ) (t : Ty) → IsNodeOf a.now number t → IsNodeOf b.now number t }

@@ -1,5 +1,5 @@
-//! How many bytes values take, and how many elements find room (WGSL: minimum buffer binding size; buffer binding
-//! determines runtime-sized array element count).
+//! How many bytes values take, and how many elements find room (WGSL: structure member layout; buffer binding determines
+//! runtime-sized array element count).
 
 ghost use Rattle.std.specs.Prelude.{◌≡◌, ◌^◌, ◌≤◌, IsTrue, MatchOption, option_and_then, slice_get};
 ghost use Rattle.wgsl_rules.specs.Layout.{count_in as elements_in, layout_len};
@@ -11,8 +11,9 @@ ghost use Rattle.wgsl_nodes.specs.Nodes.{IsNodeOf};
 use crate::nodes::Node;
 
 /// How many bytes a value of the record's type takes, with so many elements in the runtime-sized array that it is or ends
-/// in, which are not looked at where there is none. `None` where there is no such record, and where the bytes are 2^64 or
-/// more.
+/// in, up to the end of the last: a structure that ends in one is not filled up to its alignment, as
+/// [`Type::size_with`](wgsl_rules::Type::size_with) fills it up. The elements are not looked at where there is no such
+/// array. `None` where there is no such record, and where the bytes are 2^64 or more.
 pub fn size_with(nodes: &[Node], number: u32, count: u64) -> Option<u64>
     ensures answer { result ≡ option_and_then (length_of_node count) (slice_get nodes.now number) }
     ensures on_table { (t : Ty) → IsNodeOf nodes.now number t → MatchOption result (2 ^ 64 ≤ layout_len count t) (λ n. n ≡ layout_len count t) }

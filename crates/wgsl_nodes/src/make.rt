@@ -66,7 +66,8 @@ use std::alloc::{AllocError, Global};
 use wgsl_rules::{StructMemberType, StructType, Type};
 
 /// The table of the type; `None` where it has none: where it has a number of another kind than [`Node::kind`] tells, is
-/// not host-shareable, or a size, an alignment or an offset in it is not known.
+/// not host-shareable, has an attribute of a member that is not valid, or a size, an alignment or an offset in it is not
+/// known, but for the size of a runtime-sized array that it is or ends in.
 ///
 /// Equal types have equal tables, record for record. Memory alone is refused, for a table of 2^32 records or more too.
 /// It calls itself for each level of the type: keep to 4,095 within a stack of 8 MiB.

@@ -49,7 +49,7 @@ pub fn whole(nodes: &[Node]) -> Option<Place>
 
 /// The place of the part of the position in what stands there: a component, column, element or member, in a value of
 /// `len` bytes, which tell how many elements a runtime-sized array has. `None` beyond the last part, of what has no
-/// parts, and where the offset passes 2^64.
+/// parts, where a record is not there, and where the offset is 2^64 or more.
 pub fn part(nodes: &[Node], place: Place, index: u64, len: u64) -> Option<Place>
     ensures answer { result ≡ part_of nodes.now place index len }
     ensures on_table { (t : Ty) → length nodes.now < 2 ^ 32 → IsNodeOf nodes.now place.node t → IsPartAt nodes.now place.offset (part_in (len - place.offset) index t) result }

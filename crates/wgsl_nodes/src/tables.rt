@@ -45,9 +45,10 @@ use crate::nodes::Node;
 use crate::numbers::{is_width, width_of};
 use crate::paths::members_of;
 
-/// Whether the records are a table, of whatever type: each child stands behind its parent and is there, and each record's
-/// size, alignment, distances and runtime-sized array agree with its kind or with its children, whose members follow each
-/// other aligned, without overlapping, inside the size. Names are not looked at.
+/// Whether the records are a table, of whatever type: the first is there and begins at 0; the records count as many
+/// children as stand behind it; each child stands behind its parent and is there; and each record's size, alignment,
+/// distances and runtime-sized array agree with its kind or with its children. Members follow each other aligned, without
+/// overlapping, inside the size, and a runtime-sized array begins where that ends. Names are not looked at.
 pub fn is_table(nodes: &[Node]) -> bool
     ensures { IsTrue result ↔ IsTable nodes.now }
 {
@@ -63,7 +64,7 @@ fn has_root(nodes: &[Node]) -> bool
     }
 }
 
-// Whether each record but the root is the child of one, by their counts: so each is looked at once as a child.
+// Whether the records count as many children as stand behind the root: so no more than these are looked at as children.
 fn are_children_counted(nodes: &[Node]) -> bool
     ensures { IsTrue result ↔ (sum_by children_counted nodes.now + 1 ≡ length nodes.now) }
 {
