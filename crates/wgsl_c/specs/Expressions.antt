@@ -1,4 +1,4 @@
--- What is handed out of an expression: of a well-formed value, or nothing where it has a fault.
+-- What is handed out of an expression: of a well-formed value, or nothing.
 use Rattle.std.specs.Prelude.{ℕ, List, [], ◌≡◌, ◌⊎◌, Some}
 use Rattle.wgsl_rules.specs.Text.{type_text}
 use Rattle.wgsl_rules.specs.Values.{Val, type_of, IsWellFormed}

@@ -13,7 +13,7 @@ severity_number severities.Fault = 1
 severity_number severities.Warning = 2
 severity_number severities.Note = 3
 
--- columns are from 1, and its severity and its code are of those that there are
+-- the column in characters is from 1, and the severity and the code are of those that there are
 pub record IsFault (fault : Fault) : Type 0 where
   pub column_from_one : 1 ≤ fault.column
   pub severe : (1 ≤ fault.severity) × (fault.severity ≤ 3)

@@ -17,7 +17,7 @@ use Rattle.wgsl_c.specs.declared.nodes.TheConstants.{NOWHERE}
 abbrev pub IsTableOf : List ℕ → List ℕ → ℕ → ℕ → List Node → Type 0
 IsTableOf source text stage flags nodes = (settings : Settings) × AreSettings stage flags settings × ((t : Ty) × IsTypeOf source text settings t × IsLayoutOf t nodes)
 
--- the same, or none where the type has a fault
+-- the same, or none
 abbrev pub AreRecords : List ℕ → List ℕ → ℕ → ℕ → List Node → Type 0
 AreRecords source text stage flags nodes = (nodes ≡ []) ⊎ IsTableOf source text stage flags nodes
 
@@ -36,7 +36,8 @@ abbrev pub difference_or_none : Option Difference → Difference
 difference_or_none None = record { of_first = 0; of_second = 0; what = 0 }
 difference_or_none (Some d) = record d { what = d.what + 1 }
 
--- what is found for a part in what begins at the offset: its place, or nowhere where there is none or it is past 2 ^ 64
+-- what is found for a part in what begins at the offset: its place, or nowhere where there is none or where it begins at
+-- 2 ^ 64 or behind
 abbrev pub IsFoundAt : List Node → ℕ → Option Part → Place → Type 0
 IsFoundAt nodes offset part place = (found : Option Place) × IsPartAt nodes offset part found × (place ≡ place_or_nowhere found)
 

@@ -52,8 +52,8 @@ evaluated_at s number = record { token = name_at s.source number; outcome = outc
 abbrev pub values_of : Setting → ℕ → List Declared → List Evaluated
 values_of s = told_from (has_value_among s.source s.given s.stage) (evaluated_at s)
 
--- the settings behind the declarations, each of which has its meaning in the order of the source, and behind the
--- assertions; the values are those of the declarations, and all faults that were found are told
+-- the settings behind the declarations, which have their meanings one after the other, as `order` has them, and behind the
+-- assertions; the values are those of the declarations, and all faults that were found are told, up to 100
 pub record IsEvaluatedWith (o : Outline) (given : List Given) (settings : Settings) (e : Evaluation) : Type 0 where
   pub after : Setting
   pub declared : AreDeclared (setting_with o given settings) o.order after
@@ -92,8 +92,8 @@ IsItemAt s number item = IsItem s.source (meaning_at s.meanings number) number i
 abbrev pub AreItems : Setting → List Item → Type 0
 AreItems s items = (length items ≡ length s.source.declared) × AllFrom (IsItemAt s) 0 items
 
--- these are the declarations, each of which has its meaning in the order of the source, and all faults that were found
--- are told
+-- these are the declarations, which have their meanings one after the other, as `order` has them, and all faults that
+-- were found are told, up to 100
 pub record AreDeclarationsWith (o : Outline) (given : List Given) (settings : Settings) (d : Declarations) : Type 0 where
   pub after : Setting
   pub declared : AreDeclared (setting_with o given settings) o.order after

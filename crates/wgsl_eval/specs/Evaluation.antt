@@ -9,7 +9,7 @@ use Rattle.wgsl_eval.specs.Lists.{told_from}
 use Rattle.wgsl_eval.specs.Overrides.{given_for}
 use Rattle.wgsl_eval.specs.declared.given.Given.{Given}
 
--- whether a declaration has a value: an override has one where a host has given it
+-- whether a declaration has a value in a stage: a constant in each, an override in all but the first
 abbrev pub has_value : ShaderStage → Declared → Bool
 has_value stage (declareds.Const ty value) = true
 has_value stages.Const (declareds.Override ty value) = false

@@ -131,7 +131,7 @@ abbrev pub HasOwnFault : Setting → List Message → ℕ → Type 0
 HasOwnFault start messages number = (m : Message) × IsOwnFault start number m × IsToldAmong messages m
 
 -- why a declaration is faulty, where those are of which P holds: one before it has its name; it has a fault of its own; or
--- one of its expressions names what is faulty before it, or has a fault of its form
+-- one of its expressions names what is faulty, or has no meaning before it, or has a fault of its form
 abbrev pub IsExplained : Setting → (ℕ → Type 0) → List Message → ℕ → Type 0
 IsExplained start P messages number =
     IsSecond start.source number
@@ -153,7 +153,8 @@ IsAssertionExplained after messages span =
 
 -- ---- sources with no such fault
 
--- no two declarations have one name, and no expression has a fault of its form, or names what has no meaning before
+-- no two declarations have one name, and no expression of theirs has a fault of its form, or names what has no meaning
+-- before
 abbrev pub IsFaultless : Outline → Type 0
 IsFaultless o = (number : ℕ) → number < length o.declared
     → ¬ IsSecond o number × ¬ Any (IsBlamed o (λ k. ¬ Contains (before_in o number) k)) (spans_of o (slice_get o.declared number))

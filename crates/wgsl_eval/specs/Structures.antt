@@ -32,7 +32,7 @@ use Rattle.wgsl_eval.specs.declared.structure.FoundMember.{FoundMember}
 use Rattle.wgsl_eval.specs.declared.structure.FoundMember.TheVariants as founds
 use Rattle.wgsl_eval.specs.declared.variable.Variable.{Variable}
 
--- no value and no type
+-- no value, no type, no `bitcast` and no variable
 abbrev pub IsNone : Answer → Type 0
 IsNone (answers.Value v) = ⊥
 IsNone (answers.Type t) = ⊥

@@ -81,7 +81,7 @@ abbrev pub in_type : Option Ty → Val → Outcome Val
 in_type (Some t) v = ok_or (conv_overflow v t) (converted v t)
 in_type None v = Ok v
 
--- abstract integers are converted, and every other value is taken as it is
+-- abstract integers are converted where the parameter has a type for them, and every other value is taken as it is
 abbrev pub taken_as : Parameter → Val → Outcome Val
 taken_as p v = if is_of_abstract v then in_type (type_for p v) v else Ok v
 

@@ -9,7 +9,7 @@ use Rattle.wgsl_rules.specs.Types.{Ty}
 use Rattle.wgsl_rules.specs.Values.{Val, truth, number}
 use Rattle.wgsl_scalar.specs.Order.{bit_of}
 
--- not false, and not the number 0
+-- true, or a number other than 0
 abbrev pub is_true : Val → Bool
 is_true (truth b) = b
 is_true (number k z) = not (int_eq z (pos 0))

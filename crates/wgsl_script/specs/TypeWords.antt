@@ -51,7 +51,7 @@ IsIn32Bits scalars.U32 = Unit {0}
 IsIn32Bits scalars.I64 = ⊥
 IsIn32Bits scalars.U64 = ⊥
 
--- whether the language has the type
+-- whether a script has the type: all but atomics of 64 bits
 abbrev pub IsPlain : Plain → Type 0
 IsPlain (plains.Scalar s) = Unit {0}
 IsPlain (plains.Of templates.Atomic s) = IsIn32Bits s
@@ -76,7 +76,7 @@ abbrev pub plain_type : Plain → Ty
 plain_type (plains.Scalar s) = scalar_type s
 plain_type (plains.Of t s) = template_type t (scalar_type s)
 
--- arrays of these counts, the outermost first, of a type; no count is a runtime-sized array's
+-- arrays of these counts, the outermost first, of a type; an array without a count is runtime-sized
 abbrev pub arrays_type : List (Option ℕ) → Ty → Ty
 arrays_type [] t = t
 arrays_type (n ∷ counts) t = array (arrays_type counts t) n

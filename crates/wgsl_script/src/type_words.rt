@@ -104,8 +104,8 @@ pub(crate) fn is_nested_little(word: &str) -> bool {
     word.bytes().filter(|byte| *byte == b'<').count() <= NESTED
 }
 
-/// Of the word of an array, the word of its elements and its count; no count is a runtime-sized
-/// array's.
+/// Of the word of an array, the word of its elements and its count; an array without a count is
+/// runtime-sized.
 pub(crate) fn array_parts(word: &str) -> Option<(&str, Option<&str>)>
     ensures { IfSome result (λ parts. length parts.0.now < length word.now) }
 {

@@ -16,12 +16,12 @@ DecodingFindsWhatIsHeld = (cells : List Cell) → Holds cells (found cells)
 
 -- ---- values and bytes
 
--- each step of the memory of values is a step of the memory of bytes that it stands for
+-- in a good memory of values, each step of a sound call is a step of the memory of bytes that it stands for
 abbrev pub ValuesAndBytesAreInStep : Type 0
 ValuesAndBytesAreInStep = (before after : State Val) (call : Call) (answer : Option Answer) → IsGood before → IsSoundCall call → IsStep before call after answer
     → IsFlatStep (flat_of before) call (flat_of after) answer
 
--- and so for every list of calls, after which the memory is good again
+-- and so for every list of sound calls, after which the memory is good again
 abbrev pub RunsAreInStep : Type 0
 RunsAreInStep = (before after : State Val) (calls : List Call) (answers : List (Option Answer)) → IsGood before → AreSoundCalls calls → IsRun before calls after answers
     → IsFlatRun (flat_of before) calls (flat_of after) answers × IsGood after
